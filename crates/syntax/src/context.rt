@@ -1,0 +1,197 @@
+// context.rs: typing contexts, up to 64 bindings in an order.
+use crate::names::Identifier;
+use crate::names::Name;
+use crate::names::VarId;
+use crate::sets::IdSet;
+use crate::types::Ty;
+ghost use mathlib.Core.Path.{_≡_};
+ghost use mathlib.Core.List.{_∷_, [], _++_};
+ghost use Prim.Native.Nat.{_≤_, _<_, _^_};
+ghost use Rattle.syntax.specs.Types.{sameChirality};
+ghost use Rattle.syntax.specs.Context.{sameBinding, sameContext, emptyBinding};
+ghost use Rattle.syntax.specs.Filter.{filterBySet};
+ghost use Rattle.syntax.specs.Fresh.{freshen};
+ghost use Rattle.syntax.specs.Arrays.{setOf, contextOf, Holds, Freshens};
+
+pub enum Chirality {
+    Prd,
+    Cns,
+    Ext,
+}
+
+pub struct ContextBinding {
+    pub var: Identifier,
+    pub chi: Chirality,
+    pub ty: Ty,
+}
+
+pub struct TypingContext {
+    pub bindings: [ContextBinding; TypingContext::MAX],
+    pub len: usize,
+}
+
+// A renamed context, and the max_id after it.
+pub struct Freshened {
+    pub context: TypingContext,
+    pub max_id: VarId,
+}
+
+impl Chirality {
+    pub fn same(self, other: Chirality) -> bool
+        ensures { λ r. ⌜ r ≡ sameChirality self other ⌝ }
+    {
+        match self {
+            Chirality::Prd => match other {
+                Chirality::Prd => true,
+                Chirality::Cns => false,
+                Chirality::Ext => false,
+            },
+            Chirality::Cns => match other {
+                Chirality::Prd => false,
+                Chirality::Cns => true,
+                Chirality::Ext => false,
+            },
+            Chirality::Ext => match other {
+                Chirality::Prd => false,
+                Chirality::Cns => false,
+                Chirality::Ext => true,
+            },
+        }
+    }
+}
+
+impl ContextBinding {
+    // What stands in the unused places of an array.
+    pub fn empty() -> Self
+        ensures { λ r. ⌜ r ≡ emptyBinding ⌝ }
+    {
+        ContextBinding {
+            var: Identifier {
+                name: Name(0),
+                id: VarId(0),
+            },
+            chi: Chirality::Prd,
+            ty: Ty::I64,
+        }
+    }
+
+    pub fn same(self, other: ContextBinding) -> bool
+        ensures { λ r. ⌜ r ≡ sameBinding self other ⌝ }
+    {
+        let chi = self.chi;
+        let ty = self.ty;
+        let other_chi = other.chi;
+        let other_ty = other.ty;
+        if self.var.same(other.var) {
+            if chi.same(other_chi) {
+                ty.same(other_ty)
+            } else {
+                false
+            }
+        } else {
+            false
+        }
+    }
+}
+
+impl TypingContext {
+    // How many bindings can be in scope.
+    pub const MAX: usize = 64;
+
+    pub fn empty() -> Self
+        ensures { λ r. ⌜ Holds r [] ⌝ }
+    {
+        let none = ContextBinding::empty();
+        TypingContext {
+            bindings: [none; TypingContext::MAX],
+            len: 0,
+        }
+    }
+
+    pub fn push(self, b: ContextBinding) -> Self
+        requires { ⌜ self .len < 64 ⌝ }
+        ensures { λ r. ⌜ Holds r (contextOf self ++ (b ∷ [])) ⌝ }
+    {
+        let at = self.len;
+        let mut next = self;
+        next.bindings[at] = b;
+        next.len = at + 1;
+        next
+    }
+
+    pub fn same(self, other: TypingContext) -> bool
+        requires { ⌜ (self .len ≤ 64) × (other .len ≤ 64) ⌝ }
+        ensures { λ r. ⌜ r ≡ sameContext (contextOf self) (contextOf other) ⌝ }
+    {
+        let n = self.len;
+        if n == other.len {
+            let mut i = 0;
+            while i < n {
+                let a = self.bindings[i];
+                let b = other.bindings[i];
+                if a.same(b) {
+                    i += 1;
+                } else {
+                    return false;
+                }
+            }
+            true
+        } else {
+            false
+        }
+    }
+
+    // Keeps the bindings whose variables are in the set. One that goes gives its place to the last, which is looked at next.
+    pub fn filter_by_set(self, set: IdSet) -> Self
+        requires { ⌜ (self .len ≤ 64) × (set .len ≤ 128) ⌝ }
+        ensures { λ r. ⌜ Holds r (filterBySet (setOf set) (contextOf self)) ⌝ }
+    {
+        let mut out = self;
+        let mut n = self.len;
+        let mut i = 0;
+        while i < n {
+            let b = out.bindings[i];
+            let id = b.var.id;
+            if set.contains(id) {
+                i += 1;
+            } else {
+                n -= 1;
+                let last = out.bindings[n];
+                out.bindings[i] = last;
+            }
+        }
+        out.len = n;
+        out
+    }
+
+    // Draws an ID for each binding whose own is among the clashes or came earlier.
+    pub fn freshen(self, clashes: IdSet, max_id: VarId) -> Freshened
+        requires { ⌜ (self .len ≤ 64) × ((clashes .len ≤ 64) × ((freshen (contextOf self) (setOf clashes) («max_id» .0)) .1 < 2 ^ 32)) ⌝ }
+        ensures { λ r. ⌜ Freshens r (freshen (contextOf self) (setOf clashes) («max_id» .0)) ⌝ }
+    {
+        let n = self.len;
+        let mut out = self;
+        let mut seen = clashes;
+        let mut max = max_id;
+        let mut i = 0;
+        while i < n {
+            let b = out.bindings[i];
+            let id = b.var.id;
+            if seen.contains(id) {
+                let var = Identifier::fresh(max, b.var.name);
+                max = var.id;
+                let chi = b.chi;
+                let ty = b.ty;
+                out.bindings[i] = ContextBinding { var, chi, ty };
+                i += 1;
+            } else {
+                seen = seen.add(id);
+                i += 1;
+            }
+        }
+        Freshened {
+            context: out,
+            max_id: max,
+        }
+    }
+}
