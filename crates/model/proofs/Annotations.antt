@@ -14,7 +14,7 @@ use Rattle.syntax.proofs.Members.{number-eq, same?}
 use Rattle.model.specs.FreeVars.{insert, ascending}
 
 -- every member is above x
-abbrev Above : VarId → List VarId → Type 0
+abbrev pub Above : VarId → List VarId → Type 0
 Above x s = (y : VarId) → y ∈ s → x .0 < y .0
 
 abbrev pub Ascending : List VarId → Type 0

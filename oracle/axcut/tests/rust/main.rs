@@ -1,0 +1,5 @@
+//! The unchanged Rust on small statements.
+
+mod build;
+mod rows;
+mod surprises;

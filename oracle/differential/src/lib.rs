@@ -1,0 +1,14 @@
+//! The library against the oracle: number, length, max_id and every byte of every buffer, on the same
+//! cases.
+
+mod compare;
+mod fault;
+mod guarded;
+mod run;
+mod stack;
+pub mod subject;
+
+pub use compare::Mismatch;
+pub use fault::watch_for_faults;
+pub use run::{Report, run};
+pub use stack::calls_with_stack;
