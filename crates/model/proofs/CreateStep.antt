@@ -27,7 +27,8 @@ use Rattle.model.specs.Linear.{linearStep, linearWork, inOrder}
 use Rattle.model.proofs.Scoping.{Scoped}
 use Rattle.model.proofs.Alist.{firsts-zip, length-zip, got-length}
 use Rattle.model.proofs.Grows.{linearizeClauses-grows}
-use Rattle.model.proofs.Invariant.{Fits, AtClauses, SameCells, renameIds-in, fits-distinct, later, selects-filter, selects-behind, part-values, part-good, narrow, behind}
+use Rattle.model.proofs.Good.{selects-filter, selects-behind}
+use Rattle.model.proofs.Invariant.{Fits, AtClauses, SameCells, renameIds-in, fits-distinct, later, part-values, part-good, narrow, behind}
 use Rattle.model.proofs.Simulation.{lastOf-at, beforeLast-at, arrive₂, Matches, Simulates, consumes, appended-distinct}
 use Rattle.model.proofs.Rearrange.{Drawn, freshenUnless-draws, before-distinct}
 use Rattle.model.proofs.Renames.{renamed-fits}

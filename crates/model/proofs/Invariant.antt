@@ -1,43 +1,28 @@
 -- The invariant between a state of the source machine and one of the linear machine, and how it is kept:
 -- when the context is narrowed, when variables are added, when max_id grows. Assumes nothing.
-use mathlib.Core.Path.{_≡_, refl, sym, _∙_, ap, ap₂, subst}
-use mathlib.Core.Logic.{_⊎_, inl, inr}
+use mathlib.Core.Path.{_≡_, refl, sym, _∙_, ap, ap₂}
+use mathlib.Core.Logic.{inl, inr}
 use mathlib.Core.Bool.{Bool, true, false, cond}
 use mathlib.Core.List.{List, [], _∷_, _++_, map-append}
 use mathlib.Core.Option.{Option, none, some}
-use Prim.Native.Nat.{ℕ, _≤_, _<_}
-use native.Mathlib.Omega.{arith}
-use lib.ListN.{length, take, drop, take-append-drop}
+use Prim.Native.Nat.{ℕ, _≤_}
+use lib.ListN.{length}
 use Rattle.syntax.specs.Context.{Context, idOf, ids}
-use Rattle.syntax.specs.Sets.{elem, _∈_, Distinct, distinct, without}
-use Rattle.syntax.specs.Filter.{filterBySet}
+use Rattle.syntax.specs.Sets.{elem, _∈_, distinct, without}
 use Rattle.syntax.specs.declared.names.VarId.{VarId}
 use Rattle.syntax.specs.declared.names.Identifier.{Identifier}
 use Rattle.syntax.proofs.Bools.{Answers}
-use Rattle.syntax.proofs.Members.{elem?, distinct-true, ∈-left, ∈-right, ∈-split, Distinct-++, ∈-without}
-use Rattle.syntax.proofs.Filters.{ids-++, perm-in, perm-distinct, filter-in, in-filter, filter-keeps-distinct}
-use Rattle.syntax.proofs.Permutations.{Perm, perm-sym, perm-swap}
+use Rattle.syntax.proofs.Members.{elem?, distinct-true, ∈-without}
+use Rattle.syntax.proofs.Filters.{ids-++}
 use Rattle.model.specs.Syntax.{Stmt, Clauses}
 use Rattle.model.specs.Lists.{lookup, zip}
 use Rattle.model.specs.FreeVars.{freeVars, freeVarsClauses}
 use Rattle.model.specs.Renaming.{Renaming, rename, renameId, renameIds, renameContext, orSelf, orSelfId}
-use Rattle.model.specs.Rules.{moveBehind}
 use Rattle.model.specs.Pass.{linearizeStmt, linearizeClauses}
 use Rattle.model.specs.Machine.{Value, Entries, keys, Cell, xtor, closure, Cells, State, at, ended}
+use Rattle.model.proofs.Good.{Good, good-later, Selects, good-part, new-unmoved, new-clash, good-behind, good-before}
 use Rattle.model.proofs.Scoping.{Binds, _⊆_, Scoped, ScopedClauses}
 use Rattle.model.proofs.Alist.{firsts, lookup-left, lookup-right, lookup-in, in-lookup, Got, got-in, got-length, got-zip, firsts-zip}
-
--- an ID that may stand in a context: in scope, or drawn, that is above the program's max_id M
-abbrev pub Known : ℕ → List VarId → VarId → Type 0
-Known M Δ x = (x ∈ Δ) ⊎ (M < x .0)
-
--- with Δ in scope, the context Γ and the renaming ρ are as the pass keeps them at max_id m
-pub record Good (M : ℕ) (Δ : List VarId) (ρ : Renaming) (Γ : Context) (m : ℕ) : Type 0 where
-  pub once : Distinct (ids Γ)
-  pub known : (x : VarId) → x ∈ ids Γ → Known M Δ x
-  pub upTo : (x : VarId) → x ∈ ids Γ → x .0 ≤ m
-  pub above : M ≤ m
-  pub moved : (x : VarId) → (ρ x ≡ none) ⊎ Known M Δ x
 
 -- a free variable has one value in the environment and, under what it is renamed to, in the list
 abbrev pub Agrees : List VarId → Renaming → Entries → Entries → Type 0
@@ -121,7 +106,7 @@ module _ {M : ℕ} {fv Δ : List VarId} {ρ : Renaming} {Γ : Context} {m : ℕ}
   fits-distinct = rw (f .ordered) (distinct-true (ids Γ) (f .good .once))
 
   pub later : {m′ : ℕ} → m ≤ m′ → Fits M fv Δ ρ Γ m′ ε l
-  later {m′} h = record { good = record { once = f .good .once; known = f .good .known; upTo = λ x k. omega (arith, f .good .upTo x k); above = omega (arith, f .good .above); moved = f .good .moved }; ordered = f .ordered; agrees = f .agrees }
+  later {m′} h = record { good = good-later h (f .good); ordered = f .ordered; agrees = f .agrees }
 
   pub fewer : {fv′ : List VarId} → fv′ ⊆ fv → Fits M fv′ Δ ρ Γ m ε l
   fewer {fv′} h = record { good = f .good; ordered = f .ordered; agrees = λ x k. f .agrees x (h x k) }
@@ -145,33 +130,13 @@ module _ {M : ℕ} {fv Δ : List VarId} {ρ : Renaming} {Γ : Context} {m : ℕ}
 
 -- ── a part of the context ──
 
--- N holds what Γ has in the set Z, and nothing else that Γ has not
-pub record Selects (Z : List VarId) (Γ N : Context) : Type 0 where
-  pub once : Distinct (ids Γ) → Distinct (ids N)
-  pub only : (x : VarId) → x ∈ ids N → x ∈ ids Γ
-  pub all : (x : VarId) → x ∈ ids Γ → x ∈ Z → x ∈ ids N
-
-pub selects-filter : (Z : List VarId) (Γ : Context) → Selects Z Γ (filterBySet Z Γ)
-selects-filter Z Γ = record { once = filter-keeps-distinct Z Γ; only = filter-in Z Γ; all = in-filter Z Γ }
-
-pub move-perm : (j : ℕ) (Γ : Context) → Perm Γ (moveBehind j Γ)
-unfolding moveBehind
-move-perm j Γ = subst (λ (r : Context). Perm r (moveBehind j Γ)) (take-append-drop j Γ) (perm-swap (take j Γ) (drop j Γ))
-
-pub selects-behind : (Z : List VarId) (j : ℕ) (Γ : Context) → Selects Z Γ (filterBySet Z (moveBehind j Γ))
-selects-behind Z j Γ = record {
-  once = λ d. filter-keeps-distinct Z (moveBehind j Γ) (perm-distinct (move-perm j Γ) d);
-  only = λ x h. perm-in (perm-sym (move-perm j Γ)) x (filter-in Z (moveBehind j Γ) x h);
-  all = λ x h k. in-filter Z (moveBehind j Γ) x (perm-in (move-perm j Γ) x h) k;
-}
-
 module _ {M : ℕ} {fv Δ : List VarId} {ρ : Renaming} {Γ : Context} {m : ℕ} {ε l : Entries} (f : Fits M fv Δ ρ Γ m ε l) {Z : List VarId} {N : Context} (s : Selects Z Γ N) where
   -- its values
   pub part-values : (vs : List Value) × Got (ids N) l vs
   part-values = got-in (ids N) l (λ x h. has-value f x (s .only x h))
 
   pub part-good : Good M Δ ρ N m
-  part-good = record { once = s .once (f .good .once); known = λ x h. f .good .known x (s .only x h); upTo = λ x h. f .good .upTo x (s .only x h); above = f .good .above; moved = f .good .moved }
+  part-good = good-part (f .good) s
 
   -- the list rebuilt for it fits, for free variables that are in the set
   pub narrow : {fv′ : List VarId} → fv′ ⊆ fv → ((x : VarId) → x ∈ fv′ → renameId ρ x ∈ Z) → (vs : List Value) → Got (ids N) l vs → Fits M fv′ Δ ρ N m ε (zip (ids N) vs)
@@ -185,42 +150,14 @@ module _ {M : ℕ} {fv Δ : List VarId} {ρ : Renaming} {Γ : Context} {m : ℕ}
 -- ── variables added ──
 
 module _ {M : ℕ} (fv : List VarId) {Δ : List VarId} {ρ : Renaming} {Γ : Context} {m : ℕ} {ε l : Entries} (ps : Context) (f : Fits M (without fv (ids ps)) Δ ρ Γ m ε l) (b : Binds M Δ (ids ps)) (vs : List Value) (count : length (ids ps) ≡ length vs) where
-  new-unknown : (x : VarId) → x ∈ ids ps → Known M Δ x → ⊥
-  new-unknown x h (inl k) = b .new x h k
-  new-unknown x h (inr k) = omega (arith, b .small x h)
-
-  still-known : (x : VarId) → Known M Δ x → Known M (ids ps ++ Δ) x
-  still-known x (inl k) = inl (∈-right x (ids ps) Δ k)
-  still-known x (inr k) = inr k
-
-  still-moved : (x : VarId) → (ρ x ≡ none) ⊎ Known M Δ x → (ρ x ≡ none) ⊎ Known M (ids ps ++ Δ) x
-  still-moved x (inl e) = inl e
-  still-moved x (inr k) = inr (still-known x k)
-
   unmoved : (x : VarId) → x ∈ ids ps → renameId ρ x ≡ x
-  unmoved x h = go (f .good .moved x)
-    where
-      go : (ρ x ≡ none) ⊎ Known M Δ x → renameId ρ x ≡ x
-      go (inl e) = rw e
-      go (inr k) = absurd (new-unknown x h k)
+  unmoved x h = rw (new-unmoved ps (f .good) b x h)
 
   pair-keys : firsts (zip (ids ps) vs) ≡ ids ps
   pair-keys = firsts-zip (ids ps) vs count
 
   clash : (x : VarId) → x ∈ ids Γ → x ∈ ids ps → ⊥
-  clash x h k = new-unknown x k (f .good .known x h)
-
-  joined-known : (x : VarId) → (x ∈ ids Γ) ⊎ (x ∈ ids ps) → Known M (ids ps ++ Δ) x
-  joined-known x (inl h) = still-known x (f .good .known x h)
-  joined-known x (inr h) = inl (∈-left x (ids ps) Δ h)
-
-  joined-upTo : (x : VarId) → (x ∈ ids Γ) ⊎ (x ∈ ids ps) → x .0 ≤ m
-  joined-upTo x (inl h) = f .good .upTo x h
-  joined-upTo x (inr h) = omega (arith, b .small x h, f .good .above)
-
-  swapped : (x : VarId) → (x ∈ ids ps) ⊎ (x ∈ ids Γ) → (x ∈ ids Γ) ⊎ (x ∈ ids ps)
-  swapped x (inl h) = inr h
-  swapped x (inr h) = inl h
+  clash x h k = new-clash ps (f .good) b x h k
 
   -- the values of a free variable: a new one, or one from before
   new-value : (x : VarId) → x ∈ ids ps → (v : Value) × (lookup x (zip (ids ps) vs) ≡ some v)
@@ -232,13 +169,7 @@ module _ {M : ℕ} (fv : List VarId) {Δ : List VarId} {ρ : Renaming} {Γ : Con
   -- behind the context
   pub behind : Fits M fv (ids ps ++ Δ) ρ (Γ ++ ps) m (zip (ids ps) vs ++ ε) (l ++ zip (ids ps) vs)
   behind = record {
-    good = record {
-      once = rw (ids-++ Γ ps) (Distinct-++ (ids Γ) (ids ps) (f .good .once) (b .once) clash);
-      known = λ x h. joined-known x (∈-split x (ids Γ) (ids ps) (rw (ids-++ Γ ps) at h));
-      upTo = λ x h. joined-upTo x (∈-split x (ids Γ) (ids ps) (rw (ids-++ Γ ps) at h));
-      above = f .good .above;
-      moved = λ x. still-moved x (f .good .moved x);
-    };
+    good = good-behind ps (f .good) b;
     ordered = map-append _ l (zip (ids ps) vs) ∙ ap₂ (λ (r q : List VarId). r ++ q) (f .ordered) pair-keys ∙ sym (ids-++ Γ ps);
     agrees = λ x h. agrees x (elem? x (ids ps)) h;
   }
@@ -254,13 +185,7 @@ module _ {M : ℕ} (fv : List VarId) {Δ : List VarId} {ρ : Renaming} {Γ : Con
   -- before the context
   pub before : Fits M fv (ids ps ++ Δ) ρ (ps ++ Γ) m (zip (ids ps) vs ++ ε) (zip (ids ps) vs ++ l)
   before = record {
-    good = record {
-      once = rw (ids-++ ps Γ) (Distinct-++ (ids ps) (ids Γ) (b .once) (f .good .once) (λ x h k. clash x k h));
-      known = λ x h. joined-known x (swapped x (∈-split x (ids ps) (ids Γ) (rw (ids-++ ps Γ) at h)));
-      upTo = λ x h. joined-upTo x (swapped x (∈-split x (ids ps) (ids Γ) (rw (ids-++ ps Γ) at h)));
-      above = f .good .above;
-      moved = λ x. still-moved x (f .good .moved x);
-    };
+    good = good-before ps (f .good) b;
     ordered = map-append _ (zip (ids ps) vs) l ∙ ap₂ (λ (r q : List VarId). r ++ q) pair-keys (f .ordered) ∙ sym (ids-++ ps Γ);
     agrees = λ x h. agrees x (elem? x (ids ps)) h;
   }

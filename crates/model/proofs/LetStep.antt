@@ -24,7 +24,8 @@ use Rattle.model.specs.Source.{sourceStep, sourceWork}
 use Rattle.model.specs.Linear.{linearStep, linearWork, inOrder}
 use Rattle.model.proofs.Scoping.{_⊆_, Scoped}
 use Rattle.model.proofs.Alist.{firsts-zip, length-zip, Got, got-lookups, got-length, values-zip}
-use Rattle.model.proofs.Invariant.{Fits, SameCells, renameIds-in, fits-distinct, later, args-got, args-upTo, selects-filter, part-values, part-good, narrow, behind}
+use Rattle.model.proofs.Good.{selects-filter}
+use Rattle.model.proofs.Invariant.{Fits, SameCells, renameIds-in, fits-distinct, later, args-got, args-upTo, part-values, part-good, narrow, behind}
 use Rattle.model.proofs.Simulation.{lastOf-at, beforeLast-at, arrive₂, Matches, Simulates, consumes, appended-distinct}
 use Rattle.model.proofs.Rearrange.{Drawn, freshenUnless-draws, after-distinct, counts}
 use Rattle.model.proofs.Cells.{same-count, one-more}

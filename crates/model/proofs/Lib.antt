@@ -2,6 +2,7 @@
 pub mod Alist
 pub mod Scoping
 pub mod Questions
+pub mod Good
 pub mod Invariant
 pub mod Simulation
 pub mod Grows

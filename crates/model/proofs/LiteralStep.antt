@@ -22,7 +22,8 @@ use Rattle.model.specs.Machine.{int, Entries, Cells, at}
 use Rattle.model.specs.Source.{sourceStep, sourceWork}
 use Rattle.model.specs.Linear.{linearStep, linearWork, inOrder}
 use Rattle.model.proofs.Scoping.{Scoped}
-use Rattle.model.proofs.Invariant.{Fits, SameCells, renameIds-in, fits-distinct, selects-filter, part-values, part-good, narrow, behind}
+use Rattle.model.proofs.Good.{selects-filter}
+use Rattle.model.proofs.Invariant.{Fits, SameCells, renameIds-in, fits-distinct, part-values, part-good, narrow, behind}
 use Rattle.model.proofs.Simulation.{Matches, Simulates, arrive, appended-distinct}
 
 module _ (P : Prog) {Δ : List VarId} {ρ : Renaming} {Γ : Context} {m : ℕ} {ε l : Entries} (K K′ : Cells) (cells : SameCells (P .maxId) K K′) where

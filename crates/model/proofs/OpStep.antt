@@ -25,7 +25,8 @@ use Rattle.model.specs.Source.{sourceStep, sourceWork}
 use Rattle.model.specs.Linear.{linearStep, linearWork, inOrder}
 use Rattle.model.specs.Integers.{evalOp}
 use Rattle.model.proofs.Scoping.{Scoped}
-use Rattle.model.proofs.Invariant.{Fits, SameCells, rename-id, renameIds-in, fits-distinct, fewer, selects-filter, part-values, part-good, narrow, behind}
+use Rattle.model.proofs.Good.{selects-filter}
+use Rattle.model.proofs.Invariant.{Fits, SameCells, rename-id, renameIds-in, fits-distinct, fewer, part-values, part-good, narrow, behind}
 use Rattle.model.proofs.Simulation.{Matches, Simulates, both-halt, arrive, got-present, renamed, appended-distinct}
 
 module _ (P : Prog) {Δ : List VarId} {ρ : Renaming} {Γ : Context} {m : ℕ} {ε l : Entries} (K K′ : Cells) (cells : SameCells (P .maxId) K K′) where

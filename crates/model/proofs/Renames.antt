@@ -20,7 +20,8 @@ use Rattle.model.specs.Lists.{lookup, zip}
 use Rattle.model.specs.Renaming.{Renaming, renameId, orSelfId, thenRename, _⨾_, renaming, renameUnless}
 use Rattle.model.specs.Machine.{Value, Entries}
 use Rattle.model.proofs.Alist.{firsts-zip, in-lookup, lookup-same, lookup-other}
-use Rattle.model.proofs.Invariant.{Known, Agrees, Fits, rename-id, later, free-in}
+use Rattle.model.proofs.Good.{Known, Good}
+use Rattle.model.proofs.Invariant.{Agrees, Fits, rename-id, later, free-in}
 use Rattle.model.proofs.Rearrange.{Drawn}
 
 -- first ρ, then σ
@@ -62,33 +63,38 @@ moved-value (b ∷ N) (c ∷ T) (u ∷ us) y e h d k = go (λ q. moved-value N T
     go ih (inr p) (inl q) = absurd (p .1 q)
     go ih (inr p) (inr q) = rw (p .0) (lookup-other (renameId (renaming N T) y) (idOf c) u (zip (ids T) us) (away q) ∙ ih q)
 
+-- the context under fresh names, and the renaming made to match, are as the pass keeps them
+module _ {M : ℕ} {Δ : List VarId} {ρ : Renaming} {N : Context} {m : ℕ} (f : Good M Δ ρ N m) {C : List VarId} (T : Context) (m₁ : ℕ) (g : Renamed N C m T m₁) where
+  known : (x : VarId) → (x ∈ ids N) ⊎ (m < x .0) → Known M Δ x
+  known x (inl h) = f .known x h
+  known x (inr h) = inr (omega (arith, f .above))
+
+  renamed : (x : VarId) (o : Option Identifier) → renaming N T x ≡ o → (o ≡ none) ⊎ Known M Δ x
+  renamed x none e = inl refl
+  renamed x (some y) e = inr (f .known x (rw (firsts-zip (ids N) (vars T) (count-vars N T (g .count))) at (in-lookup x y (zip (ids N) (vars T)) e)))
+
+  moved : (x : VarId) → (ρ x ≡ none) ⊎ Known M Δ x → ((ρ ⨾ renaming N T) x ≡ none) ⊎ Known M Δ x
+  moved x (inl e) = rw e (renamed x (renaming N T x) refl)
+  moved x (inr k) = inr k
+
+  pub good-fresh : Good M Δ (ρ ⨾ renaming N T) T m₁
+  good-fresh = record {
+    once = g .distinct;
+    known = λ x h. known x (g .from x h);
+    upTo = g .upTo;
+    above = omega (arith, f .above, g .grows);
+    moved = λ x. moved x (f .moved x);
+  }
+
 module _ {M : ℕ} {fv Δ : List VarId} {ρ : Renaming} {N : Context} {m : ℕ} {ε : Entries} (us : List Value) (f : Fits M fv Δ ρ N m ε (zip (ids N) us)) (count : length N ≡ length us) (C : List VarId) where
   -- the context under fresh names, and the renaming made to match, fit as before
   fresh-fits : (T : Context) (m₁ : ℕ) → Renamed N C m T m₁ → Fits M fv Δ (ρ ⨾ renaming N T) T m₁ ε (zip (ids T) us)
   fresh-fits T m₁ g = record {
-    good = record {
-      once = g .distinct;
-      known = λ x h. known x (g .from x h);
-      upTo = g .upTo;
-      above = omega (arith, f .good .above, g .grows);
-      moved = λ x. moved x (f .good .moved x);
-    };
+    good = good-fresh (f .good) T m₁ g;
     ordered = firsts-zip (ids T) us (length-map T idOf ∙ sym (g .count) ∙ count);
     agrees = agrees;
   }
     where
-      known : (x : VarId) → (x ∈ ids N) ⊎ (m < x .0) → Known M Δ x
-      known x (inl h) = f .good .known x h
-      known x (inr h) = inr (omega (arith, f .good .above))
-
-      renamed : (x : VarId) (o : Option Identifier) → renaming N T x ≡ o → (o ≡ none) ⊎ Known M Δ x
-      renamed x none e = inl refl
-      renamed x (some y) e = inr (f .good .known x (rw (firsts-zip (ids N) (vars T) (count-vars N T (g .count))) at (in-lookup x y (zip (ids N) (vars T)) e)))
-
-      moved : (x : VarId) → (ρ x ≡ none) ⊎ Known M Δ x → ((ρ ⨾ renaming N T) x ≡ none) ⊎ Known M Δ x
-      moved x (inl e) = rw e (renamed x (renaming N T x) refl)
-      moved x (inr k) = inr k
-
       agrees : Agrees fv (ρ ⨾ renaming N T) ε (zip (ids T) us)
       agrees x h =
           let a = f .agrees x h in

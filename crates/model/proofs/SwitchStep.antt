@@ -32,7 +32,8 @@ use Rattle.model.specs.Source.{sourceStep, sourceWork}
 use Rattle.model.specs.Linear.{linearStep, linearWork, inOrder}
 use Rattle.model.proofs.Scoping.{Scoped, ScopedClauses}
 use Rattle.model.proofs.Grows.{linearizeClauses-grows}
-use Rattle.model.proofs.Invariant.{Fits, SameCells, rename-id, renameIds-in, selects-filter, part-values, part-good, narrow}
+use Rattle.model.proofs.Good.{selects-filter}
+use Rattle.model.proofs.Invariant.{Fits, SameCells, rename-id, renameIds-in, part-values, part-good, narrow}
 use Rattle.model.proofs.Simulation.{beforeLast-at, lastValue-at, arrive₂, Matches, Simulates, both-halt, last-in-order}
 use Rattle.model.proofs.Bodies.{same-clause}
 use Rattle.model.proofs.Cells.{same-matched, opened}

@@ -27,7 +27,7 @@ use Rattle.model.specs.Rules.{arrange, bind, freshenUnless, moveBehind}
 use Rattle.model.specs.Pass.{linearizeStmt, linearizeClauses, linearizeDefs, linearize}
 use Rattle.model.specs.Questions.{asked, askedDefs, plain, anyBinders, small, smallBinders, Accepted}
 use Rattle.model.specs.Sizes.{widest, widestClauses, widestDefs, count, countClauses, recordsDefs, depthDefs}
-use Rattle.model.proofs.Invariant.{move-perm}
+use Rattle.model.proofs.Good.{move-perm}
 use Rattle.model.proofs.Sizes.{linearize-records, linearize-depth}
 use Rattle.model.proofs.Questions.{Asked, AskedClauses, answered, three}
 

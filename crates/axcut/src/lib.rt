@@ -1,0 +1,27 @@
+// The exported functions. Each returns the number of its answer, 0 for acceptance, and sets length and max_id on every call.
+use format::Answer;
+use reading::read;
+ghost use Rattle.format.specs.Answers.{Reports};
+ghost use Rattle.format.specs.Reading.{readCall};
+
+// Questions 1 to 5.
+#[no_mangle]
+pub extern "C" fn axcut_read(image: &[u8], length: &mut usize, max_id: &mut u32) -> u32
+    ensures { λ r. ⌜ Reports (readCall (now (image .entry))) r (now (length .exit)) (now («max_id» .exit)) ⌝ }
+{
+    match read(image) {
+        Answer::Accepted {
+            length: written,
+            max_id: top,
+        } => {
+            *length = written;
+            *max_id = top;
+            0
+        }
+        Answer::Refused(question) => {
+            *length = 0;
+            *max_id = 0;
+            question.number()
+        }
+    }
+}

@@ -1,0 +1,3 @@
+-- The laws of the directory, and of the record at a place.
+pub mod Tiling
+pub mod Places

@@ -1,0 +1,2 @@
+-- The directory of an image.
+pub mod Slots

@@ -1,0 +1,3 @@
+-- The laws of where parsers stop.
+pub mod Stops
+pub mod FieldStops

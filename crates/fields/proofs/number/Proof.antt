@@ -1,0 +1,90 @@
+use borrow.Author.Needs.{needs}
+use Prim.Native.Nat.{ℕ, suc, _+_, _-_, _*_, _≤_, _<_}
+use mathlib.Core.Path.{_≡_, refl, sym, subst, _∙_}
+use native.Mathlib.Omega.{arith}
+use lib.ListN.{length, drop, getD}
+use denote.Ref.{now}
+use Rattle.format.specs.Parse.{got, number}
+use Rattle.fields.proofs.Stops.{number-small, number-step}
+use Rattle.fields.proofs.number.Statement.{statement}
+use Rattle.fields.proofs.number.Tie as tie
+
+abbrev Inv-loop : tie.InvT-loop
+Inv-loop s at w n₀ i₀ n i = (i ≤ w) × (number (w - i) (drop (at + i) s) ≡ got n (drop (at + w) s))
+
+abbrev μ-loop : tie.MeasureT-loop
+μ-loop s at w n₀ i₀ n i = i
+
+loop-holds : tie.Need-loop-holds Inv-loop μ-loop
+loop-holds c =
+    let a = c .before .args in
+    let z : a .w - a .w ≡ 0 = omega arith in
+    (omega arith, rw z)
+
+mul-n : tie.Need-mul-n Inv-loop μ-loop
+mul-n c =
+    let k : c .before .before .before .args .w - c .before .loop .i ≤ 3 = omega arith in
+    omega (arith, number-small _ _ _ _ k (c .before .loop .inv .1))
+
+sub-wide : tie.Need-sub-wide Inv-loop μ-loop
+sub-wide c = omega arith
+
+add-wide : tie.Need-add-wide Inv-loop μ-loop
+add-wide c = omega arith
+
+shared-slice-read-wide : tie.Need-shared-slice-read-wide Inv-loop μ-loop
+shared-slice-read-wide c = omega arith
+
+wide-requires : tie.Need-wide-requires Inv-loop μ-loop
+wide-requires c κs = search needs
+
+add-n : tie.Need-add-n Inv-loop μ-loop
+add-n c =
+    let l = c .before .before .before .loop in
+    let a = c .before .before .before .before .before .args in
+    let k : a .w - l .i ≤ 3 = omega arith in
+    omega (arith, number-small _ _ _ _ k (l .inv .1), c .before .shared-slice-known2 .given (a .at + (l .i - 1)))
+
+sub-i : tie.Need-sub-i Inv-loop μ-loop
+sub-i c = omega arith
+
+loop-less : tie.Need-loop-less Inv-loop μ-loop
+loop-less c = omega arith
+
+loop-again : tie.Need-loop-again Inv-loop μ-loop
+loop-again c =
+    let l = c .before .before .before .loop in
+    let a = c .before .before .before .before .before .args in
+    let k : a .w - (l .i - 1) ≡ suc (a .w - l .i) = omega arith in
+    let p : a .at + l .i ≡ suc (a .at + (l .i - 1)) = omega arith in
+    let q : l .n * 256 + c .wide .result ≡ getD (now (a .s)) (a .at + (l .i - 1)) 0 + 256 * l .n = omega arith in (
+      omega arith,
+      rw k (number-step (now (a .s)) (λ i. omega (arith, c .before .shared-slice-known2 .given i)) (a .w - l .i) (a .at + (l .i - 1)) (l .n) _ _
+          (omega arith) q (rw p at (l .inv .1))),
+    )
+
+returns : tie.Need-returns Inv-loop μ-loop
+returns c =
+    let l = c .before .loop in
+    let a = c .before .before .before .args in
+    let k : a .w - l .i ≡ a .w = omega arith in
+    let p : a .at + l .i ≡ a .at = omega arith in
+    rw (k, p) at (l .inv .1)
+
+pub number-spec : {M : Type 1} → statement M
+number-spec =
+    tie.close
+    (tie.spec
+    Inv-loop
+    μ-loop
+    loop-holds
+    mul-n
+    sub-wide
+    add-wide
+    shared-slice-read-wide
+    wide-requires
+    add-n
+    sub-i
+    loop-less
+    loop-again
+    returns)

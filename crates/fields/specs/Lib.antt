@@ -1,0 +1,2 @@
+-- What the skipping functions answer.
+pub mod Found

@@ -1,0 +1,2 @@
+-- A value that stands at a place of bytes.
+pub mod Standing

@@ -1,0 +1,2 @@
+-- Bytes put into a buffer.
+pub mod Puts

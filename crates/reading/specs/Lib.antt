@@ -1,0 +1,2 @@
+-- What opening an image answers.
+pub mod Opening

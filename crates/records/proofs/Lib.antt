@@ -1,0 +1,3 @@
+-- The rule of a table, and where the parser of a record stops.
+pub mod TableLaws
+pub mod RecordStops

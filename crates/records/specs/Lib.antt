@@ -1,0 +1,2 @@
+-- What the table of kinds says.
+pub mod Table

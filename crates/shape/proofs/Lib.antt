@@ -1,0 +1,3 @@
+-- The laws of the walk.
+mod Heads
+mod Steps

@@ -1,0 +1,2 @@
+-- What the walk over the records sees.
+pub mod Nodes
