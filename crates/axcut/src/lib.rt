@@ -1,15 +1,16 @@
 // The exported functions. Each returns the number of its answer, 0 for acceptance, and sets length and max_id on every call.
+use checking::check::check;
 use format::Answer;
+use format::Layout;
 use reading::read;
-ghost use Rattle.format.specs.Answers.{Reports};
+ghost use Rattle.format.specs.Answers.{Reports, report};
 ghost use Rattle.format.specs.Reading.{readCall};
+ghost use Rattle.scope.specs.Calls.{checkCall};
 
-// Questions 1 to 5.
-#[no_mangle]
-pub extern "C" fn axcut_read(image: &[u8], length: &mut usize, max_id: &mut u32) -> u32
-    ensures { λ r. ⌜ Reports (readCall (now (image .entry))) r (now (length .exit)) (now («max_id» .exit)) ⌝ }
+fn tell(answer: Answer, length: &mut usize, max_id: &mut u32) -> u32
+    ensures { λ r. ⌜ Reports (report answer) r (now (length .exit)) (now («max_id» .exit)) ⌝ }
 {
-    match read(image) {
+    match answer {
         Answer::Accepted {
             length: written,
             max_id: top,
@@ -24,4 +25,20 @@ pub extern "C" fn axcut_read(image: &[u8], length: &mut usize, max_id: &mut u32)
             question.number()
         }
     }
+}
+
+// Questions 1 to 5.
+#[no_mangle]
+pub extern "C" fn axcut_read(image: &[u8], length: &mut usize, max_id: &mut u32) -> u32
+    ensures { λ r. ⌜ Reports (readCall (now (image .entry))) r (now (length .exit)) (now («max_id» .exit)) ⌝ }
+{
+    tell(read(image), length, max_id)
+}
+
+// Questions 1 to 10.
+#[no_mangle]
+pub extern "C" fn axcut_check(image: &[u8], length: &mut usize, max_id: &mut u32) -> u32
+    ensures { λ r. ⌜ Reports (checkCall (now (image .entry))) r (now (length .exit)) (now («max_id» .exit)) ⌝ }
+{
+    tell(check(image, Layout::one()), length, max_id)
 }

@@ -1,6 +1,6 @@
 -- The steps of the loops over the directory. Assumes nothing.
 use Prim.Native.Nat.{ℕ, zero, suc, _+_, _-_, _≤_, _<_}
-use mathlib.Core.List.{List, [], _∷_, _++_}
+use mathlib.Core.List.{List, [], _∷_}
 use mathlib.Core.Bool.{Bool, true, false, _&&_}
 use mathlib.Core.Option.{Option, none, some}
 use mathlib.Core.Path.{_≡_, refl, ap, sym, _∙_}
@@ -15,7 +15,6 @@ use Rattle.format.specs.Image.{ifGot, ifSome, isSome, Entry, entryBytes, entry,
 use Rattle.format.proofs.ParseLaws.{Sound, none-read, one-read}
 use Rattle.format.proofs.DirectoryLaws.{and-right, EntryOk, entry-exact, entry-length, tiles-le}
 use Rattle.directory.specs.Slots.{slotOf, slotAt, formedFrom}
-use Rattle.directory.specs.declared.Slot.{Slot}
 use Rattle.directory.specs.declared.Slot.the-variants.{Here, Short}
 
 -- bytes that are too few are refused

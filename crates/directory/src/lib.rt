@@ -4,8 +4,6 @@ use records::form::record_formed;
 ghost use mathlib.Core.Path.{_≡_};
 ghost use mathlib.Core.Bool.{true};
 ghost use Prim.Native.Nat.{_+_, _≤_, _<_};
-ghost use lib.Dec.{leb};
-ghost use lib.ListN.{length, drop};
 ghost use Rattle.format.specs.Image.{tiledFrom};
 ghost use Rattle.directory.specs.Slots.{Width, slotAt, formedFrom};
 

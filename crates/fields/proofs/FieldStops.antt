@@ -1,7 +1,7 @@
 -- Where the parsers of a record's parts stop, each by its own parts. Assumes nothing.
 use Prim.Native.Nat.{ℕ, zero, suc, _+_, _≤_, _<_}
-use mathlib.Core.List.{List, [], _∷_}
-use mathlib.Core.Path.{_≡_, refl, ap, sym, _∙_}
+use mathlib.Core.List.{List, _∷_}
+use mathlib.Core.Path.{_≡_, refl, ap, _∙_}
 use lib.ListN.{length, getD}
 use Rattle.format.specs.Parse.{refused, both, code, number, zeros, oneOf, counted}
 use Rattle.format.specs.Fields.{maxCount, chiralities, integer, identifier, type, binding, pair, list}

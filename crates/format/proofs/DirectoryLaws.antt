@@ -1,6 +1,6 @@
 -- The directory of an image and the records it cuts the bytes into: what tiles and is formed is the directory of its records
 -- (`body-right`), and the directory of records tiles and cuts them out again (`tiles-entriesOf`, `recordsAt-left`). Assumes nothing.
-use Prim.Native.Nat.{ℕ, zero, suc, _+_, _*_, _^_, _≤_, _<_}
+use Prim.Native.Nat.{ℕ, suc, _+_, _*_, _^_, _≤_, _<_}
 use mathlib.Core.List.{List, [], _∷_, _++_}
 use mathlib.Core.Bool.{Bool, true, false, _&&_}
 use mathlib.Core.Option.{Option, none, some}
@@ -12,10 +12,10 @@ use lib.Dec.{eqb}
 use lib.ListN.{length, take, drop, length-append, length-drop, take-append-drop}
 use lib.Seq.{take-append-seam, drop-append-seam, length-take-le, drop-at, drop-drop}
 use Rattle.format.specs.declared.Layout.{Layout}
-use Rattle.format.specs.Parse.{Parsed, refused, got, times, each, All}
+use Rattle.format.specs.Parse.{Parsed, each, All}
 use Rattle.format.specs.Layout.{headerSize, bodyAt}
 use Rattle.format.specs.Records.{Record, recordBytes, RecordOk, decodeRecord}
-use Rattle.format.specs.Image.{ifGot, ifSome, isSome, Header, headerBytes, header, Entry, entryBytes, entry, tiles, recordsAt, tiledFrom, recordsFrom, entriesOf, imageOf}
+use Rattle.format.specs.Image.{ifGot, ifSome, isSome, Header, headerBytes, Entry, entryBytes, entry, tiles, recordsAt, tiledFrom, recordsFrom, entriesOf, imageOf}
 use Rattle.format.proofs.ParseLaws.{Sound, none-read, one-read, Exact, both-exact, times-exact, number-exact, whole-left, whole-case}
 use Rattle.format.proofs.FieldLaws.{field-length}
 use Rattle.format.proofs.RecordLaws.{record-exact}

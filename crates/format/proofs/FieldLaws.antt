@@ -1,10 +1,9 @@
 -- Reading a part of a record is exact for writing it, at every width of IDs; and how many bytes each part has. Assumes nothing.
-use Prim.Native.Nat.{ℕ, zero, suc, _+_, _*_, _/_, _^_, _≤_, _<_}
+use Prim.Native.Nat.{ℕ, zero, suc, _+_, _/_}
 use mathlib.Core.List.{List, [], _∷_, _++_}
 use mathlib.Core.Path.{_≡_, refl, ap, sym, _∙_}
 use native.Mathlib.Omega.{arith}
-use lib.IntN.{ℤ}
-use lib.ListN.{length, replicate, length-append, length-replicate}
+use lib.ListN.{length, length-append, length-replicate}
 use mir.Syntax.{w64}
 use mir.Val.{Fits, SFits, ofZ, toZ}
 use mir.ValLaws.{toZ-fits, toZ-ofZ, ofZ-toZ, ofZ-fits}
@@ -19,9 +18,9 @@ use Rattle.syntax.specs.declared.op.BinOp.the-variants.{Div, Prod, Rem, Sum, Su
 use Rattle.syntax.specs.declared.ifc.IfSort.{IfSort}
 use Rattle.syntax.specs.declared.ifc.IfSort.the-variants.{Equal, NotEqual, Less, LessOrEqual, Greater, GreaterOrEqual}
 use mathlib.Core.Option.{some}
-use Rattle.format.specs.Parse.{got, field, zeros, numbered, oneOf}
+use Rattle.format.specs.Parse.{got, field, numbered, oneOf}
 use Rattle.format.specs.Fields.{maxCount, chiralities, chiralityCode, operators, operatorCode, sorts, sortCode, integerBytes, integer, identifierBytes, typeBytes, bindingBytes, listBytes, pairBytes, IdentifierOk, TypeOk, BindingOk, ListOk, PairOk, identifier, type, binding, list, pair}
-use Rattle.format.proofs.ParseLaws.{Sound, none-read, one-read, Exact, following, both-exact, via-exact, number-exact, zeros-exact, Numbers, oneOf-exact, counted-exact}
+use Rattle.format.proofs.ParseLaws.{Sound, none-read, one-read, Exact, following, both-exact, via-exact, number-exact, zeros-exact, oneOf-exact, counted-exact}
 
 -- ---- codes
 

@@ -1,6 +1,6 @@
 -- The fixed part of a record is as long as the table of kinds says, and what follows it is the tail: `tail-at`. The kind is the
 -- first byte, and the number of clauses of a Switch or a Create is the last. Assumes nothing.
-use Prim.Native.Nat.{ℕ, zero, suc, _+_, _-_, _*_, _≤_, _<_}
+use Prim.Native.Nat.{ℕ, _+_, _-_, _≤_, _<_}
 use mathlib.Core.Bool.{cond}
 use mathlib.Core.List.{List, [], _∷_, _++_, append-assoc, append-nil}
 use mathlib.Core.Path.{_≡_, refl, ap, sym, _∙_}
@@ -8,11 +8,11 @@ use native.Mathlib.Omega.{arith}
 use lib.Dec.{eqb}
 use lib.ListN.{length, drop, getD, length-append}
 use lib.Seq.{drop-at, getD-append-seam}
-use Rattle.format.specs.Parse.{each, mark}
-use Rattle.format.specs.Fields.{operatorCode, sortCode, integerBytes, identifierBytes, typeBytes, listBytes, pairBytes}
+use Rattle.format.specs.Parse.{mark}
+use Rattle.format.specs.Fields.{operatorCode, sortCode, integerBytes, identifierBytes, typeBytes, listBytes}
 use Rattle.format.specs.Records.{Record, definition, substitute, call, let', switch, create, invoke, literal, op, ifc, clause', recordBytes}
 use Rattle.format.specs.Kinds.{kindOf, clausesOf, fixed, tailBytes}
-use Rattle.format.proofs.FieldLaws.{field-length, identifier-length, type-length}
+use Rattle.format.proofs.FieldLaws.{field-length, type-length}
 
 module _ (w : ℕ) where
   -- the fixed part
@@ -125,3 +125,17 @@ clauses-last w (literal n v) = refl
 clauses-last w (op f o g v) = refl
 clauses-last w (ifc c f g) = refl
 clauses-last w (clause' x bs) = refl
+
+-- there are eleven kinds
+pub kind-below : (r : Record) → kindOf r < 12
+kind-below (definition i bs) = omega arith
+kind-below (substitute ps) = omega arith
+kind-below (call i bs) = omega arith
+kind-below (let' v t g bs) = omega arith
+kind-below (switch v t n) = omega arith
+kind-below (create v t e n) = omega arith
+kind-below (invoke v g t bs) = omega arith
+kind-below (literal n v) = omega arith
+kind-below (op f o g v) = omega arith
+kind-below (ifc c f g) = omega arith
+kind-below (clause' x bs) = omega arith

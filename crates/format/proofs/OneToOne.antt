@@ -1,25 +1,24 @@
 -- Images and programs are one to one: the image of a program reads as it (`reads-back`), and an image that reads as a program is
 -- the image of it (`only-its-image`). Of any layout whose numbers agree; `layout1-ok`. Assumes nothing.
 use Prim.Native.Nat.{ℕ, _+_, _*_, _^_, _≤_, _<_}
-use mathlib.Core.List.{List, [], _∷_, _++_, append-assoc}
+use mathlib.Core.List.{List, [], _++_}
 use mathlib.Core.Bool.{Bool, true, false, _&&_}
-use mathlib.Core.Option.{Option, none, some}
+use mathlib.Core.Option.{some}
 use mathlib.Core.Path.{_≡_, refl, ap, sym, _∙_, subst}
 use native.Mathlib.Omega.{arith}
 use borrow.Author.Tests.{le-leb, leb-true, eq-eqb, eqb-true}
 use lib.Dec.{leb, eqb}
-use lib.ListN.{length, drop, length-append}
+use lib.ListN.{length, drop}
 use lib.Seq.{drop-at, drop-drop}
 use Rattle.model.specs.Syntax.{Def, Prog}
 use Rattle.format.specs.declared.Layout.{Layout}
 use Rattle.format.specs.declared.Refusal.{Refusal}
-use Rattle.format.specs.declared.Refusal.the-variants.{Size}
-use Rattle.format.specs.Parse.{Parsed, refused, got, times, each, All}
+use Rattle.format.specs.Parse.{Parsed, got, times, each, All}
 use Rattle.format.specs.Layout.{layout1, maxRecords, LayoutOk, headerSize, bodyAt}
-use Rattle.format.specs.Records.{Record, recordBytes, RecordOk}
+use Rattle.format.specs.Records.{Record, recordBytes}
 use Rattle.format.specs.Shape.{flattenDefs, DefOk, definitions}
 use Rattle.format.specs.Image.{ifGot, ifSome, isSome, Header, headerBytes, header, Entry, entryBytes, entry, tiles, recordsAt, tiledFrom, recordsFrom, entriesOf, imageOf, image, ImageOk}
-use Rattle.format.specs.Reading.{headerOf, definitionCount, maxIdOf, recordCount, recordsOf, definitionsOf, question1, question2, question3, question4, question5, programOf, Reading, refuse, accept, asked, reading}
+use Rattle.format.specs.Reading.{headerOf, definitionCount, recordCount, recordsOf, definitionsOf, question1, question2, question3, question4, question5, programOf, Reading, accept, asked, reading}
 use Rattle.format.proofs.ParseLaws.{Sound, none-read, one-read, Exact, both-exact, times-exact, number-exact}
 use Rattle.format.proofs.ShapeLaws.{parse-flatten, flatten-parse}
 use Rattle.format.proofs.ReadingLaws.{all-yes}

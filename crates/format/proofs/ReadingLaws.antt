@@ -2,11 +2,11 @@
 -- Assumes nothing.
 use Prim.Native.Nat.{ℕ}
 use mathlib.Core.List.{List}
-use mathlib.Core.Bool.{Bool, true, false}
-use mathlib.Core.Path.{_≡_, refl, ap, sym, _∙_}
+use mathlib.Core.Bool.{true, false}
+use mathlib.Core.Path.{_≡_}
 use Rattle.format.specs.declared.Layout.{Layout}
 use Rattle.format.specs.declared.Refusal.the-variants.{Size, LayoutNumber, Directory, RecordForm, Shape}
-use Rattle.format.specs.Reading.{question1, question2, question3, question4, question5, programOf, Reading, refuse, accept, asked, reading}
+use Rattle.format.specs.Reading.{question1, question2, question3, question4, question5, programOf, refuse, accept, reading}
 
 module _ (L : Layout) (s : List ℕ) where
   pub first-no1 : question1 L s ≡ false → reading L s ≡ refuse Size

@@ -1,8 +1,8 @@
 -- Reading a statement from flat records is exact for flattening it, at each depth: `stmt-exact`; and definitions: `definitions-exact`.
 -- Flattening and reading in pre-order are inverse within the depth bound: `parse-flatten`, `flatten-parse`. Assumes nothing.
-use Prim.Native.Nat.{ℕ, zero, suc, _+_, _≤_, max}
+use Prim.Native.Nat.{ℕ, zero, suc, _+_, _≤_}
 use mathlib.Core.List.{List, [], _∷_, _++_, append-assoc}
-use mathlib.Core.Path.{_≡_, refl, ap, sym, _∙_, subst}
+use mathlib.Core.Path.{_≡_, refl, ap}
 use mathlib.Core.Option.{some}
 use native.Mathlib.Omega.{arith}
 use lib.ListN.{length}
@@ -10,7 +10,7 @@ use Rattle.syntax.specs.Context.{Context}
 use Rattle.syntax.specs.declared.names.Identifier.{Identifier}
 use Rattle.model.specs.Syntax.{Stmt, Substitute, Call, Let, Switch, Create, Invoke, Literal, Op, IfC, Clauses, end, clause, Def}
 use Rattle.model.specs.Sizes.{depth, depthClauses, countClauses}
-use Rattle.format.specs.Parse.{refused, got, Parser, both, times, All}
+use Rattle.format.specs.Parse.{got, Parser, times, All}
 use Rattle.format.specs.Records.{Record, definition, substitute, call, let', switch, create, invoke, literal, op, ifc, clause'}
 use Rattle.format.specs.Shape.{flatten, flattenClauses, flattenDef, flattenDefs, clauseHead, definitionHead, clauses, step, stmt, maxDepth, DefOk, oneDef, definitions}
 use Rattle.format.proofs.ParseLaws.{Sound, none-read, one-read, Exact, following, both-exact, via-exact, times-exact, whole-left, whole-right}

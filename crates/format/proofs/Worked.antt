@@ -9,7 +9,7 @@ use Rattle.syntax.specs.Context.{Context}
 use Rattle.syntax.specs.declared.names.Identifier.{Identifier}
 use Rattle.syntax.specs.declared.types.Ty.the-variants.{I64}
 use Rattle.syntax.specs.declared.context.Chirality.the-variants.{Ext}
-use Rattle.model.specs.Syntax.{Stmt, Call, Literal, Def, Prog}
+use Rattle.model.specs.Syntax.{Call, Literal, Prog}
 use Rattle.format.specs.Layout.{layout1}
 use Rattle.format.specs.Fields.{identifier, type, binding, pair, list, integer}
 use Rattle.format.specs.Records.{contents, content, oneRecord, decodeRecord, recordBytes}

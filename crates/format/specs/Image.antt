@@ -5,10 +5,10 @@ use mathlib.Core.Bool.{Bool, true, false, _&&_}
 use mathlib.Core.Option.{Option, none, some}
 use lib.Dec.{eqb}
 use lib.ListN.{length, take, drop}
-use Rattle.model.specs.Syntax.{Def, Prog}
+use Rattle.model.specs.Syntax.{Prog}
 use Rattle.format.specs.declared.Layout.{Layout}
 use Rattle.format.specs.Parse.{Parsed, refused, got, Parser, both, times, each, All, number, field}
-use Rattle.format.specs.Layout.{maxRecords, headerSize, bodyAt}
+use Rattle.format.specs.Layout.{maxRecords, bodyAt}
 use Rattle.format.specs.Records.{Record, recordBytes, RecordOk, decodeRecord}
 use Rattle.format.specs.Shape.{flattenDefs, DefOk}
 

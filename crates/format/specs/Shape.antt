@@ -6,7 +6,7 @@ use Rattle.syntax.specs.Context.{Context}
 use Rattle.syntax.specs.declared.names.Identifier.{Identifier}
 use Rattle.model.specs.Syntax.{Stmt, Substitute, Call, Let, Switch, Create, Invoke, Literal, Op, IfC, Clauses, end, clause, Def}
 use Rattle.model.specs.Sizes.{depth, countClauses}
-use Rattle.format.specs.Parse.{refused, got, Parser, via, both, times, each, All, whole}
+use Rattle.format.specs.Parse.{refused, got, Parser, via, both, times, each, whole}
 use Rattle.format.specs.Records.{Record, definition, substitute, call, let', switch, create, invoke, literal, op, ifc, clause'}
 
 -- document 01, "The image": a statement, then its clauses (each followed by its body), then its next, or then-branch before else-branch

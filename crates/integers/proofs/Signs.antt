@@ -1,15 +1,13 @@
 -- Signed 64-bit numbers by their bits, as the machine computes them. Assumes nothing.
 use mathlib.Core.Path.{_≡_, refl, sym, ap, _∙_}
-use mathlib.Core.Bool.{Bool, true, false, false≢true}
-use Prim.Native.Nat.{ℕ, zero, suc, _+_, _-_, _*_, _/_, _%_, _≤_, _<_, _^_}
-use native.Mathlib.Nat.{div-le-self, div-mul-le-self, mul-le-mul-left, le-trans, div-one}
+use mathlib.Core.Bool.{true, false, false≢true}
+use Prim.Native.Nat.{ℕ, zero, suc, _+_, _-_, _≤_, _<_, _^_}
 use native.Mathlib.Omega.{arith}
-use lib.IntN.{ℤ, pos, negsuc, negℤ, sucℤ, predℤ, natAbs, _+ℤ_, _-ℤ_, +ℤ-one, +ℤ-idl, -ℤ-one}
+use lib.IntN.{ℤ, pos, negsuc, predℤ, _+ℤ_, _-ℤ_, +ℤ-one, +ℤ-idl, -ℤ-one}
 use lib.Signed.{mag, ltZ}
-use lib.Dec.{T, ltb}
 use borrow.Author.Tests.{lt-ltb, le-ltb}
 use mir.Syntax.{w64}
-use mir.Val.{Fits, SFits, ofZ, toZ}
+use mir.Val.{SFits, ofZ, toZ}
 use mir.Facts.{toZ-ofZ}
 use mir.ValLaws.{toZ-fits}
 

@@ -3,3 +3,4 @@ pub mod StandingLaws
 pub mod PartPlaces
 pub mod TailPlaces
 pub mod AtIndex
+pub mod NamedPlaces

@@ -17,7 +17,7 @@ use Rattle.syntax.specs.declared.op.BinOp.{BinOp}
 use Rattle.syntax.specs.declared.ifc.IfSort.{IfSort}
 use Rattle.format.specs.Parse.{mark}
 use Rattle.format.specs.Fields.{operatorCode, sortCode, integerBytes, identifierBytes, typeBytes, listBytes, IdentifierOk, TypeOk}
-use Rattle.format.specs.Records.{Record, definition, call, let', switch, create, invoke, literal, op, ifc, clause', recordBytes, RecordOk}
+use Rattle.format.specs.Records.{definition, call, let', switch, create, invoke, literal, op, ifc, clause', recordBytes, RecordOk}
 use Rattle.format.proofs.FieldLaws.{identifier-length, type-length}
 use Rattle.parts.specs.Standing.{Stands}
 

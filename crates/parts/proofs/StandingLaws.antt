@@ -1,28 +1,28 @@
 -- Laws of values that stand in bytes: runs of bytes, what reading identifiers, types and bindings gives, and parts of records.
 -- Assumes nothing.
-use Prim.Native.Nat.{ℕ, zero, suc, _+_, _*_, _/_, _%_, _^_, _≤_, _<_}
+use Prim.Native.Nat.{ℕ, zero, suc, _+_, _*_, _^_, _≤_, _<_}
 use mathlib.Core.List.{List, [], _∷_, _++_, append-assoc}
-use mathlib.Core.Option.{Option, none, some}
+use mathlib.Core.Option.{some}
 use mathlib.Core.Path.{_≡_, refl, ap, sym, _∙_, subst}
 use native.Mathlib.Omega.{arith}
-use lib.ListN.{length, take, drop, getD, length-append, length-drop, take-append-drop}
+use lib.ListN.{length, drop, getD, length-append, length-drop, take-append-drop}
 use lib.Seq.{drop-drop, drop-at, getD-drop}
 use native.Mathlib.Nat.{add-zero}
 use mir.Syntax.{w64}
-use mir.Val.{Fits, SFits, ofZ, toZ}
+use mir.Val.{SFits, ofZ, toZ}
 use mir.ValLaws.{toZ-ofZ, ofZ-fits}
 use Rattle.syntax.specs.declared.names.Identifier.{Identifier}
 use Rattle.syntax.specs.declared.types.Ty.{Ty}
 use Rattle.syntax.specs.declared.types.Ty.the-variants.{I64, Decl}
 use Rattle.syntax.specs.declared.context.Chirality.{Chirality}
 use Rattle.syntax.specs.declared.context.Chirality.the-variants.{Prd, Cns, Ext}
-use Rattle.syntax.specs.declared.context.ContextBinding.{ContextBinding}
-use Rattle.format.specs.Parse.{Parsed, refused, got, Parser, number, field, numbered}
+use Rattle.format.specs.Parse.{got, number, field, numbered}
 use Rattle.format.specs.Fields.{chiralities, chiralityCode, integerBytes, identifierBytes, typeBytes, bindingBytes, IdentifierOk, TypeOk, BindingOk}
 use Rattle.format.specs.Records.{Record, recordBytes, RecordOk}
+use Rattle.format.specs.Kinds.{kindOf}
 use Rattle.format.proofs.ParseLaws.{Sound, one-read, number-exact}
 use Rattle.format.proofs.FieldLaws.{identifier-length}
-use Rattle.format.proofs.KindLaws.{record-nonempty}
+use Rattle.format.proofs.KindLaws.{kind-first, record-nonempty}
 use Rattle.integers.proofs.Halves.{field-join}
 use Rattle.directory.specs.Slots.{recordsIn}
 use Rattle.directory.specs.declared.Frame.{Frame}
@@ -201,3 +201,28 @@ part-reads h r d = let k = r .inside in reads-in (omega arith) h d
 
 pub byte-reads : {s : List ℕ} {at : ℕ} → ReadsAs (λ (b : ℕ). b ∷ []) (λ _. Unit {0}) s at (getD s at 0)
 byte-reads {s = s} {at = at} = record { is = λ b h. byte-run s (h .others) at b (h .bytes) }
+
+-- a part of what stands at a place: it stands there too, and inside the bytes
+pub inner : {A B : Type 0} {e : A → List ℕ} {f : B → List ℕ} {P : A → Type 0} {Q : B → Type 0} {s : List ℕ} {o at : ℕ} {a : A} {b : B} (n : ℕ) → length (f b) ≡ n → 0 < n
+    → Stands e P s o a → Stands f Q (e a) at b → Stands f Q s (o + at) b
+inner {e = e} {f = f} {b = b} n k z h d =
+    let p : 0 < length (f b) = omega arith in
+    stands-in (omega (arith, stands-room {e = f} p d)) h d
+
+pub inner-room : {A B : Type 0} {e : A → List ℕ} {f : B → List ℕ} {P : A → Type 0} {Q : B → Type 0} {s : List ℕ} {o at : ℕ} {a : A} {b : B} (n : ℕ) → length (f b) ≡ n → 0 < n
+    → Stands e P s o a → Stands f Q (e a) at b → o + at + n ≤ length s
+inner-room {e = e} {f = f} {b = b} n k z h d =
+    let p : 0 < length (f b) = omega arith in
+    omega (arith, stands-room {e = f} p (inner n k z h d))
+
+-- the kind byte of a record that stands at a place
+pub kind-stands : (w : ℕ) {s : List ℕ} {o : ℕ} {r : Record} → Stands (recordBytes w) (RecordOk w) s o r → (getD s o 0 ≡ kindOf r) × (o < length s)
+kind-stands w {s = s} {o = o} {r = r} h =
+    let n : o + 0 ≡ o = omega arith in (
+      ap (λ k. getD s k 0) (sym n) ∙ (sym (getD-drop o s 0 0) ∙ (ap (λ l. getD l 0 0) (h .bytes) ∙ (first-of (recordBytes w r) (h .others) (record-nonempty w r) ∙ kind-first w r))),
+      omega (arith, record-nonempty w r, stands-room {e = recordBytes w} (record-nonempty w r) h),
+    )
+  where
+    first-of : (l m : List ℕ) → 0 < length l → getD (l ++ m) 0 0 ≡ getD l 0 0
+    first-of [] m h = absurd (omega arith)
+    first-of (x ∷ l) m h = refl

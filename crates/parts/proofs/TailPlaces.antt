@@ -1,19 +1,19 @@
 -- Where counts, bindings and marks stand in the bytes of a record: at the end of its fixed part, as long as the table of kinds says.
 -- w is the number of bytes of an ID. Assumes nothing.
-use Prim.Native.Nat.{ℕ, zero, suc, _+_, _*_, _≤_, _<_}
+use Prim.Native.Nat.{ℕ, zero, suc, _+_, _*_, _<_}
 use mathlib.Core.List.{List, [], _∷_, _++_, append-nil}
-use mathlib.Core.Option.{Option, none, some}
-use mathlib.Core.Path.{_≡_, refl, ap, sym, _∙_}
+use mathlib.Core.Option.{none, some}
+use mathlib.Core.Path.{_≡_, ap, sym, _∙_}
 use native.Mathlib.Omega.{arith}
-use native.Mathlib.Nat.{suc-mul, zero-mul, add-zero}
-use lib.ListN.{length, drop, getD, length-append}
+use native.Mathlib.Nat.{suc-mul, zero-mul}
+use lib.ListN.{length, drop, getD}
 use lib.Seq.{drop-drop, drop-at}
 use Rattle.syntax.specs.Context.{Context}
 use Rattle.syntax.specs.declared.names.Identifier.{Identifier}
 use Rattle.syntax.specs.declared.context.ContextBinding.{ContextBinding}
-use Rattle.format.specs.Parse.{each, All, mark, Marked}
+use Rattle.format.specs.Parse.{each, All, mark}
 use Rattle.format.specs.Fields.{identifierBytes, bindingBytes, listBytes, IdentifierOk, BindingOk, ListOk}
-use Rattle.format.specs.Records.{Record, switch, create, ifc, recordBytes, RecordOk}
+use Rattle.format.specs.Records.{Record, recordBytes, RecordOk}
 use Rattle.format.specs.Kinds.{kindOf, fixed, tailBytes}
 use Rattle.format.proofs.FieldLaws.{binding-length}
 use Rattle.format.proofs.KindLaws.{tail-at}

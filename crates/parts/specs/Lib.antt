@@ -1,2 +1,3 @@
--- A value that stands at a place of bytes.
+-- A value that stands at a place of bytes, and the parts of records by name.
 pub mod Standing
+pub mod Parts

@@ -2,8 +2,10 @@
 use directory::Frame;
 use directory::Slot;
 use directory::read_slot;
+use fields::count;
 use fields::number;
 use integers::from_bits;
+use records::kinds::Kind;
 use syntax::context::Chirality;
 use syntax::context::ContextBinding;
 use syntax::ifc::IfSort;
@@ -15,12 +17,14 @@ use syntax::types::Ty;
 ghost use mathlib.Core.Path.{_≡_};
 ghost use mathlib.Core.List.{_∷_, []};
 ghost use Prim.Native.Nat.{ℕ, _+_, _*_, _≤_, _<_, _^_};
-ghost use lib.ListN.{length, drop};
+ghost use lib.ListN.{length, drop, getD};
 ghost use mir.Syntax.{w64};
 ghost use mir.Val.{SFits};
 ghost use Rattle.format.specs.Fields.{chiralities, operators, sorts, integerBytes, identifierBytes, typeBytes, bindingBytes, IdentifierOk, TypeOk, BindingOk};
 ghost use Rattle.format.specs.Records.{recordBytes, RecordOk};
 ghost use Rattle.directory.specs.Slots.{Ready, recordsIn};
+ghost use Rattle.syntax.specs.Context.{emptyBinding};
+ghost use Rattle.parts.specs.Parts.{varOf, HasVar, listOf, HasList};
 ghost use Rattle.parts.specs.Standing.{Stands, ReadsAs, IsCode, headOf, Room, RoomIn};
 
 fn half(n: u32) -> u16
@@ -165,4 +169,43 @@ pub fn binding(s: &[u8], g: Frame, i: usize, at: usize) -> ContextBinding
     let w = g.id;
     let start = offset(s, g, i);
     binding_at(s, w, start + at)
+}
+
+// The var of the record at index i, which is that of a Let, Switch, Create, Invoke, Literal or Op.
+pub fn var(s: &[u8], g: Frame, i: usize) -> Identifier
+    requires { ⌜ Ready g (now s) × ((i < g .count) × HasVar (headOf (drop i (recordsIn g (now s))))) ⌝ }
+    ensures { λ r. ⌜ r ≡ varOf (headOf (drop i (recordsIn g (now (s .entry))))) ⌝ }
+{
+    let w = g.id;
+    let start = offset(s, g, i);
+    let kind = s[start];
+    if kind == 8 {
+        return identifier_at(s, w, start + 9);
+    }
+    if kind == 9 {
+        return identifier_at(s, w, start + (6 + (w + w)));
+    }
+    identifier_at(s, w, start + 1)
+}
+
+// How many bindings the list of the record at index i has, which is a definition, Call, Let, Invoke or clause.
+pub fn list_count(s: &[u8], g: Frame, i: usize) -> usize
+    requires { ⌜ Ready g (now s) × ((i < g .count) × HasList (headOf (drop i (recordsIn g (now s))))) ⌝ }
+    ensures { λ r. ⌜ r ≡ length (listOf (headOf (drop i (recordsIn g (now (s .entry)))))) ⌝ }
+{
+    let w = g.id;
+    let start = offset(s, g, i);
+    let at = Kind::fixed(s[start], w);
+    count(s[start + at])
+}
+
+// The binding at place j of that list.
+pub fn list_binding(s: &[u8], g: Frame, i: usize, j: usize) -> ContextBinding
+    requires { ⌜ Ready g (now s) × ((i < g .count) × (HasList (headOf (drop i (recordsIn g (now s)))) × (j < length (listOf (headOf (drop i (recordsIn g (now s)))))))) ⌝ }
+    ensures { λ r. ⌜ r ≡ getD (listOf (headOf (drop i (recordsIn g (now (s .entry)))))) j emptyBinding ⌝ }
+{
+    let w = g.id;
+    let start = offset(s, g, i);
+    let at = Kind::fixed(s[start], w);
+    binding_at(s, w, start + (at + (1 + j * (6 + (w + w)))))
 }

@@ -1,9 +1,8 @@
 -- What an opened image is: reading accepts it, and its frame has the records of the program that it reads as (`opened-image`).
 -- Assumes nothing.
-use Prim.Native.Nat.{ℕ, _≤_}
+use Prim.Native.Nat.{ℕ}
 use mathlib.Core.List.{List, []}
-use mathlib.Core.Bool.{true, _&&_}
-use mathlib.Core.Path.{_≡_, refl, ap, sym, _∙_}
+use mathlib.Core.Path.{_≡_, refl, ap, _∙_}
 use native.Mathlib.Omega.{arith}
 use borrow.Author.Tests.{leb-true}
 use lib.Dec.{leb}
@@ -12,9 +11,9 @@ use Rattle.model.specs.Syntax.{Prog}
 use Rattle.format.specs.declared.Layout.{Layout}
 use Rattle.format.specs.declared.Answer.{Answer}
 use Rattle.format.specs.declared.Answer.the-variants.{Accepted, Refused}
-use Rattle.format.specs.Layout.{layout1, maxRecords, headerSize}
+use Rattle.format.specs.Layout.{layout1, maxRecords}
 use Rattle.format.specs.Shape.{flattenDefs}
-use Rattle.format.specs.Image.{ifSome, isSome, image, ImageOk}
+use Rattle.format.specs.Image.{ifSome, image, ImageOk}
 use Rattle.format.specs.Reading.{recordCount, definitionCount, recordsOf, question3, question4, Reading, refuse, accept, reading, answerOf}
 use Rattle.format.proofs.DirectoryLaws.{and-left, and-right}
 use Rattle.format.proofs.OneToOne.{accepts, accepted}

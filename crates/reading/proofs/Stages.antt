@@ -1,9 +1,8 @@
 -- Opening an image, stage by stage, as the code goes: the answers to the questions by what the code has computed. Assumes nothing.
 use Prim.Native.Nat.{ℕ, _+_, _≤_, _<_}
 use mathlib.Core.List.{List, []}
-use mathlib.Core.Bool.{Bool, true, false, _&&_}
-use mathlib.Core.Path.{_≡_, refl, ap, sym, _∙_}
-use native.Mathlib.Omega.{arith}
+use mathlib.Core.Bool.{true, false, _&&_}
+use mathlib.Core.Path.{_≡_, refl, ap, _∙_}
 use borrow.Author.Tests.{le-leb, lt-leb, eq-eqb, ne-eqb}
 use lib.Dec.{leb, eqb}
 use lib.ListN.{length, drop}
@@ -13,11 +12,10 @@ use Rattle.format.specs.Parse.{Parsed, refused, got, andThen, both, number}
 use Rattle.format.specs.Layout.{maxRecords, headerSize, bodyAt}
 use Rattle.format.specs.Shape.{definitions}
 use Rattle.format.specs.Image.{ifGot, ifSome, isSome, Header, header, tiledFrom, recordsFrom}
-use Rattle.format.specs.Reading.{headerOf, definitionCount, maxIdOf, recordCount, recordsOf, definitionsOf, question1, question2, question3, question4, question5, programOf, reading}
+use Rattle.format.specs.Reading.{headerOf, recordsOf, definitionsOf, question1, question2, question3, question4, question5, programOf}
 use Rattle.format.proofs.ReadingLaws.{first-no1, first-no2, first-no3, first-no4, first-no5, all-yes}
 use Rattle.directory.specs.Slots.{formedFrom, recordsIn}
-use Rattle.reading.specs.Opening.{frameOf, openedBy, openedOf}
-use Rattle.reading.specs.declared.Opened.{Opened}
+use Rattle.reading.specs.Opening.{Head, frameOf, openedBy, openedOf}
 use Rattle.reading.specs.declared.Opened.the-variants.{Image, Closed}
 
 module _ (L : Layout) (s : List ℕ) where
@@ -46,25 +44,19 @@ module _ (L : Layout) (s : List ℕ) (v : ℕ) (e : number 2 (drop 0 s) ≡ got 
   unfolding openedOf
   other-layout a b h = rw (first-no2 L s (sized L s a b) (not-layout h))
 
--- the numbers that were read from a header
-pub record Head (L : Layout) (s : List ℕ) (v D m n : ℕ) : Type 0 where
-  pub least : headerSize L ≤ length s
-  pub most : length s ≤ L .largest
-  pub layout : number 2 (drop 0 s) ≡ got v (drop 2 s)
-  pub definitionsAre : number 2 (drop 2 s) ≡ got D (drop 4 s)
-  pub maxIdIs : number (L .id) (drop 4 s) ≡ got m (drop (4 + L .id) s)
-  pub recordsAre : number (L .place) (drop (4 + L .id) s) ≡ got n (drop (4 + L .id + L .place) s)
-
-module _ (L : Layout) (s : List ℕ) (v D m n : ℕ) (hd : Head L s v D m n) where
-  head-read : header L s ≡ got (v, (D, (m, n))) (drop (4 + L .id + L .place) s)
+module _ (L : Layout) (s : List ℕ) (D m n : ℕ) (hd : Head L s D m n) where
+  head-read : header L s ≡ got (L .number, (D, (m, n))) (drop (4 + L .id + L .place) s)
   head-read = rw (hd .layout, hd .definitionsAre, hd .maxIdIs, hd .recordsAre)
 
-  head-of : headerOf L s ≡ (v, (D, (m, n)))
+  head-of : headerOf L s ≡ (L .number, (D, (m, n)))
   head-of = ap (λ r. ifGot r (0, (0, (0, 0))) (λ h _. h)) head-read
 
-  layout-is : question2 L s ≡ eqb v (L .number)
+  y1 : question1 L s ≡ true
+  y1 = sized L s (hd .least) (hd .most)
+
+  y2 : question2 L s ≡ true
   unfolding question2
-  layout-is = ap (λ r. ifGot r false (λ h _. eqb (h .0) (L .number))) head-read
+  y2 = ap (λ r. ifGot r false (λ h _. eqb (h .0) (L .number))) head-read ∙ eq-eqb (L .number) (L .number) refl
 
   tiled-is : question3 L s ≡ leb n maxRecords && tiledFrom (L .place) n (headerSize L) (bodyAt L n) s
   unfolding question3
@@ -82,35 +74,28 @@ module _ (L : Layout) (s : List ℕ) (v D m n : ℕ) (hd : Head L s v D m n) whe
   unfolding question5 definitionsOf recordsIn
   shape-is = λ i. isSome (definitions (head-of i .1 .0) (ifSome (records-are i) [] (λ rs. rs)))
 
-  module _ (same : v ≡ L .number) where
-    y1 : question1 L s ≡ true
-    y1 = sized L s (hd .least) (hd .most)
+  pub many : maxRecords < n → openedOf L s ≡ Closed Directory
+  unfolding openedOf
+  many h = let e : question3 L s ≡ false = tiled-is ∙ rw (lt-leb _ _ h) in rw (first-no3 L s y1 y2 e)
 
-    y2 : question2 L s ≡ true
-    y2 = layout-is ∙ eq-eqb _ _ same
-
-    pub many : maxRecords < n → openedOf L s ≡ Closed Directory
+  module _ (few : n ≤ maxRecords) where
+    pub gaps : tiledFrom (L .place) n (headerSize L) (bodyAt L n) s ≡ false → openedOf L s ≡ Closed Directory
     unfolding openedOf
-    many h = let e : question3 L s ≡ false = tiled-is ∙ rw (lt-leb _ _ h) in rw (first-no3 L s y1 y2 e)
+    gaps h = let e : question3 L s ≡ false = tiled-is ∙ rw (le-leb _ _ few, h) in rw (first-no3 L s y1 y2 e)
 
-    module _ (few : n ≤ maxRecords) where
-      pub gaps : tiledFrom (L .place) n (headerSize L) (bodyAt L n) s ≡ false → openedOf L s ≡ Closed Directory
+    module _ (t : tiledFrom (L .place) n (headerSize L) (bodyAt L n) s ≡ true) where
+      y3 : question3 L s ≡ true
+      y3 = tiled-is ∙ rw (le-leb _ _ few, t)
+
+      pub unformed : formedFrom (L .id) (L .place) n (headerSize L) (bodyAt L n) s ≡ false → openedOf L s ≡ Closed RecordForm
       unfolding openedOf
-      gaps h = let e : question3 L s ≡ false = tiled-is ∙ rw (le-leb _ _ few, h) in rw (first-no3 L s y1 y2 e)
+      unformed h = rw (first-no4 L s y1 y2 y3 (formed-is ∙ h))
 
-      module _ (t : tiledFrom (L .place) n (headerSize L) (bodyAt L n) s ≡ true) where
-        y3 : question3 L s ≡ true
-        y3 = tiled-is ∙ rw (le-leb _ _ few, t)
-
-        pub unformed : formedFrom (L .id) (L .place) n (headerSize L) (bodyAt L n) s ≡ false → openedOf L s ≡ Closed RecordForm
+      module _ (f : formedFrom (L .id) (L .place) n (headerSize L) (bodyAt L n) s ≡ true) where
+        pub misshapen : isSome (definitions D (recordsIn (frameOf L n) s)) ≡ false → openedOf L s ≡ Closed Shape
         unfolding openedOf
-        unformed h = rw (first-no4 L s y1 y2 y3 (formed-is ∙ h))
+        misshapen h = rw (first-no5 L s y1 y2 y3 (formed-is ∙ f) (shape-is ∙ h))
 
-        module _ (f : formedFrom (L .id) (L .place) n (headerSize L) (bodyAt L n) s ≡ true) where
-          pub misshapen : isSome (definitions D (recordsIn (frameOf L n) s)) ≡ false → openedOf L s ≡ Closed Shape
-          unfolding openedOf
-          misshapen h = rw (first-no5 L s y1 y2 y3 (formed-is ∙ f) (shape-is ∙ h))
-
-          pub accepted : isSome (definitions D (recordsIn (frameOf L n) s)) ≡ true → openedOf L s ≡ Image (frameOf L n) D m
-          unfolding openedOf programOf
-          accepted h = ap (openedBy L s) (all-yes L s y1 y2 y3 (formed-is ∙ f) (shape-is ∙ h)) ∙ (λ i. Image (frameOf L (head-of i .1 .1 .1)) (head-of i .1 .0) (head-of i .1 .1 .0))
+        pub accepted : isSome (definitions D (recordsIn (frameOf L n) s)) ≡ true → openedOf L s ≡ Image (frameOf L n) D m
+        unfolding openedOf programOf
+        accepted h = ap (openedBy L s) (all-yes L s y1 y2 y3 (formed-is ∙ f) (shape-is ∙ h)) ∙ (λ i. Image (frameOf L (head-of i .1 .1 .1)) (head-of i .1 .0) (head-of i .1 .1 .0))

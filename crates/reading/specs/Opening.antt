@@ -1,5 +1,8 @@
 -- What opening an image answers: the frame, the definitions and the max_id of what reading accepts, or reading's refusal.
-use Prim.Native.Nat.{ℕ}
+use Prim.Native.Nat.{ℕ, _+_, _≤_}
+use mathlib.Core.Path.{_≡_}
+use lib.ListN.{length, drop}
+use Rattle.format.specs.Parse.{got, number}
 use mathlib.Core.List.{List}
 use Rattle.format.specs.declared.Layout.{Layout}
 use Rattle.format.specs.Layout.{headerSize, bodyAt}
@@ -13,6 +16,15 @@ use Rattle.reading.specs.declared.Opened.the-variants.{Image, Closed}
 pub record Known (L : Layout) : Type 0 where
   pub id : Width (L .id)
   pub place : Width (L .place)
+
+-- an image of the layout and of a size that it may have, and the numbers of its header: definitions, max_id, records
+pub record Head (L : Layout) (s : List ℕ) (D m n : ℕ) : Type 0 where
+  pub least : headerSize L ≤ length s
+  pub most : length s ≤ L .largest
+  pub layout : number 2 (drop 0 s) ≡ got (L .number) (drop 2 s)
+  pub definitionsAre : number 2 (drop 2 s) ≡ got D (drop 4 s)
+  pub maxIdIs : number (L .id) (drop 4 s) ≡ got m (drop (4 + L .id) s)
+  pub recordsAre : number (L .place) (drop (4 + L .id) s) ≡ got n (drop (4 + L .id + L .place) s)
 
 -- the frame of an image of n records
 abbrev pub frameOf : Layout → ℕ → Frame

@@ -11,7 +11,7 @@ use shape::shaped;
 ghost use mathlib.Core.Path.{_≡_};
 ghost use Rattle.format.specs.Layout.{layout1};
 ghost use Rattle.format.specs.Reading.{reading, answerOf};
-ghost use Rattle.reading.specs.Opening.{Known, openedOf};
+ghost use Rattle.reading.specs.Opening.{Known, Head, openedOf};
 
 // An image that is accepted: where its records are, how many definitions they are, and its max_id.
 pub enum Opened {
@@ -31,8 +31,7 @@ pub fn open(s: &[u8], l: Layout) -> Opened
     let len = s.len();
     let id = l.id;
     let place = l.place;
-    let from = 2 + (2 + (id + place));
-    if len < from {
+    if len < 2 + (2 + (id + place)) {
         return Opened::Closed(Refusal::Size);
     }
     let largest = l.largest;
@@ -46,9 +45,20 @@ pub fn open(s: &[u8], l: Layout) -> Opened
     let definitions = long(number(s, 2, 2));
     let max_id = number(s, 4, id);
     let count = long(number(s, 4 + id, place));
+    open_records(s, l, definitions, max_id, count)
+}
+
+// Questions 3 to 5, after the header was read.
+fn open_records(s: &[u8], l: Layout, definitions: usize, max_id: u32, count: usize) -> Opened
+    requires { ⌜ Known l × Head l (now s) definitions «max_id» count ⌝ }
+    ensures { λ r. ⌜ r ≡ openedOf l (now (s .entry)) ⌝ }
+{
     if Layout::MAX_RECORDS < count {
         return Opened::Closed(Refusal::Directory);
     }
+    let id = l.id;
+    let place = l.place;
+    let from = 2 + (2 + (id + place));
     let start = from + count * (place + place);
     if tiled(s, place, count, from, start) {
         if all_formed(s, id, place, count, from, start) {

@@ -1,27 +1,25 @@
 -- A record at a place of a list: its kind decides what the walk reads there. Assumes nothing.
-use Prim.Native.Nat.{ℕ, zero, suc, _+_, _-_, _≤_, _<_}
+use Prim.Native.Nat.{ℕ, _+_, _-_, _≤_, _<_}
 use mathlib.Core.List.{List, [], _∷_}
 use mathlib.Core.Bool.{Bool, true, false, cond}
-use mathlib.Core.Logic.{_⊎_, inl, inr, ⊎-elim}
-use mathlib.Core.Path.{_≡_, refl, ap, sym, _∙_, subst}
+use mathlib.Core.Path.{_≡_, refl, ap, sym, _∙_}
 use native.Mathlib.Omega.{arith}
-use borrow.Author.Tests.{le-leb, eqb-true, eqb-false, eq-eqb, ne-eqb}
+use borrow.Author.Tests.{le-leb}
 use lib.Dec.{leb, eqb}
-use lib.ListN.{length, drop, getD, length-drop, length-append}
+use lib.ListN.{length, drop, getD, length-drop}
 use lib.Seq.{drop-drop}
-use Rattle.format.specs.Parse.{Parsed, refused, got, Parser, both, times, whole}
+use Rattle.format.specs.Parse.{refused, got, Parser}
 use Rattle.format.specs.Records.{Record, definition, substitute, call, let', switch, create, invoke, literal, op, ifc, clause'}
-use Rattle.format.specs.Kinds.{kindOf, clausesOf, bodies}
-use Rattle.fields.specs.Found.{foundIn, stop, Within}
-use Rattle.fields.specs.declared.Found.{Found}
+use Rattle.format.specs.Kinds.{kindOf, clausesOf}
+use Rattle.fields.specs.Found.{foundIn, stop}
 use Rattle.fields.specs.declared.Found.the-variants.{At, Nothing}
 use Rattle.format.specs.Shape.{clauseHead, definitionHead}
+use Rattle.format.proofs.KindLaws.{kind-below}
 use Rattle.fields.proofs.Stops.{stop-none, never-stops}
 use Rattle.directory.specs.Slots.{recordsIn, Ready}
 use Rattle.directory.specs.declared.Frame.{Frame}
 use Rattle.directory.proofs.Places.{records-length, Spot}
 use Rattle.shape.specs.Nodes.{nodeOf}
-use Rattle.shape.specs.declared.Node.{Node}
 use Rattle.shape.specs.declared.Node.the-variants.{Is, End}
 
 -- the node of the record at a place of an image
@@ -68,20 +66,7 @@ at-end p rs i e h = go (drop i rs) refl h (leb i (length rs))
     go (r ∷ l) q h t = let z : _≡_ {A = ℕ} 0 1 = cc in absurd (omega arith)
 
 pub kind-small : (rs : List Record) (i k c : ℕ) → nodeOf (drop i rs) ≡ Is k c → k < 12
-kind-small rs i k c h = let p = place rs i k c h in rw (p .kind) (small (p .head))
-  where
-    small : (r : Record) → kindOf r < 12
-    small (definition i bs) = omega arith
-    small (substitute ps) = omega arith
-    small (call i bs) = omega arith
-    small (let' v t g bs) = omega arith
-    small (switch v t n) = omega arith
-    small (create v t e n) = omega arith
-    small (invoke v g t bs) = omega arith
-    small (literal n v) = omega arith
-    small (op f o g v) = omega arith
-    small (ifc c f g) = omega arith
-    small (clause' x bs) = omega arith
+kind-small rs i k c h = let p = place rs i k c h in rw (p .kind) (kind-below (p .head))
 
 clause-yes : (r : Record) → kindOf r ≡ 11 → (n : ℕ) (l : List Record) → foundIn n (clauseHead (r ∷ l)) ≡ foundIn {A = ℕ} n (got 0 l)
 clause-yes (definition i bs) h n l = absurd (omega arith)

@@ -1,3 +1,3 @@
 -- The laws of the walk.
-mod Heads
+pub mod Heads
 mod Steps

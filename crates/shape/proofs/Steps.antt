@@ -1,14 +1,13 @@
 -- The steps of the walk: a statement is its record, then its clauses, then its bodies; a program its definitions. Assumes nothing.
-use Prim.Native.Nat.{ℕ, zero, suc, _+_, _-_, _≤_, _<_}
+use Prim.Native.Nat.{ℕ, zero, suc, _+_, _-_, _≤_}
 use mathlib.Core.List.{List, [], _∷_}
 use mathlib.Core.Bool.{Bool, true, false, cond}
 use mathlib.Core.Logic.{_⊎_, inl, inr, ⊎-elim}
 use mathlib.Core.Path.{_≡_, refl, ap, sym, _∙_, subst}
 use native.Mathlib.Omega.{arith}
 use borrow.Author.Tests.{le-leb, eqb-true, eqb-false, eq-eqb, ne-eqb}
-use lib.Dec.{leb, eqb}
-use lib.ListN.{length, drop, length-drop, length-append}
-use lib.Seq.{drop-drop}
+use lib.Dec.{eqb}
+use lib.ListN.{length, drop, length-append}
 use Rattle.format.specs.Parse.{Parsed, refused, got, Parser, both, times, whole}
 use Rattle.format.specs.Records.{Record, definition, substitute, call, let', switch, create, invoke, literal, op, ifc, clause'}
 use Rattle.format.specs.Kinds.{kindOf, clausesOf, bodies}
@@ -24,33 +23,32 @@ use Rattle.fields.proofs.Stops.{stop-via, stop-both, stop-none, stop-times, sto
 use Rattle.shape.specs.Nodes.{nodeOf, partsOf, partsAt}
 use Rattle.shape.specs.declared.Node.{Node}
 use Rattle.shape.specs.declared.Node.the-variants.{Is, End}
-use Rattle.shape.specs.declared.Parts.{Parts}
 use Rattle.shape.specs.declared.Parts.the-variants.{Follow, Missing}
-use Rattle.shape.proofs.Heads.{Place, place, at-record, at-end, place-within}
+use Rattle.shape.proofs.Heads.{place, at-record, at-end, place-within}
 
 -- the bodies and the clauses of a statement, with p for their statements
 module _ (d : ℕ) (p : Parser Record Stmt) (x : Exact flatten (Depth d) p) (rs : List Record) where
-  T : ℕ → Found → Found
-  T n f = stop (times n p) rs f
+  past-bodies : ℕ → Found → Found
+  past-bodies n f = stop (times n p) rs f
 
-  C : ℕ → Found → Found
-  C n f = stop (clauses p n) rs f
+  past-clauses : ℕ → Found → Found
+  past-clauses n f = stop (clauses p n) rs f
 
-  T0 : (f : Found) → Within (length rs) f → T 0 f ≡ f
-  unfolding T
-  T0 f h = stop-none [] rs f h
+  no-bodies : (f : Found) → Within (length rs) f → past-bodies 0 f ≡ f
+  unfolding past-bodies
+  no-bodies f h = stop-none [] rs f h
 
-  T1 : (f : Found) → T 1 f ≡ stop p rs f
-  unfolding T
-  T1 f = stop-times x 0 rs f ∙ T0 (stop p rs f) (stop-within p rs f)
+  one-body : (f : Found) → past-bodies 1 f ≡ stop p rs f
+  unfolding past-bodies
+  one-body f = stop-times x 0 rs f ∙ no-bodies (stop p rs f) (stop-within p rs f)
 
-  T2 : (f : Found) → T 2 f ≡ stop p rs (stop p rs f)
-  unfolding T
-  T2 f = stop-times x 1 rs f ∙ T1 (stop p rs f)
+  two-bodies : (f : Found) → past-bodies 2 f ≡ stop p rs (stop p rs f)
+  unfolding past-bodies
+  two-bodies f = stop-times x 1 rs f ∙ one-body (stop p rs f)
 
-  C0 : (f : Found) → Within (length rs) f → C 0 f ≡ f
-  unfolding C clauses
-  C0 f h = stop-none end rs f h
+  no-clauses : (f : Found) → Within (length rs) f → past-clauses 0 f ≡ f
+  unfolding past-clauses clauses
+  no-clauses f h = stop-none end rs f h
 
   -- a clause, its body, and then the others
   pub clauses-more : (n : ℕ) (f : Found) → stop (clauses p (suc n)) rs f ≡ stop (clauses p n) rs (stop p rs (stop clauseHead rs f))
@@ -60,18 +58,18 @@ module _ (d : ℕ) (p : Parser Record Stmt) (x : Exact flatten (Depth d) p) (rs 
       ∙ (stop-both (both p (clauses p n)) clauseHead-exact rs f ∙ stop-both (clauses p n) x rs (stop clauseHead rs f))
 
   after : (i : ℕ) (r : Record) → i + 1 ≤ length rs → drop i rs ≡ r ∷ drop (i + 1) rs → (kindOf r ≡ 1 → ⊥) → (kindOf r ≡ 11 → ⊥)
-      → stop (step p) rs (At i) ≡ T (bodies (kindOf r)) (C (clausesOf r) (At (i + 1)))
-  unfolding step C T
+      → stop (step p) rs (At i) ≡ past-bodies (bodies (kindOf r)) (past-clauses (clausesOf r) (At (i + 1)))
+  unfolding step past-clauses past-bodies
   after i (definition j bs) h l a b = absurd (a refl)
-  after i (substitute ps) h l a b = at-record (step p) p rs i (substitute ps) h l (λ n m. found-via _ n (p m)) ∙ (sym (T1 (At (i + 1))) ∙ ap (T 1) (sym (C0 (At (i + 1)) h)))
-  after i (call j bs) h l a b = at-record {B = ℕ} (step p) (λ m. got 0 m) rs i (call j bs) h l (λ n m. refl) ∙ (stop-none {A = ℕ} 0 rs (At (i + 1)) h ∙ (sym (C0 (At (i + 1)) h) ∙ sym (T0 _ (stop-within (clauses p 0) rs (At (i + 1))))))
-  after i (let' v ty o2 bs) h l a b = at-record (step p) p rs i (let' v ty o2 bs) h l (λ n m. found-via _ n (p m)) ∙ (sym (T1 (At (i + 1))) ∙ ap (T 1) (sym (C0 (At (i + 1)) h)))
-  after i (switch v ty q) h l a b = at-record (step p) (clauses p q) rs i (switch v ty q) h l (λ n m. found-via _ n (clauses p q m)) ∙ sym (T0 _ (stop-within (clauses p q) rs (At (i + 1))))
-  after i (create v ty o4 q) h l a b = at-record (step p) (both (clauses p q) p) rs i (create v ty o4 q) h l (λ n m. found-via _ n (both (clauses p q) p m)) ∙ (stop-both p (clauses-exact d x q) rs (At (i + 1)) ∙ sym (T1 _))
-  after i (invoke v o2 ty bs) h l a b = at-record {B = ℕ} (step p) (λ m. got 0 m) rs i (invoke v o2 ty bs) h l (λ n m. refl) ∙ (stop-none {A = ℕ} 0 rs (At (i + 1)) h ∙ (sym (C0 (At (i + 1)) h) ∙ sym (T0 _ (stop-within (clauses p 0) rs (At (i + 1))))))
-  after i (literal q v) h l a b = at-record (step p) p rs i (literal q v) h l (λ n m. found-via _ n (p m)) ∙ (sym (T1 (At (i + 1))) ∙ ap (T 1) (sym (C0 (At (i + 1)) h)))
-  after i (op o3 o1 o2 v) h l a b = at-record (step p) p rs i (op o3 o1 o2 v) h l (λ n m. found-via _ n (p m)) ∙ (sym (T1 (At (i + 1))) ∙ ap (T 1) (sym (C0 (At (i + 1)) h)))
-  after i (ifc u o3 o2) h l a b = at-record (step p) (both p p) rs i (ifc u o3 o2) h l (λ n m. found-via _ n (both p p m)) ∙ (stop-both p x rs (At (i + 1)) ∙ (sym (T2 (At (i + 1))) ∙ ap (T 2) (sym (C0 (At (i + 1)) h))))
+  after i (substitute ps) h l a b = at-record (step p) p rs i (substitute ps) h l (λ n m. found-via _ n (p m)) ∙ (sym (one-body (At (i + 1))) ∙ ap (past-bodies 1) (sym (no-clauses (At (i + 1)) h)))
+  after i (call j bs) h l a b = at-record {B = ℕ} (step p) (λ m. got 0 m) rs i (call j bs) h l (λ n m. refl) ∙ (stop-none {A = ℕ} 0 rs (At (i + 1)) h ∙ (sym (no-clauses (At (i + 1)) h) ∙ sym (no-bodies _ (stop-within (clauses p 0) rs (At (i + 1))))))
+  after i (let' v ty o2 bs) h l a b = at-record (step p) p rs i (let' v ty o2 bs) h l (λ n m. found-via _ n (p m)) ∙ (sym (one-body (At (i + 1))) ∙ ap (past-bodies 1) (sym (no-clauses (At (i + 1)) h)))
+  after i (switch v ty q) h l a b = at-record (step p) (clauses p q) rs i (switch v ty q) h l (λ n m. found-via _ n (clauses p q m)) ∙ sym (no-bodies _ (stop-within (clauses p q) rs (At (i + 1))))
+  after i (create v ty o4 q) h l a b = at-record (step p) (both (clauses p q) p) rs i (create v ty o4 q) h l (λ n m. found-via _ n (both (clauses p q) p m)) ∙ (stop-both p (clauses-exact d x q) rs (At (i + 1)) ∙ sym (one-body _))
+  after i (invoke v o2 ty bs) h l a b = at-record {B = ℕ} (step p) (λ m. got 0 m) rs i (invoke v o2 ty bs) h l (λ n m. refl) ∙ (stop-none {A = ℕ} 0 rs (At (i + 1)) h ∙ (sym (no-clauses (At (i + 1)) h) ∙ sym (no-bodies _ (stop-within (clauses p 0) rs (At (i + 1))))))
+  after i (literal q v) h l a b = at-record (step p) p rs i (literal q v) h l (λ n m. found-via _ n (p m)) ∙ (sym (one-body (At (i + 1))) ∙ ap (past-bodies 1) (sym (no-clauses (At (i + 1)) h)))
+  after i (op o3 o1 o2 v) h l a b = at-record (step p) p rs i (op o3 o1 o2 v) h l (λ n m. found-via _ n (p m)) ∙ (sym (one-body (At (i + 1))) ∙ ap (past-bodies 1) (sym (no-clauses (At (i + 1)) h)))
+  after i (ifc u o3 o2) h l a b = at-record (step p) (both p p) rs i (ifc u o3 o2) h l (λ n m. found-via _ n (both p p m)) ∙ (stop-both p x rs (At (i + 1)) ∙ (sym (two-bodies (At (i + 1))) ∙ ap (past-bodies 2) (sym (no-clauses (At (i + 1)) h))))
   after i (clause' x bs) h l a b = absurd (b refl)
 
   never : (i : ℕ) (r : Record) → i + 1 ≤ length rs → drop i rs ≡ r ∷ drop (i + 1) rs → (kindOf r ≡ 1) ⊎ (kindOf r ≡ 11) → stop (step p) rs (At i) ≡ Nothing
@@ -108,7 +106,7 @@ module _ (rs : List Record) where
   -- the clauses and the bodies that follow a statement's record
   pub stmt-node : (d i k c : ℕ) → nodeOf (drop i rs) ≡ Is k c → (d ≡ 0 → ⊥) → (k ≡ 1 → ⊥) → (k ≡ 11 → ⊥)
       → stop (stmt d) rs (At i) ≡ stop (times (bodies k) (stmt (d - 1))) rs (stop (clauses (stmt (d - 1)) c) rs (At (i + 1)))
-  unfolding stmt C T
+  unfolding stmt past-clauses past-bodies
   stmt-node zero i k c h z a b = absurd (z refl)
   stmt-node (suc d) i k c h z a b =
       let v = place rs i k c h in

@@ -7,7 +7,7 @@ use fields::count;
 use format::Layout;
 use records::kinds::Kind;
 ghost use mathlib.Core.Path.{_≡_};
-ghost use Prim.Native.Nat.{_+_, _≤_, _<_};
+ghost use Prim.Native.Nat.{_+_, _<_};
 ghost use lib.ListN.{length, drop};
 ghost use Rattle.format.specs.Parse.{times};
 ghost use Rattle.format.specs.Shape.{stmt, clauses, clauseHead, definitionHead, definitions};
@@ -131,7 +131,7 @@ fn statement_parts(s: &[u8], g: Frame, f: Found) -> Parts
 }
 
 // Past a statement of depth at most `depth`.
-fn statement(s: &[u8], g: Frame, depth: usize, f: Found) -> Found
+pub fn statement(s: &[u8], g: Frame, depth: usize, f: Found) -> Found
     requires { ⌜ Ready g (now s) ⌝ }
     ensures { λ r. ⌜ r ≡ stop (stmt depth) (recordsIn g (now (s .entry))) f ⌝ }
 {

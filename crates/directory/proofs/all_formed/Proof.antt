@@ -1,13 +1,11 @@
 use borrow.Author.Needs.{needs}
-use Prim.Native.Nat.{_≤_}
 use mathlib.Core.Path.{_≡_, refl, sym, _∙_}
 use mathlib.Core.Bool.{true}
 use native.Mathlib.Omega.{arith}
-use lib.ListN.{length}
 use denote.Ref.{now}
 use Rattle.format.specs.Image.{tiledFrom}
 use Rattle.directory.specs.Slots.{formedFrom}
-use Rattle.directory.proofs.Tiling.{slot-room, tiled-le, tiled-next, formed-step, formed-short, formed-end}
+use Rattle.directory.proofs.Tiling.{slot-room, tiled-le, tiled-next, formed-short, formed-end}
 use Rattle.directory.proofs.Tiling.{formed-part}
 use Rattle.directory.proofs.all_formed.Statement.{statement}
 use Rattle.directory.proofs.all_formed.Tie as tie

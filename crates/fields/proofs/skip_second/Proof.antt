@@ -1,7 +1,7 @@
 use borrow.Author.Needs.{needs}
 use mathlib.Core.Path.{sym}
 use denote.Ref.{now}
-use Rattle.format.specs.Fields.{list, identifier}
+use Rattle.format.specs.Fields.{identifier}
 use Rattle.fields.proofs.Stops.{marked-none, marked-some, marked-bad, marked-past, stop-nothing}
 use Rattle.fields.proofs.skip_second.Statement.{statement}
 use Rattle.fields.proofs.skip_second.Tie as tie

@@ -1,7 +1,7 @@
 use borrow.Author.Needs.{needs}
 use mathlib.Core.Path.{sym}
 use denote.Ref.{now}
-use Rattle.format.specs.Fields.{maxCount, binding, pair}
+use Rattle.format.specs.Fields.{maxCount, pair}
 use Rattle.fields.proofs.Stops.{counted-good, counted-bad, counted-past, stop-nothing}
 use Rattle.fields.proofs.skip_substitution.Statement.{statement}
 use Rattle.fields.proofs.skip_substitution.Tie as tie

@@ -1,8 +1,5 @@
 use native.Mathlib.Omega.{arith}
-use mathlib.Core.Path.{_≡_, refl, ap, _∙_}
-use mir.Syntax.{w64}
-use mir.Val.{SFits}
-use lib.IntN.{pos, natAbs, ℤ}
+use mathlib.Core.Path.{_∙_}
 use Rattle.integers.proofs.Signs.{back, below-fits, below-is, bits-neg, above-is, bits-pos}
 use Rattle.integers.proofs.bits.Statement.{statement}
 use Rattle.integers.proofs.bits.Tie as tie

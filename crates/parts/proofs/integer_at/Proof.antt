@@ -1,12 +1,12 @@
 use borrow.Author.Needs.{needs}
 use Prim.Native.Nat.{_+_}
 use native.Mathlib.Omega.{arith}
-use mathlib.Core.Path.{_≡_, sym, ap, _∙_, subst}
+use mathlib.Core.Path.{sym, subst}
 use lib.ListN.{drop}
 use lib.IntN.{ℤ}
 use denote.Ref.{now}
 use mir.Syntax.{w64}
-use mir.Val.{SFits, ofZ, toZ}
+use mir.Val.{SFits}
 use Rattle.format.specs.Fields.{integerBytes}
 use Rattle.parts.specs.Standing.{ReadsAs}
 use Rattle.parts.proofs.StandingLaws.{number-below, integer-reads}

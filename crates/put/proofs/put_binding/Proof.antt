@@ -1,6 +1,5 @@
 use borrow.Author.Needs.{needs}
 use mathlib.Core.List.{_∷_, []}
-use mathlib.Core.Path.{_∙_, ap}
 use native.Mathlib.Omega.{arith}
 use Rattle.format.specs.Fields.{chiralityCode, identifierBytes}
 use Rattle.format.proofs.FieldLaws.{identifier-length}

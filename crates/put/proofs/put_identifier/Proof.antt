@@ -1,9 +1,5 @@
 use borrow.Author.Needs.{needs}
-use mathlib.Core.List.{_∷_, []}
-use mathlib.Core.Path.{_≡_, sym, subst}
-use denote.Ref.{now}
 use Rattle.format.specs.Parse.{field}
-use Rattle.put.specs.Puts.{Puts}
 use Rattle.put.proofs.Putting.{puts-then}
 use Rattle.put.proofs.put_identifier.Statement.{statement}
 use Rattle.put.proofs.put_identifier.Tie as tie

@@ -1,6 +1,6 @@
 use borrow.Author.Needs.{needs}
 use Prim.Native.Nat.{_/_, _%_}
-use mathlib.Core.Path.{_≡_, sym, ap, _∙_}
+use mathlib.Core.Path.{_≡_, ap, _∙_}
 use mir.Syntax.{w64}
 use mir.Val.{ofZ}
 use Rattle.format.specs.Parse.{field}

@@ -1,5 +1,5 @@
 use borrow.Author.Needs.{needs}
-use mathlib.Core.Path.{_≡_, sym, ap, _∙_, subst}
+use mathlib.Core.Path.{sym, ap, _∙_, subst}
 use denote.Ref.{now}
 use Rattle.format.specs.Layout.{layout1}
 use Rattle.reading.specs.Opening.{Known, openedOf}

@@ -1,0 +1,92 @@
+-- `enter_list` meets its contract. Assumes nothing.
+use Prim.Native.Nat.{_-_}
+use mathlib.Core.Path.{refl, sym}
+use native.Mathlib.Omega.{arith}
+use Rattle.syntax.specs.Context.{ids}
+use Rattle.scope.specs.Walk.{enterOne, enterAll}
+use Rattle.checking.specs.Nodes.{recordAt, listOf}
+use Rattle.checking.specs.Scoping.{Scope, scopedOf}
+use Rattle.checking.proofs.NodeLaws.{list-run, Left, left-start, left-inside, left-turn, left-end}
+use Rattle.checking.proofs.nodes.enter_list.Statement.{statement}
+use Rattle.checking.proofs.nodes.enter_list.Tie as tie
+
+abbrev Inv-loop : tie.InvT-loop
+Inv-loop s g i kind max-id w size start left₀ at₀ here₀ left at here =
+    Scope (here .scope) × Left (enterAll max-id) (g .id) s (enterAll max-id (ids (listOf (recordAt g s i))) (scopedOf here₀)) at left (scopedOf here)
+
+abbrev μ-loop : tie.MeasureT-loop
+μ-loop s g i kind max-id w size start left₀ at₀ here₀ left at here = left
+
+add-size : tie.Need-add-size Inv-loop μ-loop
+add-size c = omega (arith, c .before .pre .0 .ready .id)
+
+add-size-2 : tie.Need-add-size-2 Inv-loop μ-loop
+add-size-2 c = omega (arith, c .before .pre .0 .ready .id)
+
+list-at-requires : tie.Need-list-at-requires Inv-loop μ-loop
+list-at-requires c κs = (c .before .pre .0, c .before .pre .1 .0)
+
+shared-slice-read-count : tie.Need-shared-slice-read-count Inv-loop μ-loop
+shared-slice-read-count c = list-run (c .before .before .before .args .g .id) (c .before .list-at .ensures) .inside
+
+count-requires : tie.Need-count-requires Inv-loop μ-loop
+count-requires c κs = tt
+
+add-at : tie.Need-add-at Inv-loop μ-loop
+add-at c = omega (arith, list-run (c .before .before .before .before .args .g .id) (c .before .before .list-at .ensures) .inside)
+
+loop-holds : tie.Need-loop-holds Inv-loop μ-loop
+loop-holds c =
+    let a = c .before .before .before .before .args in
+    (c .before .before .before .before .pre .1 .1, left-start (enterAll (a .max-id)) (scopedOf (a .e)) (c .before .before .list-at .ensures) (c .count .ensures))
+
+identifier-at-requires : tie.Need-identifier-at-requires Inv-loop μ-loop
+identifier-at-requires c κs =
+    let a = c .before .before .before .before .before .before .args in
+    let h = left-inside (enterAll (a .max-id)) (c .before .loop .inv .1) (c .loop-test .taken) in
+    record { width = c .before .before .before .before .before .before .pre .0 .ready .id .1; inside = omega (arith, h) }
+
+enter-one-requires : tie.Need-enter-one-requires Inv-loop μ-loop
+enter-one-requires c κs = c .before .before .loop .inv .0
+
+add-at-2 : tie.Need-add-at-2 Inv-loop μ-loop
+add-at-2 c =
+    let a = c .before .before .before .before .before .before .before .before .args in
+    omega (arith, left-inside (enterAll (a .max-id)) (c .before .before .before .loop .inv .1) (c .before .before .loop-test .taken))
+
+sub-left : tie.Need-sub-left Inv-loop μ-loop
+sub-left c = omega arith
+
+loop-less : tie.Need-loop-less Inv-loop μ-loop
+loop-less c = omega arith
+
+loop-again : tie.Need-loop-again Inv-loop μ-loop
+loop-again c =
+    let a = c .before .before .before .before .before .before .before .before .args in
+    (c .enter-one .ensures .scope, left-turn (enterAll (a .max-id)) (enterOne (a .max-id)) (λ x xs v. refl) (c .before .before .before .loop .inv .1) (c .before .before .loop-test .taken) (c .before .identifier-at .ensures) (c .enter-one .ensures .is))
+
+returns : tie.Need-returns Inv-loop μ-loop
+returns c =
+    let a = c .before .before .before .before .before .before .args in
+    record { is = sym (left-end (enterAll (a .max-id)) (λ v. refl) (c .before .loop .inv .1) (omega (arith, c .loop-test .left))); scope = c .before .loop .inv .0 }
+
+pub enter-list-spec : {M : Type 1} → statement M
+enter-list-spec =
+    tie.close
+    (tie.spec
+    Inv-loop
+    μ-loop
+    add-size
+    add-size-2
+    list-at-requires
+    shared-slice-read-count
+    count-requires
+    add-at
+    loop-holds
+    identifier-at-requires
+    enter-one-requires
+    add-at-2
+    sub-left
+    loop-less
+    loop-again
+    returns)

@@ -1,0 +1,23 @@
+-- `use_operand` meets its contract. Assumes nothing.
+use Prim.Native.Nat.{_-_}
+use mathlib.Core.Path.{ap, _∙_}
+use Rattle.syntax.specs.Arrays.{setOf}
+use Rattle.syntax.specs.declared.names.Identifier.{Identifier}
+use Rattle.scope.specs.Walk.{useOne}
+use borrow.Author.Needs.{needs}
+use Rattle.checking.proofs.nodes.use_operand.Statement.{statement}
+use Rattle.checking.proofs.nodes.use_operand.Tie as tie
+
+operand-requires : tie.Need-operand-requires
+operand-requires c κs = search needs
+
+use-one-requires : tie.Need-use-one-requires
+use-one-requires c κs = search needs
+
+returns : tie.Need-returns
+returns c =
+    let a = c .before .before .before .args in
+    c .use-one .ensures ∙ ap (λ (y : Identifier). useOne (setOf (a .scope)) (y .id) (a .v)) (c .before .operand .ensures)
+
+pub use-operand-spec : {M : Type 1} → statement M
+use-operand-spec = tie.close (tie.spec operand-requires use-one-requires returns)

@@ -1,0 +1,6 @@
+-- What the functions of the scope check answer for one record, and for the records from a place on.
+pub mod Nodes
+pub mod Scoping
+pub mod Walks
+pub mod Definitions
+pub mod Deciding

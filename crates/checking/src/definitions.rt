@@ -1,0 +1,61 @@
+// The definitions of an image: how deep they are (question 7), and the walk over them.
+use crate::walk::Walked;
+use crate::walk::enter_head;
+use crate::walk::statement;
+use directory::Frame;
+use fields::Found;
+use scope::Verdict;
+use shape::statement as shape_statement;
+use syntax::sets::IdSet;
+ghost use mathlib.Core.Path.{_≡_};
+ghost use lib.Dec.{leb};
+ghost use Rattle.model.specs.Sizes.{depthDefs};
+ghost use Rattle.directory.specs.Slots.{Ready, recordsIn};
+ghost use Rattle.scope.specs.Walk.{clean, walkDefs};
+ghost use Rattle.checking.specs.Definitions.{defsIn, DefsStand};
+
+// The depth of a source (question 7).
+pub const MAX_DEPTH: usize = 64;
+
+// Question 7: are the bodies of the d definitions at most 64 statements deep?
+pub fn all_shallow(s: &[u8], g: Frame, d: usize) -> bool
+    requires { ⌜ Ready g (now s) × DefsStand 128 d (recordsIn g (now s)) 0 (defsIn d (recordsIn g (now s))) ⌝ }
+    ensures { λ r. ⌜ r ≡ leb (depthDefs (defsIn d (recordsIn g (now (s .entry))))) 64 ⌝ }
+{
+    let mut at = 0;
+    let mut left = d;
+    while 0 < left {
+        match shape_statement(s, g, MAX_DEPTH, Found::At(at + 1)) {
+            Found::At(next) => {
+                at = next;
+                left = left - 1;
+            }
+            Found::Nothing => {
+                return false;
+            }
+        }
+    }
+    true
+}
+
+// The d definitions, each of depth at most 64.
+pub fn walk_definitions(s: &[u8], g: Frame, d: usize, max_id: u32) -> Verdict
+    requires { ⌜ Ready g (now s) × DefsStand 64 d (recordsIn g (now s)) 0 (defsIn d (recordsIn g (now s))) ⌝ }
+    ensures { λ r. ⌜ r ≡ walkDefs (defsIn d (recordsIn g (now (s .entry)))) «max_id» clean ⌝ }
+{
+    let scope = IdSet::empty();
+    let verdict = Verdict {
+        room: true,
+        binders: true,
+        uses: true,
+        ids: true,
+    };
+    let mut here = Walked { next: 0, verdict };
+    let mut left = d;
+    while 0 < left {
+        let e = enter_head(s, g, 1, here, scope, max_id);
+        here = statement(s, g, MAX_DEPTH, here.next + 1, e.scope, max_id, e.verdict);
+        left = left - 1;
+    }
+    here.verdict
+}

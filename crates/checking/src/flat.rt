@@ -1,0 +1,113 @@
+// The questions that are asked of each record alone: question 6, and the counts of question 7.
+use directory::Frame;
+use parts::byte;
+use records::kinds::Kind;
+use shape::Node;
+use shape::look;
+ghost use mathlib.Core.Path.{_≡_};
+ghost use Prim.Native.Nat.{_<_};
+ghost use lib.ListN.{drop};
+ghost use Rattle.format.specs.Kinds.{kindOf};
+ghost use Rattle.scope.specs.Flat.{allRecords, plainRecord, smallRecord};
+ghost use Rattle.directory.specs.Slots.{Ready, recordsIn};
+ghost use Rattle.parts.specs.Standing.{headOf};
+ghost use Rattle.checking.specs.Nodes.{recordAt, At, smallEnvironment};
+
+// The largest count in a record of a source (question 7).
+pub const MAX_COUNT: u8 = 32;
+
+// Question 6 of the record at index i.
+fn plain_record(s: &[u8], g: Frame, i: usize) -> bool
+    requires { ⌜ Ready g (now s) ⌝ }
+    ensures { λ r. ⌜ r ≡ plainRecord (recordAt g (now (s .entry)) i) ⌝ }
+{
+    match look(s, g, i) {
+        Node::Is { kind, clauses: _ } => {
+            if kind == 2 {
+                return false;
+            }
+            if kind == 6 {
+                let w = g.id;
+                return byte(s, g, i, Kind::fixed(6, w)) == 0;
+            }
+            true
+        }
+        Node::End => true,
+    }
+}
+
+// Question 6: is the image free of Substitute and of environments?
+pub fn all_plain(s: &[u8], g: Frame) -> bool
+    requires { ⌜ Ready g (now s) ⌝ }
+    ensures { λ r. ⌜ r ≡ allRecords plainRecord (recordsIn g (now (s .entry))) ⌝ }
+{
+    let count = g.count;
+    let mut i = 0;
+    while i < count {
+        if plain_record(s, g, i) {
+            i += 1;
+        } else {
+            return false;
+        }
+    }
+    true
+}
+
+// Has the environment of the Create at index i few bindings, if there is one?
+fn small_environment(s: &[u8], g: Frame, i: usize) -> bool
+    requires { ⌜ At g (now s) i 6 ⌝ }
+    ensures { λ r. ⌜ r ≡ smallEnvironment (recordAt g (now (s .entry)) i) ⌝ }
+{
+    let w = g.id;
+    let mark = Kind::fixed(6, w);
+    if byte(s, g, i, mark) == 0 {
+        return true;
+    }
+    byte(s, g, i, mark + 1) <= MAX_COUNT
+}
+
+// The counts in the record at index i (question 7).
+fn small_record(s: &[u8], g: Frame, i: usize) -> bool
+    requires { ⌜ Ready g (now s) ⌝ }
+    ensures { λ r. ⌜ r ≡ smallRecord (recordAt g (now (s .entry)) i) ⌝ }
+{
+    match look(s, g, i) {
+        Node::Is { kind, clauses } => {
+            if kind == 8 {
+                return true;
+            }
+            if kind == 9 {
+                return true;
+            }
+            if kind == 10 {
+                return true;
+            }
+            if kind == 6 {
+                if small_environment(s, g, i) {
+                    return clauses <= MAX_COUNT;
+                }
+                return false;
+            }
+            let w = g.id;
+            byte(s, g, i, Kind::fixed(kind, w)) <= MAX_COUNT
+        }
+        Node::End => true,
+    }
+}
+
+// Is every count in the image at most 32?
+pub fn all_small(s: &[u8], g: Frame) -> bool
+    requires { ⌜ Ready g (now s) ⌝ }
+    ensures { λ r. ⌜ r ≡ allRecords smallRecord (recordsIn g (now (s .entry))) ⌝ }
+{
+    let count = g.count;
+    let mut i = 0;
+    while i < count {
+        if small_record(s, g, i) {
+            i += 1;
+        } else {
+            return false;
+        }
+    }
+    true
+}

@@ -1,0 +1,2 @@
+-- Rows of marks: the loops over them.
+pub mod MarkedLaws

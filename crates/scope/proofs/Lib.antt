@@ -1,0 +1,9 @@
+-- Laws of the walks.
+pub mod WalkLaws
+pub mod FlatLaws
+pub mod MarkLaws
+pub mod RowLaws
+pub mod FreeViews
+pub mod Inside
+pub mod MarkViews
+pub mod WalkExamples

@@ -1,0 +1,125 @@
+-- What the scope check and annotation answer: the calls of `axcut_check` and `axcut_annotate`, for every input.
+use Prim.Native.Nat.{ℕ}
+use mathlib.Core.Bool.{Bool, true, false}
+use mathlib.Core.List.{List, [], _∷_, _++_}
+use lib.Dec.{leb}
+use lib.ListN.{length, drop, replicate}
+use lib.Seq.{sets}
+use Rattle.syntax.specs.declared.names.VarId.{VarId}
+use Rattle.model.specs.Syntax.{Prog}
+use Rattle.model.specs.FreeVars.{annotations}
+use Rattle.model.specs.Questions.{question6, question7, question8, question9, question10}
+use Rattle.format.specs.declared.Layout.{Layout}
+use Rattle.format.specs.declared.Refusal.{Refusal}
+use Rattle.format.specs.declared.Refusal.the-variants.{Size, LayoutNumber, Directory, RecordForm, Shape, Linearized, Limits, Binders, Scope, MaxId, Draws, Room, Place}
+use Rattle.format.specs.declared.Answer.{Answer}
+use Rattle.format.specs.declared.Answer.the-variants.{Accepted, Refused}
+use Rattle.format.specs.Parse.{each, field}
+use Rattle.format.specs.Layout.{layout1}
+use Rattle.format.specs.Records.{Record, definition, substitute, call, let', switch, create, invoke, literal, op, ifc, clause'}
+use Rattle.format.specs.Shape.{flattenDefs, maxDepth}
+use Rattle.format.specs.Answers.{Report, report}
+use Rattle.format.specs.Reading.{Reading, refuse, accept, asked, reading, answerOf}
+use Rattle.trees.specs.Places.{stmtAt}
+
+-- what is asked of a program that is read
+abbrev pub afterReading : Reading → (Prog → Reading) → Reading
+afterReading (refuse q) k = refuse q
+afterReading (accept p) k = k p
+
+-- document 01, "The questions": the scope check 1 to 10
+unfoldable pub checking : Prog → Reading
+checking P =
+    asked (question6 P) Linearized
+    (asked (question7 P) Limits
+    (asked (question8 P) Binders
+    (asked (question9 P) Scope
+    (asked (question10 P) MaxId
+    (accept P)))))
+
+unfoldable pub checkOf : Layout → List ℕ → Reading
+checkOf L s = afterReading (reading L s) checking
+
+-- a call of `axcut_check`. document 01, "The questions": acceptance reports the bytes written (0 for reading and the scope check)
+unfoldable pub checkCall : List ℕ → Report
+checkCall s = report (answerOf (checkOf layout1 s))
+
+-- what a call with a lent buffer answers: a refusal, or bytes and a max_id
+pub data Reply : Type 0 where
+  refuses : Refusal → Reply
+  writes : (bytes : List ℕ) (maxId : ℕ) → Reply
+
+abbrev pub replyAnswer : Reply → Answer
+replyAnswer (refuses q) = Refused q
+replyAnswer (writes bytes m) = Accepted (length bytes) m
+
+-- document 01, "The questions": numbers 11 and 12 set the whole output buffer to zero; others leave it
+abbrev pub afterRefusal : Refusal → List ℕ → List ℕ
+afterRefusal Size out = out
+afterRefusal LayoutNumber out = out
+afterRefusal Directory out = out
+afterRefusal RecordForm out = out
+afterRefusal Shape out = out
+afterRefusal Linearized out = out
+afterRefusal Limits out = out
+afterRefusal Binders out = out
+afterRefusal Scope out = out
+afterRefusal MaxId out = out
+afterRefusal Draws out = replicate (length out) 0
+afterRefusal Room out = replicate (length out) 0
+afterRefusal Place out = out
+
+-- .. after acceptance, bytes past the length stay
+abbrev pub replyBuffer : Reply → List ℕ → List ℕ
+replyBuffer (refuses q) out = afterRefusal q out
+replyBuffer (writes bytes m) out = sets out 0 bytes
+
+-- document 01, question 13: below N and one with an annotation (Let, Switch, Create, Literal, Op)
+abbrev pub hasAnnotation : Record → Bool
+hasAnnotation (definition x Γ) = false
+hasAnnotation (substitute ps) = false
+hasAnnotation (call x Γ) = false
+hasAnnotation (let' v t g Γ) = true
+hasAnnotation (switch v t n) = true
+hasAnnotation (create v t e n) = true
+hasAnnotation (invoke v g t Γ) = false
+hasAnnotation (literal z v) = true
+hasAnnotation (op f o s v) = true
+hasAnnotation (ifc c f s) = false
+hasAnnotation (clause' x Γ) = false
+
+abbrev pub firstHas : List Record → Bool
+firstHas [] = false
+firstHas (r ∷ rs) = hasAnnotation r
+
+abbrev pub question13 : Prog → ℕ → Bool
+question13 P i = firstHas (drop i (flattenDefs (P .defs)))
+
+-- document 01, "The image": an annotation is a two-byte count and the IDs ascending, two bytes each
+abbrev pub setBytes : (w : ℕ) → List VarId → List ℕ
+setBytes w xs = field 2 (length xs) ++ each (λ (x : VarId). field w (x .0)) xs
+
+-- the annotation of the statement whose record is at place i
+unfoldable pub annotationBytes : (w : ℕ) → Prog → ℕ → List ℕ
+annotationBytes w P i = each (setBytes w) (annotations (stmtAt maxDepth (flattenDefs (P .defs)) i))
+
+-- a no is the answer; after a yes, the questions that follow decide
+abbrev pub askedOf : Bool → Refusal → Reply → Reply
+askedOf true q next = next
+askedOf false q next = refuses q
+
+abbrev pub replyAfter : Reading → (Prog → Reply) → Reply
+replyAfter (refuse q) k = refuses q
+replyAfter (accept p) k = k p
+
+-- document 01, "The questions": annotation 1 to 7, 13, 12. 12: does the answer fit the lent buffer?
+unfoldable pub annotating : (w : ℕ) → Prog → (place size : ℕ) → Reply
+annotating w P i size =
+    askedOf (question6 P) Linearized
+    (askedOf (question7 P) Limits
+    (askedOf (question13 P i) Place
+    (askedOf (leb (length (annotationBytes w P i)) size) Room
+    (writes (annotationBytes w P i) (P .maxId)))))
+
+unfoldable pub annotateOf : Layout → List ℕ → (place size : ℕ) → Reply
+annotateOf L s i size = replyAfter (reading L s) (λ P. annotating (L .id) P i size)

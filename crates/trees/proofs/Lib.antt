@@ -1,0 +1,3 @@
+-- Laws of the places of a program's parts.
+pub mod ViewLaws
+pub mod PlaceLaws

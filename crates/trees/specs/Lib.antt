@@ -1,0 +1,3 @@
+-- Which part of a program stands at a place of its records.
+pub mod Views
+pub mod Places

@@ -1,0 +1,2 @@
+-- The laws of sets with room.
+pub mod SetLaws

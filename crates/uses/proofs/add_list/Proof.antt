@@ -1,0 +1,93 @@
+use mathlib.Core.Path.{sym, subst, _∙_}
+use mathlib.Core.List.{_++_}
+use native.Mathlib.Omega.{arith}
+use Rattle.syntax.specs.Arrays.{setOf}
+use Rattle.syntax.specs.Context.{ids}
+use Rattle.checking.specs.Nodes.{recordAt, listOf}
+use Rattle.checking.proofs.NodeLaws.{list-run, Left, left-start, left-inside, left-turn, left-end}
+use Rattle.uses.specs.Sets.{Room}
+use Rattle.uses.proofs.SetLaws.{behind, oneBehind, behind-step, behind-none, room-more, room-holds}
+use Rattle.uses.proofs.add_list.Statement.{statement}
+use Rattle.uses.proofs.add_list.Tie as tie
+
+abbrev Inv-loop : tie.InvT-loop
+Inv-loop s g i kind w size start left₀ at₀ all₀ left at all =
+    Room all left × Left behind (g .id) s (setOf all₀ ++ ids (listOf (recordAt g s i))) at left (setOf all)
+
+abbrev μ-loop : tie.MeasureT-loop
+μ-loop s g i kind w size start left₀ at₀ all₀ left at all = left
+
+add-size : tie.Need-add-size Inv-loop μ-loop
+add-size c = omega (arith, c .before .pre .0 .ready .id)
+
+add-size-2 : tie.Need-add-size-2 Inv-loop μ-loop
+add-size-2 c = omega (arith, c .before .pre .0 .ready .id)
+
+list-at-requires : tie.Need-list-at-requires Inv-loop μ-loop
+list-at-requires c κs = (c .before .pre .0, c .before .pre .1 .0)
+
+shared-slice-read-count : tie.Need-shared-slice-read-count Inv-loop μ-loop
+shared-slice-read-count c = list-run (c .before .before .before .args .g .id) (c .before .list-at .ensures) .inside
+
+count-requires : tie.Need-count-requires Inv-loop μ-loop
+count-requires c κs = tt
+
+add-at : tie.Need-add-at Inv-loop μ-loop
+add-at c = omega (arith, list-run (c .before .before .before .before .args .g .id) (c .before .before .list-at .ensures) .inside)
+
+loop-holds : tie.Need-loop-holds Inv-loop μ-loop
+loop-holds c =
+    let a = c .before .before .before .before .args in
+    let n = list-run (a .g .id) (c .before .before .list-at .ensures) .count in (
+      subst (Room (a .set)) (sym (c .count .ensures ∙ n)) (c .before .before .before .before .pre .1 .1),
+      left-start behind (setOf (a .set)) (c .before .before .list-at .ensures) (c .count .ensures),
+    )
+
+identifier-at-requires : tie.Need-identifier-at-requires Inv-loop μ-loop
+identifier-at-requires c κs =
+    let h = left-inside behind (c .before .loop .inv .1) (c .loop-test .taken) in
+    record { width = c .before .before .before .before .before .before .pre .0 .ready .id .1; inside = omega (arith, h) }
+
+add-requires : tie.Need-add-requires Inv-loop μ-loop
+add-requires c κs = omega (arith, c .before .before .loop .inv .0 .small)
+
+add-at-2 : tie.Need-add-at-2 Inv-loop μ-loop
+add-at-2 c = omega (arith, left-inside behind (c .before .before .before .loop .inv .1) (c .before .before .loop-test .taken))
+
+sub-left : tie.Need-sub-left Inv-loop μ-loop
+sub-left c = omega arith
+
+loop-less : tie.Need-loop-less Inv-loop μ-loop
+loop-less c = omega arith
+
+loop-again : tie.Need-loop-again Inv-loop μ-loop
+loop-again c =
+    let l = c .before .before .before .loop in
+    let t = c .before .before .loop-test .taken in (
+      room-more (c .before .identifier-at .result .id) (l .inv .0) t (c .add .ensures),
+      left-turn behind oneBehind behind-step (l .inv .1) t (c .before .identifier-at .ensures) (c .add .ensures .list),
+    )
+
+returns : tie.Need-returns Inv-loop μ-loop
+returns c = room-holds (c .before .loop .inv .0) (left-end behind behind-none (c .before .loop .inv .1) (omega (arith, c .loop-test .left)))
+
+pub add-list-spec : {M : Type 1} → statement M
+add-list-spec =
+    tie.close
+    (tie.spec
+    Inv-loop
+    μ-loop
+    add-size
+    add-size-2
+    list-at-requires
+    shared-slice-read-count
+    count-requires
+    add-at
+    loop-holds
+    identifier-at-requires
+    add-requires
+    add-at-2
+    sub-left
+    loop-less
+    loop-again
+    returns)

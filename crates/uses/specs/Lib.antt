@@ -1,0 +1,2 @@
+-- Sets that the code holds.
+pub mod Sets
