@@ -30,7 +30,8 @@ use Rattle.scope.specs.declared.Verdict.{Verdict}
 use Rattle.scope.specs.Flat.{allRecords, plainRecord, smallRecord}
 use Rattle.scope.specs.Calls.{afterReading, checking, checkOf}
 use Rattle.scope.specs.Walk.{clean, walkDefs}
-use Rattle.scope.proofs.WalkLaws.{inRoom, Answered, walk-answers}
+use Rattle.scope.specs.Rooms.{inRoom}
+use Rattle.scope.proofs.WalkLaws.{Answered, walk-answers}
 use Rattle.scope.proofs.FlatLaws.{question6-flat, question7-flat}
 use Rattle.checking.specs.Definitions.{defsIn, DefsStand, Defined}
 use Rattle.checking.specs.Deciding.{decided, programIn}
@@ -145,6 +146,11 @@ module _ {d : ℕ} {rs : List Record} (h : Defined d rs) where
     limits n e =
         ap (λ (l : List Record). leb (length l) 2000 && (allRecords smallRecord l && leb (depthDefs (defsIn d rs)) 64)) (sym (h .is))
         ∙ ap (λ (k : ℕ). leb k 2000 && (allRecords smallRecord rs && leb (depthDefs (defsIn d rs)) 64)) e
+
+    -- question 7, from what the code asks and the walk's room
+    pub answer-room : (n : ℕ) → length rs ≡ n
+        → question7 P ≡ ((leb n 2000 && (allRecords smallRecord rs && leb (depthDefs (defsIn d rs)) 64)) && walkDefs (defsIn d rs) m clean .room)
+    answer-room n e = question7-is P ∙ rw (limits n e, ← walk-answers (defsIn d rs) m .room) refl
 
     pub answer-6 : allRecords plainRecord rs ≡ false → answerOf (checking P) ≡ Refused Linearized
     answer-6 e = not-plain P (plain-records false e)

@@ -1,31 +1,31 @@
--- Where the parts of a record stand in its bytes; what a record uses and binds, by its kind; and the loops over lists. Assumes nothing.
-use Prim.Native.Nat.{ℕ, _+_, _-_, _≤_, _<_}
+-- Where the identifiers of a record stand in its bytes, and what a record uses and binds, by its kind. Assumes nothing.
+use Prim.Native.Nat.{ℕ, _+_, _-_, _<_}
 use mathlib.Core.Path.{_≡_, refl, sym, ap, _∙_, subst}
-use mathlib.Core.Bool.{true, false, cond}
+use mathlib.Core.Bool.{cond}
 use mathlib.Core.List.{List, [], _∷_, _++_, append-nil, append-assoc}
 use mathlib.Core.Option.{none, some}
 use native.Mathlib.Omega.{arith}
 use lib.Dec.{eqb}
-use lib.ListN.{length, drop, getD, length-append, length-drop}
+use lib.ListN.{drop, getD, length-append}
 use lib.Seq.{drop-drop, drop-at}
-use Rattle.syntax.specs.Context.{Context, ids}
+use Rattle.syntax.specs.Context.{ids}
 use Rattle.syntax.specs.declared.names.Identifier.{Identifier}
-use Rattle.syntax.specs.declared.names.VarId.{VarId}
-use Rattle.syntax.specs.declared.context.ContextBinding.{ContextBinding}
 use Rattle.model.specs.FreeVars.{optionalId}
-use Rattle.format.specs.Parse.{each, All}
-use Rattle.format.specs.Fields.{operatorCode, chiralityCode, identifierBytes, typeBytes, bindingBytes, listBytes, IdentifierOk, BindingOk, ListOk}
+use Rattle.format.specs.Fields.{operatorCode, identifierBytes, IdentifierOk}
 use Rattle.format.specs.Records.{Record, definition, substitute, call, let', switch, create, invoke, literal, op, ifc, clause', recordBytes, RecordOk}
-use Rattle.format.specs.Kinds.{kindOf, fixed, tailBytes}
-use Rattle.format.proofs.FieldLaws.{field-length, identifier-length, binding-length}
-use Rattle.format.proofs.KindLaws.{tail-at, fixed-le}
+use Rattle.format.specs.Kinds.{kindOf, clausesOf, fixed, tailBytes}
+use Rattle.format.proofs.FieldLaws.{field-length, identifier-length}
+use Rattle.format.proofs.KindLaws.{tail-at}
+use Rattle.directory.specs.Slots.{recordsIn}
 use Rattle.directory.specs.declared.Frame.{Frame}
 use Rattle.directory.proofs.Places.{seen}
-use Rattle.parts.specs.Standing.{Stands, ReadsAs, RoomIn, headOf}
-use Rattle.parts.proofs.StandingLaws.{byte-run, first-run, second-run, stands-in, stands-room}
+use Rattle.shape.specs.Nodes.{nodeOf}
+use Rattle.shape.specs.declared.Node.the-variants.{Is}
+use Rattle.shape.proofs.Heads.{kind-small}
+use Rattle.parts.specs.Standing.{Stands, RoomIn, headOf}
+use Rattle.parts.proofs.StandingLaws.{stands-room}
 use Rattle.trees.specs.Views.{binders, usesOf}
-use Rattle.checking.specs.Nodes.{recordAt, At, hasList, listOf, firstAt, firstOf, operandOf, targetOf, secondOf}
-use Rattle.checking.proofs.TailLaws.{tail-from}
+use Rattle.checking.specs.Nodes.{recordAt, At, listOf, firstAt, firstOf, operandOf, targetOf, secondOf}
 
 -- the record at an index is within the limits of the layout
 pub record-ok : (g : Frame) (s : List ℕ) (i k : ℕ) → At g s i k → RecordOk (g .id) (recordAt g s i)
@@ -34,20 +34,11 @@ record-ok g s i k a =
     subst (λ (l : List Record). RecordOk (g .id) (headOf l)) (sym (v .list)) (v .ok)
 
 pub kind-below : (g : Frame) (s : List ℕ) (i k : ℕ) → At g s i k → k < 12
-kind-below g s i k a = subst (λ (n : ℕ). n < 12) (a .kind) (small (recordAt g s i))
-  where
-    small : (r : Record) → kindOf r < 12
-    small (definition x Γ) = omega arith
-    small (substitute ps) = omega arith
-    small (call x Γ) = omega arith
-    small (let' v t h Γ) = omega arith
-    small (switch v t n) = omega arith
-    small (create v t e n) = omega arith
-    small (invoke v h t Γ) = omega arith
-    small (literal z v) = omega arith
-    small (op f o j v) = omega arith
-    small (ifc c f j) = omega arith
-    small (clause' x Γ) = omega arith
+kind-below g s i k a =
+    let v = seen g s i (a .ready) (a .inside) in
+    let r = recordAt g s i in
+    let e : nodeOf (drop i (recordsIn g s)) ≡ Is (kindOf r) (clausesOf r) = rw (v .list) refl in
+    subst (λ (n : ℕ). n < 12) (a .kind) (kind-small (recordsIn g s) i (kindOf r) (clausesOf r) e)
 
 -- ── identifiers ──
 
@@ -161,6 +152,20 @@ module _ (w : ℕ) where
   }
   second-some (clause' x Γ) a ok q = absurd (omega arith)
 
+-- the same, of the record at an index
+module _ (g : Frame) (s : List ℕ) (i : ℕ) where
+  pub first-there : (k : ℕ) {p : ℕ} → At g s i k → (k ≡ 2 → ⊥) → p ≡ firstAt k → Stands (identifierBytes (g .id)) (IdentifierOk (g .id)) (recordBytes (g .id) (recordAt g s i)) p (firstOf (recordAt g s i))
+  first-there k a n e =
+      let r = recordAt g s i in
+      subst (λ (z : ℕ). Stands (identifierBytes (g .id)) (IdentifierOk (g .id)) (recordBytes (g .id) r) z (firstOf r)) (ap firstAt (a .kind) ∙ sym e)
+      (first-stands (g .id) r (λ q. n (sym (a .kind) ∙ q)) (record-ok g s i k a))
+
+  pub operand-there : At g s i 9 → Stands (identifierBytes (g .id)) (IdentifierOk (g .id)) (recordBytes (g .id) (recordAt g s i)) (4 + g .id) (operandOf (recordAt g s i))
+  operand-there a = operand-stands (g .id) (recordAt g s i) (a .kind) (record-ok g s i 9 a)
+
+  pub target-there : At g s i 9 → Stands (identifierBytes (g .id)) (IdentifierOk (g .id)) (recordBytes (g .id) (recordAt g s i)) (6 + (g .id + g .id)) (targetOf (recordAt g s i))
+  target-there a = target-stands (g .id) (recordAt g s i) (a .kind) (record-ok g s i 9 a)
+
 -- ── what a record uses and binds ──
 
 pub uses-are : (r : Record)
@@ -193,139 +198,3 @@ binders-are (literal z v) = refl
 binders-are (op f o j v) = refl
 binders-are (ifc c f j) = refl
 binders-are (clause' x Γ) = refl
-
--- ── lists ──
-
-no : {A : Type 0} → false ≡ true → A
-no e = let z : _≡_ {A = ℕ} 0 1 = cc (e) in absurd (omega arith)
-
-module _ (w : ℕ) where
-  list-tail : (r : Record) → hasList (kindOf r) ≡ true → RecordOk w r → (tailBytes w r ≡ listBytes w (listOf r)) × ListOk w (listOf r)
-  unfolding RecordOk
-  list-tail (definition x Γ) a ok = (refl, ok .1)
-  list-tail (substitute ps) a ok = no a
-  list-tail (call x Γ) a ok = (refl, ok .1)
-  list-tail (let' v t h Γ) a ok = (refl, ok .1 .1 .1)
-  list-tail (switch v t n) a ok = no a
-  list-tail (create v t e n) a ok = no a
-  list-tail (invoke v h t Γ) a ok = (refl, ok .1 .1 .1)
-  list-tail (literal z v) a ok = no a
-  list-tail (op f o j v) a ok = no a
-  list-tail (ifc c f j) a ok = no a
-  list-tail (clause' x Γ) a ok = (refl, ok .1)
-
-  pub list-stands : (r : Record) (k : ℕ) → kindOf r ≡ k → hasList k ≡ true → RecordOk w r → Stands (listBytes w) (ListOk w) (recordBytes w r) (fixed w k) (listOf r)
-  list-stands r k e h ok =
-      let t = list-tail r (ap hasList e ∙ h) ok in
-      record { others = []; bytes = tail-from w k r e ∙ (t .0 ∙ sym (append-nil (listBytes w (listOf r)))); fits = t .1 }
-
-  -- n bindings from `at`
-  pub record Run (s : List ℕ) (at n : ℕ) (Γ : Context) : Type 0 where
-    pub others : List ℕ
-    pub bytes : drop at s ≡ each (bindingBytes w) Γ ++ others
-    pub fits : All (BindingOk w) Γ
-    pub count : length Γ ≡ n
-
-  pub record Listed (s : List ℕ) (at : ℕ) (Γ : Context) : Type 0 where
-    pub inside : at < length s
-    pub count : getD s at 0 ≡ length Γ
-    pub run : Run s (at + 1) (length Γ) Γ
-
-  pub list-run : {s : List ℕ} {at : ℕ} {Γ : Context} → Stands (listBytes w) (ListOk w) s at Γ → Listed s at Γ
-  list-run {s} {at} {Γ} h = record {
-    inside = omega (arith, stands-room {e = listBytes w} (omega arith) h);
-    count = byte-run s _ at _ (h .bytes);
-    run = record {
-      others = h .others;
-      bytes = sym (drop-drop 1 at s) ∙ ap (drop 1) (h .bytes);
-      fits = h .fits .1;
-      count = refl;
-    };
-  }
-
-  -- the first of them
-  pub record Next (s : List ℕ) (at n : ℕ) (b : ContextBinding) (Γ : Context) : Type 0 where
-    pub inside : at + (6 + (w + w)) ≤ length s
-    pub var : Stands (identifierBytes w) (IdentifierOk w) s at (b .var)
-    pub run : Run s (at + (6 + (w + w))) (n - 1) Γ
-
-  pub run-next : {s : List ℕ} {at n : ℕ} (b : ContextBinding) (Γ : Context) → Run s at n (b ∷ Γ) → Next s at n b Γ
-  run-next {s} {at} {n} b Γ h =
-      let x = identifierBytes w (b .var) in
-      let y = (chiralityCode (b .chi) ∷ []) ++ typeBytes w (b .ty) in
-      let e = each (bindingBytes w) Γ in
-      let k = first-run s (h .others) at (bindingBytes w b) e (h .bytes) in
-      let m = binding-length w b in
-      record {
-        inside = omega (arith, length-drop at s, ap length k, length-append (bindingBytes w b) (e ++ h .others));
-        var = record { others = y ++ (e ++ h .others); bytes = k ∙ append-assoc x y (e ++ h .others); fits = h .fits .0 .0 };
-        run = record {
-          others = h .others;
-          bytes = second-run s (h .others) at (bindingBytes w b) e (6 + (w + w)) m (h .bytes);
-          fits = h .fits .1;
-          count = omega (arith, h .count);
-        };
-      }
-
--- the same, of the record at an index
-module _ (g : Frame) (s : List ℕ) (i : ℕ) where
-  pub first-there : (k : ℕ) {p : ℕ} → At g s i k → (k ≡ 2 → ⊥) → p ≡ firstAt k → Stands (identifierBytes (g .id)) (IdentifierOk (g .id)) (recordBytes (g .id) (recordAt g s i)) p (firstOf (recordAt g s i))
-  first-there k a n e =
-      let r = recordAt g s i in
-      subst (λ (z : ℕ). Stands (identifierBytes (g .id)) (IdentifierOk (g .id)) (recordBytes (g .id) r) z (firstOf r)) (ap firstAt (a .kind) ∙ sym e)
-      (first-stands (g .id) r (λ q. n (sym (a .kind) ∙ q)) (record-ok g s i k a))
-
-  pub operand-there : At g s i 9 → Stands (identifierBytes (g .id)) (IdentifierOk (g .id)) (recordBytes (g .id) (recordAt g s i)) (4 + g .id) (operandOf (recordAt g s i))
-  operand-there a = operand-stands (g .id) (recordAt g s i) (a .kind) (record-ok g s i 9 a)
-
-  pub target-there : At g s i 9 → Stands (identifierBytes (g .id)) (IdentifierOk (g .id)) (recordBytes (g .id) (recordAt g s i)) (6 + (g .id + g .id)) (targetOf (recordAt g s i))
-  target-there a = target-stands (g .id) (recordAt g s i) (a .kind) (record-ok g s i 9 a)
-
-  pub list-there : (k o : ℕ) → At g s i k → hasList k ≡ true → Stands (recordBytes (g .id)) (RecordOk (g .id)) s o (recordAt g s i)
-      → Stands (listBytes (g .id)) (ListOk (g .id)) s (o + fixed (g .id) k) (listOf (recordAt g s i))
-  list-there k o a h t =
-      let r = recordAt g s i in
-      stands-in (subst (λ (z : ℕ). fixed (g .id) z ≤ length (recordBytes (g .id) r)) (a .kind) (fixed-le (g .id) r)) t (list-stands (g .id) r k (a .kind) h (record-ok g s i k a))
-
--- a loop over a list, with a state: what is left from here gives what the whole gives
-module _ {S : Type 0} (F : List VarId → S → S) where
-  pub record Left (w : ℕ) (s : List ℕ) (whole : S) (at left : ℕ) (v : S) : Type 0 where
-    pub rest : Context
-    pub run : Run w s at left rest
-    pub same : whole ≡ F (ids rest) v
-
-  pub left-start : {w : ℕ} {s : List ℕ} {at n : ℕ} {Γ : Context} (v : S) → Stands (listBytes w) (ListOk w) s at Γ → n ≡ getD s at 0 → Left w s (F (ids Γ) v) (at + 1) n v
-  left-start {w} {s} {at} {n} {Γ} v h e =
-      let l = list-run w h in
-      record { rest = Γ; run = subst (λ (m : ℕ). Run w s (at + 1) m Γ) (sym (e ∙ l .count)) (l .run); same = refl }
-
-  -- there is one more
-  pub left-inside : {w : ℕ} {s : List ℕ} {whole : S} {at left : ℕ} {v : S} → Left w s whole at left v → 0 < left → at + (6 + (w + w)) ≤ length s
-  left-inside {w} {s} {whole} {at} {left} l h = go (l .rest) (l .run)
-    where
-      go : (Γ : Context) → Run w s at left Γ → at + (6 + (w + w)) ≤ length s
-      go [] r = absurd (omega (arith, r .count))
-      go (b ∷ Γ) r = run-next w b Γ r .inside
-
-  pub left-turn : (f : VarId → S → S) → ((x : VarId) (xs : List VarId) (v : S) → F (x ∷ xs) v ≡ F xs (f x v))
-      → {w : ℕ} {s : List ℕ} {whole : S} {at left : ℕ} {v : S} {x : Identifier} {next : S} → Left w s whole at left v → 0 < left
-      → ReadsAs (identifierBytes w) (IdentifierOk w) s at x → next ≡ f (x .id) v → Left w s whole (at + (6 + (w + w))) (left - 1) next
-  left-turn f step {w} {s} {whole} {at} {left} {v} {x} {next} l h d e = go (l .rest) (l .run) (l .same)
-    where
-      go : (Γ : Context) → Run w s at left Γ → whole ≡ F (ids Γ) v → Left w s whole (at + (6 + (w + w))) (left - 1) next
-      go [] r q = absurd (omega (arith, r .count))
-      go (b ∷ Γ) r q =
-          let n = run-next w b Γ r in
-          let i : x ≡ b .var = d .is (b .var) (n .var) in
-          record {
-            rest = Γ;
-            run = n .run;
-            same = q ∙ (step (b .var .id) (ids Γ) v ∙ ap (F (ids Γ)) (ap (λ (y : Identifier). f (y .id) v) (sym i) ∙ sym e));
-          }
-
-  pub left-end : ((v : S) → F [] v ≡ v) → {w : ℕ} {s : List ℕ} {whole : S} {at left : ℕ} {v : S} → Left w s whole at left v → left ≡ 0 → whole ≡ v
-  left-end empty {w} {s} {whole} {at} {left} {v} l h = go (l .rest) (l .run) (l .same)
-    where
-      go : (Γ : Context) → Run w s at left Γ → whole ≡ F (ids Γ) v → whole ≡ v
-      go [] r q = q ∙ empty v
-      go (b ∷ Γ) r q = absurd (omega (arith, r .count))

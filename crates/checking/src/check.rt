@@ -27,7 +27,7 @@ ghost use Rattle.checking.specs.Deciding.{decided, programIn};
 pub const MAX_RECORDS: usize = 2000;
 
 // The limits of question 7, but for the room in the scopes.
-fn within_limits(s: &[u8], g: Frame, d: usize) -> bool
+pub fn within_limits(s: &[u8], g: Frame, d: usize) -> bool
     requires { ⌜ Ready g (now s) × Defined d (recordsIn g (now s)) ⌝ }
     ensures { λ r. ⌜ r ≡ (leb (g .count) 2000 && (allRecords smallRecord (recordsIn g (now (s .entry))) && leb (depthDefs (defsIn d (recordsIn g (now (s .entry))))) 64)) ⌝ }
 {

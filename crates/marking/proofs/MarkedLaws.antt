@@ -10,11 +10,12 @@ use lib.ListN.{length, getD, set, drop, drop-of-length-le}
 use lib.Seq.{drop-cons}
 use Rattle.syntax.specs.Sets.{elem}
 use Rattle.syntax.specs.declared.names.VarId.{VarId}
+use Rattle.syntax.proofs.Lists.{rest, rest-cons, rest-end}
 use Rattle.format.specs.Parse.{each, field}
 use Rattle.put.specs.Puts.{Puts}
 use Rattle.put.proofs.Putting.{puts-then, puts-none, set-past}
 use Rattle.scope.specs.Calls.{setBytes}
-use Rattle.scope.specs.Marking.{markOne, markedFrom}
+use Rattle.scope.specs.Marking.{markOne, markAll, markedFrom}
 
 -- no mark
 pub marked-none : (row : List ℕ) (i : ℕ) → i < length row → getD row i 0 ≡ 0 → markedFrom i (drop i row) ≡ markedFrom (i + 1) (drop (i + 1) row)
@@ -79,3 +80,11 @@ mark-free B x row p h e = rw (h, e)
 
 pub mark-past : (B : List VarId) (x : VarId) (row : List ℕ) (p : ℕ) → elem x B ≡ false → p ≡ x .0 → length row ≤ p → row ≡ markOne B x row
 mark-past B x row p h e k = sym (set-past row p 1 k) ∙ mark-free B x row p h e
+
+-- the uses from a place of an array on
+pub mark-next : (B ids : List VarId) (n i : ℕ) (none : VarId) (row next : List ℕ) → i < n → n ≤ length ids → next ≡ markOne B (getD ids i none) row
+    → markAll B (rest ids n i) row ≡ markAll B (rest ids n (i + 1)) next
+mark-next B ids n i none row next h k e = rw (rest-cons ids n i none h k, e)
+
+pub mark-end : (B ids : List VarId) (n i : ℕ) (row : List ℕ) → n ≤ i → markAll B (rest ids n i) row ≡ row
+mark-end B ids n i row h = rw (rest-end ids n i h)

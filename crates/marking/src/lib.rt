@@ -8,7 +8,7 @@ ghost use lib.ListN.{length, replicate};
 ghost use Rattle.syntax.specs.Arrays.{setOf};
 ghost use Rattle.format.specs.Parse.{each, field};
 ghost use Rattle.put.specs.Puts.{Puts};
-ghost use Rattle.scope.specs.Marking.{markOne, markedFrom};
+ghost use Rattle.scope.specs.Marking.{markOne, markAll, markedFrom};
 ghost use Rattle.scope.specs.Calls.{setBytes};
 
 fn place(id: u32) -> usize
@@ -40,6 +40,20 @@ pub fn mark_one(row: &mut [u8], bound: IdSet, id: VarId)
     let at = place(id.0);
     if at < row.len() {
         row[at] = 1;
+    }
+}
+
+// Marks what is used and not bound, of a set.
+pub fn mark_all(row: &mut [u8], bound: IdSet, set: IdSet)
+    requires { ⌜ (bound .len ≤ 128) × (set .len ≤ 128) ⌝ }
+    ensures { λ _. ⌜ now (row .exit) ≡ markAll (setOf bound) (setOf set) (now (row .entry)) ⌝ }
+{
+    let n = set.len;
+    let mut i = 0;
+    while i < n {
+        let id = set.ids[i];
+        mark_one(row, bound, id);
+        i += 1;
     }
 }
 

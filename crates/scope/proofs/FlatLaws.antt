@@ -15,7 +15,7 @@ use Rattle.model.specs.Questions.{asked, askedClauses, askedDefs, anyBinders, p
 use Rattle.format.specs.Records.{Record}
 use Rattle.format.specs.Shape.{flatten, flattenClauses, flattenDefs}
 use Rattle.scope.specs.Flat.{allRecords, plainRecord, smallRecord}
-use Rattle.scope.proofs.WalkLaws.{inRoom}
+use Rattle.scope.specs.Rooms.{inRoom}
 
 all-++ : (f : Record → Bool) (a b : List Record) → allRecords f (a ++ b) ≡ allRecords f a && allRecords f b
 all-++ f [] b = refl

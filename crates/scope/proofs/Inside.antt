@@ -87,7 +87,7 @@ unfolding flatten
 no-place l h = omega arith
 
 -- what is asked of a clause is asked of its body, and of the clauses after it
-asked-clause : (x : Identifier) (Γ : Context) (body : Stmt) (rest : Clauses) (q : OfStmt) (b : OfBinders) (Δ : List VarId) → askedClauses (clause x Γ body rest) q b Δ ≡ true
+pub asked-clause : (x : Identifier) (Γ : Context) (body : Stmt) (rest : Clauses) (q : OfStmt) (b : OfBinders) (Δ : List VarId) → askedClauses (clause x Γ body rest) q b Δ ≡ true
     → (asked body q b (ids Γ ++ Δ) ≡ true) × (askedClauses rest q b Δ ≡ true)
 unfolding asked
 asked-clause x Γ body rest q b Δ h = both-true (asked body q b (ids Γ ++ Δ)) _ (both-true (b Δ (ids Γ)) _ h .1)

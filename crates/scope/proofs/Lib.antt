@@ -7,3 +7,4 @@ pub mod FreeViews
 pub mod Inside
 pub mod MarkViews
 pub mod WalkExamples
+pub mod RoomLaws

@@ -1,13 +1,13 @@
 -- Create's var is in scope in its next, and not in its clauses: two small programs, walked. Assumes nothing.
 use mathlib.Core.Path.{_≡_, refl}
-use mathlib.Core.Bool.{true, false}
+use mathlib.Core.Bool.{false}
 use mathlib.Core.List.{List, [], _∷_}
 use mathlib.Core.Option.{none}
 use Rattle.syntax.specs.declared.names.Identifier.{Identifier}
 use Rattle.syntax.specs.declared.types.Ty.the-variants.{I64}
 use Rattle.syntax.specs.declared.context.Chirality.the-variants.{Prd}
 use Rattle.syntax.specs.declared.context.ContextBinding.{ContextBinding}
-use Rattle.model.specs.Syntax.{Stmt, Call, Create, end, clause, Def}
+use Rattle.model.specs.Syntax.{Call, Create, end, clause, Def}
 use Rattle.scope.specs.Walk.{clean, walkStmt, walkDefs}
 use Prim.Native.Nat.{ℕ}
 

@@ -17,13 +17,10 @@ use Rattle.syntax.proofs.Bools.{Answers}
 use Rattle.syntax.proofs.Members.{same?}
 use Rattle.model.specs.Syntax.{Stmt, Substitute, Call, Let, Switch, Create, Invoke, Literal, Op, IfC, Clauses, end, clause, Def}
 use Rattle.model.specs.Lists.{every}
-use Rattle.model.specs.Questions.{OfStmt, asked, askedClauses, askedDefs, anyStmt, anyBinders, new, uses, inScope, upTo}
+use Rattle.model.specs.Questions.{asked, askedClauses, askedDefs, anyStmt, anyBinders, new, uses, inScope, upTo}
+use Rattle.scope.specs.Rooms.{inRoom}
 use Rattle.scope.specs.Walk.{maxScope, clean, useOne, useAll, Scoped, judged, full, enterOne, enterAll, Walking, under, walkStmt, walkClauses, walkDefs}
 use Rattle.scope.specs.declared.Verdict.{Verdict}
-
--- the part of question 7 that the walk asks: 64 bindings in scope
-abbrev pub inRoom : OfStmt
-inRoom Δ s = leb (length Δ) 64
 
 -- ── booleans ──
 

@@ -4,7 +4,7 @@ use native.Mathlib.Omega.{arith}
 use Rattle.syntax.specs.Arrays.{setOf}
 use Rattle.syntax.specs.Context.{ids}
 use Rattle.checking.specs.Nodes.{recordAt, listOf}
-use Rattle.checking.proofs.NodeLaws.{list-run, Left, left-start, left-inside, left-turn, left-end}
+use Rattle.checking.proofs.ListLaws.{list-run, Left, left-start, left-inside, left-turn, left-end}
 use Rattle.uses.specs.Sets.{Room}
 use Rattle.uses.proofs.SetLaws.{behind, oneBehind, behind-step, behind-none, room-more, room-holds}
 use Rattle.uses.proofs.add_list.Statement.{statement}

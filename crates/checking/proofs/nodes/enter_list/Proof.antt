@@ -6,7 +6,7 @@ use Rattle.syntax.specs.Context.{ids}
 use Rattle.scope.specs.Walk.{enterOne, enterAll}
 use Rattle.checking.specs.Nodes.{recordAt, listOf}
 use Rattle.checking.specs.Scoping.{Scope, scopedOf}
-use Rattle.checking.proofs.NodeLaws.{list-run, Left, left-start, left-inside, left-turn, left-end}
+use Rattle.checking.proofs.ListLaws.{list-run, Left, left-start, left-inside, left-turn, left-end}
 use Rattle.checking.proofs.nodes.enter_list.Statement.{statement}
 use Rattle.checking.proofs.nodes.enter_list.Tie as tie
 

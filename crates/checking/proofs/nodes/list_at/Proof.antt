@@ -6,7 +6,8 @@ use Rattle.format.specs.Fields.{listBytes, ListOk}
 use Rattle.parts.specs.Standing.{Stands}
 use Rattle.format.specs.Kinds.{fixed}
 use Rattle.checking.specs.Nodes.{recordAt, listOf}
-use Rattle.checking.proofs.NodeLaws.{kind-below, list-there, list-run}
+use Rattle.checking.proofs.NodeLaws.{kind-below}
+use Rattle.checking.proofs.ListLaws.{list-there, list-run}
 use borrow.Author.Needs.{needs}
 use Rattle.checking.proofs.nodes.list_at.Statement.{statement}
 use Rattle.checking.proofs.nodes.list_at.Tie as tie
