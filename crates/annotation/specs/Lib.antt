@@ -1,0 +1,2 @@
+-- What the walk of annotation needs and does.
+pub mod Marks

@@ -1,0 +1,2 @@
+// Annotation: the free variables of what follows a record.
+pub mod walk;

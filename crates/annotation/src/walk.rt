@@ -1,0 +1,102 @@
+// The walk that marks what a statement, or clauses, use and do not bind.
+use checking::nodes::enter_node;
+use checking::scoping::Entering;
+use checking::walk::parts_of;
+use directory::Frame;
+use marking::mark_all;
+use scope::Verdict;
+use syntax::sets::IdSet;
+use uses::uses;
+ghost use Prim.Native.Nat.{_+_, _≤_};
+ghost use mathlib.Core.Path.{_≡_};
+ghost use mathlib.Core.Bool.{true};
+ghost use mathlib.Core.List.{_++_};
+ghost use lib.ListN.{length};
+ghost use Rattle.syntax.specs.Arrays.{setOf};
+ghost use Rattle.format.specs.Parse.{each, All};
+ghost use Rattle.format.specs.Shape.{flatten, flattenClauses};
+ghost use Rattle.directory.specs.Slots.{recordsIn};
+ghost use Rattle.trees.specs.Places.{stmtAt, clausesAt, bodiesAt, StmtStands, ClausesStand, BodiesStand};
+ghost use Rattle.trees.specs.Views.{binders};
+ghost use Rattle.scope.specs.Marking.{markStmt, markClauses, markBodies};
+ghost use Rattle.scope.specs.Rooms.{RoomFor, RoomForClauses};
+ghost use Rattle.checking.specs.Nodes.{recordAt, At};
+ghost use Rattle.checking.specs.Scoping.{Scope};
+ghost use Rattle.annotation.specs.Marks.{Source, BoundBy, MarkedTo};
+
+// Binds what the record at index i binds.
+fn bind(s: &[u8], g: Frame, i: usize, kind: u8, bound: IdSet) -> IdSet
+    requires { ⌜ At g (now s) i kind × (Scope bound × (length (setOf bound ++ binders (recordAt g (now s) i)) ≤ 64)) ⌝ }
+    ensures { λ r. ⌜ BoundBy r (setOf bound ++ binders (recordAt g (now (s .entry)) i)) ⌝ }
+{
+    let verdict = Verdict {
+        room: true,
+        binders: true,
+        uses: true,
+        ids: true,
+    };
+    let e = Entering {
+        scope: bound,
+        verdict,
+    };
+    let inner = enter_node(s, g, i, kind, e, 0);
+    inner.scope
+}
+
+// The statement at index i, of depth at most `depth`.
+pub fn statement(s: &[u8], g: Frame, depth: usize, i: usize, bound: IdSet, row: &mut [u8]) -> usize
+    requires { ⌜ Source g (now s) × (StmtStands depth (recordsIn g (now s)) i (stmtAt depth (recordsIn g (now s)) i) × (Scope bound × RoomFor (setOf bound) (stmtAt depth (recordsIn g (now s)) i))) ⌝ }
+    ensures { λ r. ⌜ MarkedTo r (now (row .exit)) (i + length (flatten (stmtAt depth (recordsIn g (now (s .entry))) i))) (markStmt (stmtAt depth (recordsIn g (now (s .entry))) i) (setOf bound) (now (row .entry))) ⌝ }
+{
+    let f = parts_of(s, g, i);
+    let used = uses(s, g, i, f.kind);
+    mark_all(row, bound, used);
+    let next = clauses(s, g, depth - 1, f.clauses, i + 1, bound, row);
+    let inner = bind(s, g, i, f.kind, bound);
+    bodies(s, g, depth - 1, f.bodies, next, inner, row)
+}
+
+// The n clauses from index i on, with bodies of depth at most `depth`.
+pub fn clauses(
+    s: &[u8],
+    g: Frame,
+    depth: usize,
+    n: usize,
+    i: usize,
+    bound: IdSet,
+    row: &mut [u8],
+) -> usize
+    requires { ⌜ Source g (now s) × (ClausesStand depth n (recordsIn g (now s)) i (clausesAt depth n (recordsIn g (now s)) i) × (Scope bound × RoomForClauses (setOf bound) (clausesAt depth n (recordsIn g (now s)) i))) ⌝ }
+    ensures { λ r. ⌜ MarkedTo r (now (row .exit)) (i + length (flattenClauses (clausesAt depth n (recordsIn g (now (s .entry))) i))) (markClauses (clausesAt depth n (recordsIn g (now (s .entry))) i) (setOf bound) (now (row .entry))) ⌝ }
+{
+    let mut here = i;
+    let mut left = n;
+    while 0 < left {
+        let inner = bind(s, g, here, 11, bound);
+        here = statement(s, g, depth, here + 1, inner, row);
+        left = left - 1;
+    }
+    here
+}
+
+// The n statements from index i on, each of depth at most `depth`.
+fn bodies(
+    s: &[u8],
+    g: Frame,
+    depth: usize,
+    n: usize,
+    i: usize,
+    bound: IdSet,
+    row: &mut [u8],
+) -> usize
+    requires { ⌜ Source g (now s) × (BodiesStand depth n (recordsIn g (now s)) i (bodiesAt depth n (recordsIn g (now s)) i) × (Scope bound × All (RoomFor (setOf bound)) (bodiesAt depth n (recordsIn g (now s)) i))) ⌝ }
+    ensures { λ r. ⌜ MarkedTo r (now (row .exit)) (i + length (each flatten (bodiesAt depth n (recordsIn g (now (s .entry))) i))) (markBodies (bodiesAt depth n (recordsIn g (now (s .entry))) i) (setOf bound) (now (row .entry))) ⌝ }
+{
+    let mut here = i;
+    let mut left = n;
+    while 0 < left {
+        here = statement(s, g, depth, here, bound, row);
+        left = left - 1;
+    }
+    here
+}
