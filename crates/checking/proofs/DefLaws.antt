@@ -25,7 +25,7 @@ use Rattle.trees.proofs.ViewLaws.{flatten-view}
 use Rattle.trees.proofs.PlaceLaws.{stmt-is, begins-left, begins-right, begins-head, head-within}
 use Rattle.scope.specs.declared.Verdict.{Verdict}
 use Rattle.scope.specs.Walk.{Scoped, enterAll, walkStmt, walkDefs}
-use Rattle.checking.specs.Nodes.{listOf}
+use Rattle.parts.specs.Parts.{listOf}
 use Rattle.checking.specs.Scoping.{scopedOf, Entered}
 use Rattle.checking.specs.Walks.{WalkedTo}
 use Rattle.checking.specs.Definitions.{DefsStand}

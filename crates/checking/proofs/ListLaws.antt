@@ -19,7 +19,8 @@ use Rattle.format.proofs.KindLaws.{fixed-le}
 use Rattle.directory.specs.declared.Frame.{Frame}
 use Rattle.parts.specs.Standing.{Stands, ReadsAs}
 use Rattle.parts.proofs.StandingLaws.{byte-run, first-run, second-run, stands-in, stands-room}
-use Rattle.checking.specs.Nodes.{recordAt, At, hasList, listOf}
+use Rattle.parts.specs.Parts.{listOf}
+use Rattle.checking.specs.Nodes.{recordAt, At, hasList}
 use Rattle.checking.proofs.TailLaws.{tail-from}
 use Rattle.checking.proofs.NodeLaws.{record-ok}
 

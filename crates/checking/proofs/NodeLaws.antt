@@ -25,7 +25,8 @@ use Rattle.shape.proofs.Heads.{kind-small}
 use Rattle.parts.specs.Standing.{Stands, RoomIn, headOf}
 use Rattle.parts.proofs.StandingLaws.{stands-room}
 use Rattle.trees.specs.Views.{binders, usesOf}
-use Rattle.checking.specs.Nodes.{recordAt, At, listOf, firstAt, firstOf, operandOf, targetOf, secondOf}
+use Rattle.parts.specs.Parts.{listOf}
+use Rattle.checking.specs.Nodes.{recordAt, At, firstAt, firstOf, operandOf, targetOf, secondOf}
 
 -- the record at an index is within the limits of the layout
 pub record-ok : (g : Frame) (s : List ℕ) (i k : ℕ) → At g s i k → RecordOk (g .id) (recordAt g s i)

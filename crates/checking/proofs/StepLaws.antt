@@ -19,7 +19,7 @@ use Rattle.trees.specs.Places.{stmtAt, clausesAt, bodiesAt, StmtStands, Clauses
 use Rattle.trees.proofs.PlaceLaws.{stmt-is, clauses-are, bodies-are, head-within, stmt-parts, clause-parts, body-parts}
 use Rattle.scope.specs.declared.Verdict.{Verdict}
 use Rattle.scope.specs.Walk.{Scoped, useAll, enterAll, walkStmt, walkClauses, walkBodies}
-use Rattle.checking.specs.Nodes.{listOf}
+use Rattle.parts.specs.Parts.{listOf}
 use Rattle.checking.specs.Scoping.{scopedOf, Entered}
 use Rattle.checking.specs.Walks.{WalkedTo}
 use Rattle.checking.specs.declared.scoping.Entering.{Entering}

@@ -6,7 +6,7 @@ use mathlib.Core.List.{List, [], _∷_}
 use mathlib.Core.Option.{Option, none}
 use lib.Dec.{leb, eqb}
 use lib.ListN.{drop, getD}
-use Rattle.syntax.specs.Context.{Context, emptyBinding}
+use Rattle.syntax.specs.Context.{emptyBinding}
 use Rattle.syntax.specs.declared.names.Identifier.{Identifier}
 use Rattle.model.specs.Sizes.{countEnvironment}
 use Rattle.format.specs.Records.{Record, definition, substitute, call, let', switch, create, invoke, literal, op, ifc, clause'}
@@ -41,20 +41,6 @@ smallEnvironment (clause' x Γ) = true
 -- has a record of the kind a list as its tail?
 abbrev pub hasList : ℕ → Bool
 hasList k = getD (false ∷ true ∷ false ∷ true ∷ true ∷ false ∷ false ∷ true ∷ false ∷ false ∷ false ∷ true ∷ []) k false
-
--- the list of a record
-abbrev pub listOf : Record → Context
-listOf (definition x Γ) = Γ
-listOf (substitute ps) = []
-listOf (call x Γ) = Γ
-listOf (let' v t g Γ) = Γ
-listOf (switch v t n) = []
-listOf (create v t e n) = []
-listOf (invoke v g t Γ) = Γ
-listOf (literal z v) = []
-listOf (op f o s v) = []
-listOf (ifc c f s) = []
-listOf (clause' x Γ) = Γ
 
 -- what stands for an identifier where there is none
 abbrev pub noIdentifier : Identifier

@@ -22,7 +22,8 @@ ghost use Rattle.format.specs.Fields.{listBytes, ListOk};
 ghost use Rattle.parts.specs.Standing.{Stands};
 ghost use Rattle.trees.specs.Views.{binders, usesOf};
 ghost use Rattle.scope.specs.Walk.{useOne, useAll, enterAll};
-ghost use Rattle.checking.specs.Nodes.{recordAt, At, hasList, listOf, firstAt, firstOf, operandOf, targetOf, secondOf};
+ghost use Rattle.parts.specs.Parts.{listOf};
+ghost use Rattle.checking.specs.Nodes.{recordAt, At, hasList, firstAt, firstOf, operandOf, targetOf, secondOf};
 ghost use Rattle.checking.specs.Scoping.{Scope, scopedOf, Entered};
 
 // Where the list of the record at index i begins, with its count.

@@ -22,7 +22,8 @@ ghost use Rattle.directory.specs.Slots.{Ready, recordsIn};
 ghost use Rattle.trees.specs.Places.{stmtAt, clausesAt, bodiesAt, StmtStands, ClausesStand, BodiesStand};
 ghost use Rattle.trees.specs.Views.{binders};
 ghost use Rattle.scope.specs.Walk.{enterAll, walkStmt, walkClauses, walkBodies};
-ghost use Rattle.checking.specs.Nodes.{recordAt, At, hasList, listOf};
+ghost use Rattle.parts.specs.Parts.{listOf};
+ghost use Rattle.checking.specs.Nodes.{recordAt, At, hasList};
 ghost use Rattle.checking.specs.Scoping.{Scope, scopedOf, Entered};
 ghost use Rattle.checking.specs.Walks.{Followed, WalkedTo};
 

@@ -13,7 +13,8 @@ use Rattle.format.specs.Records.{Record, definition, substitute, call, let', sw
 use Rattle.format.specs.Kinds.{kindOf}
 use Rattle.directory.specs.declared.Frame.{Frame}
 use Rattle.scope.specs.Flat.{smallRecord}
-use Rattle.checking.specs.Nodes.{recordAt, At, hasList, listOf}
+use Rattle.parts.specs.Parts.{listOf}
+use Rattle.checking.specs.Nodes.{recordAt, At, hasList}
 use Rattle.uses.specs.Sets.{Room}
 
 -- more IDs behind those that are there

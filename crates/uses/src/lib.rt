@@ -20,7 +20,8 @@ ghost use Rattle.syntax.specs.Context.{ids};
 ghost use Rattle.model.specs.FreeVars.{optionalId};
 ghost use Rattle.trees.specs.Views.{usesOf};
 ghost use Rattle.scope.specs.Flat.{smallRecord};
-ghost use Rattle.checking.specs.Nodes.{recordAt, At, hasList, listOf, firstOf, operandOf, secondOf};
+ghost use Rattle.parts.specs.Parts.{listOf};
+ghost use Rattle.checking.specs.Nodes.{recordAt, At, hasList, firstOf, operandOf, secondOf};
 ghost use Rattle.uses.specs.Sets.{Room};
 
 // The set, with the bindings of a record's list behind.

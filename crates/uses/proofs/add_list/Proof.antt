@@ -3,7 +3,8 @@ use mathlib.Core.List.{_++_}
 use native.Mathlib.Omega.{arith}
 use Rattle.syntax.specs.Arrays.{setOf}
 use Rattle.syntax.specs.Context.{ids}
-use Rattle.checking.specs.Nodes.{recordAt, listOf}
+use Rattle.parts.specs.Parts.{listOf}
+use Rattle.checking.specs.Nodes.{recordAt}
 use Rattle.checking.proofs.ListLaws.{list-run, Left, left-start, left-inside, left-turn, left-end}
 use Rattle.uses.specs.Sets.{Room}
 use Rattle.uses.proofs.SetLaws.{behind, oneBehind, behind-step, behind-none, room-more, room-holds}

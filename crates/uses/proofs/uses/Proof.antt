@@ -10,7 +10,8 @@ use Rattle.syntax.specs.declared.names.Identifier.{Identifier}
 use Rattle.model.specs.FreeVars.{optionalId}
 use Rattle.format.specs.Kinds.{kindOf}
 use Rattle.trees.specs.Views.{usesOf}
-use Rattle.checking.specs.Nodes.{recordAt, listOf, firstOf, operandOf, secondOf}
+use Rattle.parts.specs.Parts.{listOf}
+use Rattle.checking.specs.Nodes.{recordAt, firstOf, operandOf, secondOf}
 use Rattle.checking.proofs.NodeLaws.{uses-are}
 use Rattle.uses.proofs.SetLaws.{list-room, at-kind, room-of, set-then}
 use Rattle.uses.proofs.uses.Statement.{statement}

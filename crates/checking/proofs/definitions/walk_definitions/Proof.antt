@@ -8,7 +8,8 @@ use Rattle.syntax.specs.declared.names.VarId.{VarId}
 use Rattle.directory.specs.Slots.{recordsIn}
 use Rattle.directory.proofs.Places.{records-length}
 use Rattle.scope.specs.Walk.{clean, enterAll, walkDefs}
-use Rattle.checking.specs.Nodes.{recordAt, listOf}
+use Rattle.parts.specs.Parts.{listOf}
+use Rattle.checking.specs.Nodes.{recordAt}
 use Rattle.checking.specs.Scoping.{Entered}
 use Rattle.checking.specs.Definitions.{defsIn}
 use Rattle.checking.proofs.EnterLaws.{empty-scope}

@@ -4,7 +4,8 @@ use mathlib.Core.Path.{refl, sym}
 use native.Mathlib.Omega.{arith}
 use Rattle.syntax.specs.Context.{ids}
 use Rattle.scope.specs.Walk.{enterOne, enterAll}
-use Rattle.checking.specs.Nodes.{recordAt, listOf}
+use Rattle.parts.specs.Parts.{listOf}
+use Rattle.checking.specs.Nodes.{recordAt}
 use Rattle.checking.specs.Scoping.{Scope, scopedOf}
 use Rattle.checking.proofs.ListLaws.{list-run, Left, left-start, left-inside, left-turn, left-end}
 use Rattle.checking.proofs.nodes.enter_list.Statement.{statement}

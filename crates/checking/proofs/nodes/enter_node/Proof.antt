@@ -11,7 +11,8 @@ use Rattle.syntax.specs.declared.names.VarId.{VarId}
 use Rattle.format.specs.Kinds.{kindOf}
 use Rattle.trees.specs.Views.{binders}
 use Rattle.scope.specs.Walk.{enterOne, enterAll}
-use Rattle.checking.specs.Nodes.{recordAt, listOf, firstOf, targetOf}
+use Rattle.parts.specs.Parts.{listOf}
+use Rattle.checking.specs.Nodes.{recordAt, firstOf, targetOf}
 use Rattle.checking.specs.Scoping.{scopedOf, Entered}
 use Rattle.checking.proofs.NodeLaws.{binders-are}
 use borrow.Author.Needs.{needs}

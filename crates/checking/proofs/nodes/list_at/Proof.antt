@@ -5,7 +5,8 @@ use denote.Ref.{now}
 use Rattle.format.specs.Fields.{listBytes, ListOk}
 use Rattle.parts.specs.Standing.{Stands}
 use Rattle.format.specs.Kinds.{fixed}
-use Rattle.checking.specs.Nodes.{recordAt, listOf}
+use Rattle.parts.specs.Parts.{listOf}
+use Rattle.checking.specs.Nodes.{recordAt}
 use Rattle.checking.proofs.NodeLaws.{kind-below}
 use Rattle.checking.proofs.ListLaws.{list-there, list-run}
 use borrow.Author.Needs.{needs}

@@ -5,7 +5,8 @@ use native.Mathlib.Omega.{arith}
 use Rattle.syntax.specs.Arrays.{setOf}
 use Rattle.syntax.specs.Context.{ids}
 use Rattle.scope.specs.Walk.{useOne, useAll}
-use Rattle.checking.specs.Nodes.{recordAt, listOf}
+use Rattle.parts.specs.Parts.{listOf}
+use Rattle.checking.specs.Nodes.{recordAt}
 use Rattle.checking.proofs.ListLaws.{list-run, Left, left-start, left-inside, left-turn, left-end}
 use Rattle.checking.proofs.nodes.use_list.Statement.{statement}
 use Rattle.checking.proofs.nodes.use_list.Tie as tie

@@ -12,7 +12,8 @@ use Rattle.model.specs.FreeVars.{optionalId}
 use Rattle.format.specs.Kinds.{kindOf}
 use Rattle.trees.specs.Views.{usesOf}
 use Rattle.scope.specs.Walk.{useOne, useAll}
-use Rattle.checking.specs.Nodes.{recordAt, listOf, firstOf, operandOf, secondOf}
+use Rattle.parts.specs.Parts.{listOf}
+use Rattle.checking.specs.Nodes.{recordAt, firstOf, operandOf, secondOf}
 use Rattle.checking.proofs.NodeLaws.{uses-are}
 use borrow.Author.Needs.{needs}
 use Rattle.checking.proofs.nodes.use_node.Statement.{statement}
