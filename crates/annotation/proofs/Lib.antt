@@ -1,3 +1,4 @@
 -- The laws of the walk of annotation.
 pub mod BindLaws
 pub mod MarkSteps
+pub mod AnnotateLaws

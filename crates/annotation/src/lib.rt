@@ -1,2 +1,3 @@
 // Annotation: the free variables of what follows a record.
+pub mod annotate;
 pub mod walk;

@@ -1,11 +1,12 @@
 // The exported functions. Each returns the number of its answer, 0 for acceptance, and sets length and max_id on every call.
+use annotation::annotate::annotate;
 use checking::check::check;
 use format::Answer;
 use format::Layout;
 use reading::read;
 ghost use Rattle.format.specs.Answers.{Reports, report};
 ghost use Rattle.format.specs.Reading.{readCall};
-ghost use Rattle.scope.specs.Calls.{checkCall};
+ghost use Rattle.scope.specs.Calls.{checkCall, annotateCall, Told};
 
 fn tell(answer: Answer, length: &mut usize, max_id: &mut u32) -> u32
     ensures { λ r. ⌜ Reports (report answer) r (now (length .exit)) (now («max_id» .exit)) ⌝ }
@@ -41,4 +42,18 @@ pub extern "C" fn axcut_check(image: &[u8], length: &mut usize, max_id: &mut u32
     ensures { λ r. ⌜ Reports (checkCall (now (image .entry))) r (now (length .exit)) (now («max_id» .exit)) ⌝ }
 {
     tell(check(image, Layout::one()), length, max_id)
+}
+
+// Questions 1 to 7, 13 and 12. Writes the annotation of the record with this index.
+#[no_mangle]
+pub extern "C" fn axcut_annotate(
+    image: &[u8],
+    record: usize,
+    out: &mut [u8],
+    length: &mut usize,
+    max_id: &mut u32,
+) -> u32
+    ensures { λ r. ⌜ Told (annotateCall (now (image .entry)) «record» (now (out .entry))) r (now (length .exit)) (now («max_id» .exit)) (now (out .entry)) (now (out .exit)) ⌝ }
+{
+    tell(annotate(image, Layout::one(), record, out), length, max_id)
 }

@@ -102,7 +102,7 @@ none-says (some Γ) e = absurd (false≢true e)
 mutual
   unfolding Asked Scoped
 
-  scoped-says : (s : Stmt) (M : ℕ) (Δ : List VarId) → Asked s plain anyBinders Δ → Asked s anyStmt new Δ → Asked s inScope anyBinders Δ → Asked s anyStmt (upTo M) Δ → Scoped s M Δ
+  pub scoped-says : (s : Stmt) (M : ℕ) (Δ : List VarId) → Asked s plain anyBinders Δ → Asked s anyStmt new Δ → Asked s inScope anyBinders Δ → Asked s anyStmt (upTo M) Δ → Scoped s M Δ
   scoped-says (Substitute ps next) M Δ a b c d = false≢true (a .0)
   scoped-says (Call label args) M Δ a b c d = uses-says Δ (ids args) c
   scoped-says (Let var ty tag args next) M Δ a b c d = (uses-says Δ (ids args) (c .0), binds-says M Δ (var .id ∷ []) (b .1) (d .1), scoped-says next M (var .id ∷ Δ) (a .2) (b .2) (c .2) (d .2))
@@ -113,11 +113,11 @@ mutual
   scoped-says (Op fst op snd var next) M Δ a b c d = let u = uses-says Δ (fst .id ∷ snd .id ∷ []) (c .0) in (u (fst .id) (inl refl), u (snd .id) (inr (inl refl)), binds-says M Δ (var .id ∷ []) (b .1) (d .1), scoped-says next M (var .id ∷ Δ) (a .2) (b .2) (c .2) (d .2))
   scoped-says (IfC sort fst snd thenc elsec) M Δ a b c d = let u = uses-says Δ (fst .id ∷ optionalId snd) (c .0) in (u (fst .id) (inl refl), λ x h. u x (inr h), scoped-says thenc M Δ (a .1) (b .1) (c .1) (d .1), scoped-says elsec M Δ (a .2) (b .2) (c .2) (d .2))
 
-  scopedClauses-says : (cs : Clauses) (M : ℕ) (Δ : List VarId) → AskedClauses cs plain anyBinders Δ → AskedClauses cs anyStmt new Δ → AskedClauses cs inScope anyBinders Δ → AskedClauses cs anyStmt (upTo M) Δ → ScopedClauses cs M Δ
+  pub scopedClauses-says : (cs : Clauses) (M : ℕ) (Δ : List VarId) → AskedClauses cs plain anyBinders Δ → AskedClauses cs anyStmt new Δ → AskedClauses cs inScope anyBinders Δ → AskedClauses cs anyStmt (upTo M) Δ → ScopedClauses cs M Δ
   scopedClauses-says end M Δ a b c d = tt
   scopedClauses-says (clause xtor context body rest) M Δ a b c d = (binds-says M Δ (ids context) (b .0) (d .0), scoped-says body M (ids context ++ Δ) (a .1) (b .1) (c .1) (d .1), scopedClauses-says rest M Δ (a .2) (b .2) (c .2) (d .2))
 
-scopedDefs-says : (ds : List Def) (M : ℕ) → askedDefs ds plain anyBinders ≡ true → askedDefs ds anyStmt new ≡ true → askedDefs ds inScope anyBinders ≡ true → askedDefs ds anyStmt (upTo M) ≡ true → ScopedDefs ds M
+pub scopedDefs-says : (ds : List Def) (M : ℕ) → askedDefs ds plain anyBinders ≡ true → askedDefs ds anyStmt new ≡ true → askedDefs ds inScope anyBinders ≡ true → askedDefs ds anyStmt (upTo M) ≡ true → ScopedDefs ds M
 scopedDefs-says [] M a b c d = tt
 scopedDefs-says (f ∷ ds) M a b c d =
     let Δ = ids (f .context) in

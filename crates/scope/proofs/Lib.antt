@@ -5,6 +5,7 @@ pub mod MarkLaws
 pub mod RowLaws
 pub mod FreeViews
 pub mod Inside
+pub mod IdsFit
 pub mod MarkViews
 pub mod WalkExamples
 pub mod RoomLaws

@@ -1,5 +1,6 @@
 -- What the scope check and annotation answer: the calls of `axcut_check` and `axcut_annotate`, for every input.
 use Prim.Native.Nat.{ℕ}
+use mathlib.Core.Path.{_≡_}
 use mathlib.Core.Bool.{Bool, true, false}
 use mathlib.Core.List.{List, [], _∷_, _++_}
 use lib.Dec.{leb}
@@ -18,7 +19,7 @@ use Rattle.format.specs.Parse.{each, field}
 use Rattle.format.specs.Layout.{layout1}
 use Rattle.format.specs.Records.{Record, definition, substitute, call, let', switch, create, invoke, literal, op, ifc, clause'}
 use Rattle.format.specs.Shape.{flattenDefs, maxDepth}
-use Rattle.format.specs.Answers.{Report, report}
+use Rattle.format.specs.Answers.{Report, Reports, report}
 use Rattle.format.specs.Reading.{Reading, refuse, accept, asked, reading, answerOf}
 use Rattle.trees.specs.Places.{stmtAt}
 
@@ -112,14 +113,30 @@ abbrev pub replyAfter : Reading → (Prog → Reply) → Reply
 replyAfter (refuse q) k = refuses q
 replyAfter (accept p) k = k p
 
--- document 01, "The questions": annotation 1 to 7, 13, 12. 12: does the answer fit the lent buffer?
-unfoldable pub annotating : (w : ℕ) → Prog → (place size : ℕ) → Reply
-annotating w P i size =
-    askedOf (question6 P) Linearized
-    (askedOf (question7 P) Limits
-    (askedOf (question13 P i) Place
+-- document 01, "The questions": 13, then 12: does the answer fit the lent buffer?
+unfoldable pub placing : (w : ℕ) → Prog → (place size : ℕ) → Reply
+placing w P i size =
+    askedOf (question13 P i) Place
     (askedOf (leb (length (annotationBytes w P i)) size) Room
-    (writes (annotationBytes w P i) (P .maxId)))))
+    (writes (annotationBytes w P i) (P .maxId)))
+
+-- document 01, "The questions": annotation 1 to 7, 13, 12
+unfoldable pub annotating : (w : ℕ) → Prog → (place size : ℕ) → Reply
+annotating w P i size = askedOf (question6 P) Linearized (askedOf (question7 P) Limits (placing w P i size))
 
 unfoldable pub annotateOf : Layout → List ℕ → (place size : ℕ) → Reply
 annotateOf L s i size = replyAfter (reading L s) (λ P. annotating (L .id) P i size)
+
+-- the answer, and the buffer before and after, are those of the reply
+pub record Replies (R : Reply) (answer : Answer) (before after : List ℕ) : Type 0 where
+  pub answers : answer ≡ replyAnswer R
+  pub leaves : after ≡ replyBuffer R before
+
+-- a call of `axcut_annotate`, with this buffer lent
+unfoldable pub annotateCall : List ℕ → (place : ℕ) → (out : List ℕ) → Reply
+annotateCall s i out = annotateOf layout1 s i (length out)
+
+-- number, length and max_id, and the buffer before and after, are those of the reply
+pub record Told (R : Reply) (number length maxId : ℕ) (before after : List ℕ) : Type 0 where
+  pub reports : Reports (report (replyAnswer R)) number length maxId
+  pub leaves : after ≡ replyBuffer R before
