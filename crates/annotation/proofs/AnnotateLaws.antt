@@ -48,7 +48,7 @@ use Rattle.scope.proofs.MarkLaws.{FitRow, Marks, allUses, allUsesClauses, marks
 use Rattle.checking.specs.Nodes.{recordAt}
 use Rattle.checking.specs.Deciding.{programIn}
 use Rattle.checking.proofs.CheckLaws.{opened-defs}
-use Rattle.annotation.specs.Marks.{Source}
+use Rattle.uses.specs.Sources.{Source}
 use Rattle.annotation.specs.Annotating.{annotatedKind, Annotated, Limited, Settled}
 
 -- ── by kind ──

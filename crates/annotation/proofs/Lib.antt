@@ -1,4 +1,3 @@
 -- The laws of the walk of annotation.
-pub mod BindLaws
 pub mod MarkSteps
 pub mod AnnotateLaws

@@ -21,7 +21,7 @@ use Rattle.scope.specs.Marking.{markedFrom}
 use Rattle.checking.specs.Nodes.{recordAt}
 use Rattle.checking.specs.Definitions.{Defined}
 use Rattle.checking.specs.Deciding.{programIn}
-use Rattle.annotation.specs.Marks.{Source}
+use Rattle.uses.specs.Sources.{Source}
 use Rattle.annotation.specs.declared.annotate.Written.{Written}
 
 -- has a record of the kind an annotation?

@@ -1,3 +1,3 @@
--- What the walk of annotation needs and does, and what is written.
+-- What the walk of annotation does, and what is written.
 pub mod Marks
 pub mod Annotating

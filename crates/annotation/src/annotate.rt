@@ -31,7 +31,7 @@ ghost use Rattle.scope.specs.Marking.{markStmt, markClauses};
 ghost use Rattle.scope.specs.Rooms.{RoomFor, RoomForClauses};
 ghost use Rattle.checking.specs.Definitions.{Defined};
 ghost use Rattle.checking.specs.Deciding.{programIn};
-ghost use Rattle.annotation.specs.Marks.{Source};
+ghost use Rattle.uses.specs.Sources.{Source};
 ghost use Rattle.annotation.specs.Annotating.{annotatedKind, Wrote, Annotated, Limited, Settled};
 
 // The depth that is left below a statement of an image.

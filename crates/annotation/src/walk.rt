@@ -1,47 +1,22 @@
 // The walk that marks what a statement, or clauses, use and do not bind.
-use checking::nodes::enter_node;
-use checking::scoping::Entering;
 use checking::walk::parts_of;
 use directory::Frame;
 use marking::mark_all;
-use scope::Verdict;
 use syntax::sets::IdSet;
+use uses::bind;
 use uses::uses;
-ghost use Prim.Native.Nat.{_+_, _≤_};
-ghost use mathlib.Core.Path.{_≡_};
-ghost use mathlib.Core.Bool.{true};
-ghost use mathlib.Core.List.{_++_};
+ghost use Prim.Native.Nat.{_+_};
 ghost use lib.ListN.{length};
 ghost use Rattle.syntax.specs.Arrays.{setOf};
 ghost use Rattle.format.specs.Parse.{each, All};
 ghost use Rattle.format.specs.Shape.{flatten, flattenClauses};
 ghost use Rattle.directory.specs.Slots.{recordsIn};
 ghost use Rattle.trees.specs.Places.{stmtAt, clausesAt, bodiesAt, StmtStands, ClausesStand, BodiesStand};
-ghost use Rattle.trees.specs.Views.{binders};
 ghost use Rattle.scope.specs.Marking.{markStmt, markClauses, markBodies};
 ghost use Rattle.scope.specs.Rooms.{RoomFor, RoomForClauses};
-ghost use Rattle.checking.specs.Nodes.{recordAt, At};
 ghost use Rattle.checking.specs.Scoping.{Scope};
-ghost use Rattle.annotation.specs.Marks.{Source, BoundBy, MarkedTo};
-
-// Binds what the record at index i binds.
-fn bind(s: &[u8], g: Frame, i: usize, kind: u8, bound: IdSet) -> IdSet
-    requires { ⌜ At g (now s) i kind × (Scope bound × (length (setOf bound ++ binders (recordAt g (now s) i)) ≤ 64)) ⌝ }
-    ensures { λ r. ⌜ BoundBy r (setOf bound ++ binders (recordAt g (now (s .entry)) i)) ⌝ }
-{
-    let verdict = Verdict {
-        room: true,
-        binders: true,
-        uses: true,
-        ids: true,
-    };
-    let e = Entering {
-        scope: bound,
-        verdict,
-    };
-    let inner = enter_node(s, g, i, kind, e, 0);
-    inner.scope
-}
+ghost use Rattle.uses.specs.Sources.{Source};
+ghost use Rattle.annotation.specs.Marks.{MarkedTo};
 
 // The statement at index i, of depth at most `depth`.
 pub fn statement(s: &[u8], g: Frame, depth: usize, i: usize, bound: IdSet, row: &mut [u8]) -> usize

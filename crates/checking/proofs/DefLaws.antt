@@ -1,4 +1,5 @@
--- The steps over definitions: how deep they are, and what the walk finds. Assumes nothing.
+-- The steps over definitions: what is left of them in a loop (`DefsLeft`), with whatever the loop says of them: P; how deep they are, and
+-- what the walk finds. Assumes nothing.
 use Prim.Native.Nat.{ℕ, _+_, _-_, _≤_, _<_, max}
 use mathlib.Core.Path.{_≡_, refl, sym, ap, _∙_, subst}
 use mathlib.Core.Bool.{Bool, true, false}
@@ -8,7 +9,8 @@ use borrow.Author.Tests.{le-leb, lt-leb, leb-true, leb-false}
 use lib.Dec.{leb}
 use lib.ListN.{length, drop, length-append, length-drop}
 use Rattle.syntax.specs.Arrays.{setOf}
-use Rattle.syntax.specs.Context.{ids}
+use Rattle.syntax.specs.Context.{Context, ids}
+use Rattle.syntax.specs.declared.names.Identifier.{Identifier}
 use Rattle.model.specs.Syntax.{Stmt, Def}
 use Rattle.model.specs.Sizes.{depth, depthDefs}
 use Rattle.format.specs.Parse.{Parsed, refused, got}
@@ -50,6 +52,62 @@ def-parts {d} {n} {rs} {i} e es h =
       rest = record { begins = begins-right (flatten (e .body)) (flattenDefs es) a; shallow = h .shallow .1; count = omega (arith, h .count) };
     }
 
+-- ── what is left of definitions ──
+
+pub record DefsLeft (d : ℕ) (rs : List Record) (left here : ℕ) (P : List Def → Type 0) : Type 0 where
+  pub rest : List Def
+  pub stand : DefsStand d left rs here rest
+  pub holds : P rest
+
+-- the definition of this name and these parameters
+abbrev pub defOf : Identifier → Context → Stmt → Def
+defOf x Γ t = record { name = x; context = Γ; body = t }
+
+-- the first of them, and those behind it
+pub record DefNext (d : ℕ) (rs : List Record) (left here : ℕ) (P : List Def → Type 0) : Type 0 where
+  pub name : Identifier
+  pub context : Context
+  pub rest : List Def
+  pub holds : P (defOf name context (stmtAt d rs (here + 1)) ∷ rest)
+  pub inside : here < length rs
+  pub head : drop here rs ≡ definition name context ∷ drop (here + 1) rs
+  pub body : StmtStands d rs (here + 1) (stmtAt d rs (here + 1))
+  pub stand : DefsStand d (left - 1) rs (here + 1 + length (flatten (stmtAt d rs (here + 1)))) rest
+
+module _ {d : ℕ} {rs : List Record} {left here : ℕ} {P : List Def → Type 0} where
+  pub def-next : DefsLeft d rs left here P → 0 < left → DefNext d rs left here P
+  def-next l h = go (l .rest) (l .stand) (l .holds)
+    where
+      go : (es : List Def) → DefsStand d left rs here es → P es → DefNext d rs left here P
+      go [] s k = absurd (omega (arith, s .count))
+      go (e ∷ es) s k =
+          let p = def-parts e es s in
+          let i : stmtAt d rs (here + 1) ≡ e .body = stmt-is (p .body) in
+          record {
+            name = e .name;
+            context = e .context;
+            rest = es;
+            holds = subst (λ (w : Stmt). P (defOf (e .name) (e .context) w ∷ es)) (sym i) k;
+            inside = head-within rs here (definition (e .name) (e .context)) (p .head);
+            head = p .head;
+            body = subst (StmtStands d rs (here + 1)) (sym i) (p .body);
+            stand = subst (λ (w : Stmt). DefsStand d (left - 1) rs (here + 1 + length (flatten w)) es) (sym i) (p .rest);
+          }
+
+  pub def-turn : (n : DefNext d rs left here P) {next : ℕ} {Q : List Def → Type 0} → next ≡ here + 1 + length (flatten (stmtAt d rs (here + 1))) → Q (n .rest)
+      → DefsLeft d rs (left - 1) next Q
+  def-turn n e q = record { rest = n .rest; stand = subst (λ (w : ℕ). DefsStand d (left - 1) rs w (n .rest)) (sym e) (n .stand); holds = q }
+
+  pub def-kind : DefNext d rs left here P → kindOf (headOf (drop here rs)) ≡ 1
+  def-kind n = ap (λ (l : List Record). kindOf (headOf l)) (n .head)
+
+  pub defs-end : DefsLeft d rs left here P → left ≡ 0 → P []
+  defs-end l h = go (l .rest) (l .stand) (l .holds)
+    where
+      go : (es : List Def) → DefsStand d left rs here es → P es → P []
+      go [] s k = k
+      go (e ∷ es) s k = absurd (omega (arith, s .count))
+
 -- ── where the walk of question 5 stops, at a smaller depth ──
 
 module _ (d : ℕ) (rs : List Record) (i : ℕ) (t : Stmt) (b : Begins rs i (flatten t)) where
@@ -84,10 +142,8 @@ module _ (d : ℕ) (rs : List Record) (i : ℕ) (t : Stmt) (b : Begins rs i (fla
 
 -- ── the depth of what is left ──
 
-pub record DepthLeft (rs : List Record) (whole : Bool) (left at : ℕ) : Type 0 where
-  pub rest : List Def
-  pub stand : DefsStand 128 left rs at rest
-  pub same : whole ≡ leb (depthDefs rest) 64
+pub record Shallow (whole : Bool) (es : List Def) : Type 0 where
+  pub same : whole ≡ leb (depthDefs es) 64
 
 -- a depth within the limit does not decide
 deeper : (a b : ℕ) → a ≤ 64 → leb (max a b) 64 ≡ leb b 64
@@ -97,96 +153,52 @@ deeper a b h = go (leb b 64) refl
     go true e = le-leb (max a b) 64 (omega (arith, leb-true b 64 e))
     go false e = lt-leb (max a b) 64 (omega (arith, leb-false b 64 e))
 
-module _ {rs : List Record} {whole : Bool} {left at : ℕ} where
-  pub depth-inside : DepthLeft rs whole left at → 0 < left → at < length rs
-  depth-inside l h = go (l .rest) (l .stand)
+module _ {rs : List Record} {whole : Bool} {left at : ℕ} (n : DefNext 128 rs left at (Shallow whole)) where
+  -- the walk that goes 64 deep came through the first definition
+  pub depth-turn : (next : ℕ) → stop (stmt 64) rs (At (at + 1)) ≡ At next → DefsLeft 128 rs (left - 1) next (Shallow whole)
+  depth-turn next q = go (leb (depth body) 64) refl
     where
-      go : (es : List Def) → DefsStand 128 left rs at es → at < length rs
-      go [] s = absurd (omega (arith, s .count))
-      go (e ∷ es) s = head-within rs at _ (def-parts e es s .head)
+      body : Stmt
+      body = stmtAt 128 rs (at + 1)
 
-  pub depth-turn : (next : ℕ) → DepthLeft rs whole left at → 0 < left → stop (stmt 64) rs (At (at + 1)) ≡ At next → DepthLeft rs whole (left - 1) next
-  depth-turn next l h q = go (l .rest) (l .stand) (l .same)
+      go : (t : Bool) → leb (depth body) 64 ≡ t → DefsLeft 128 rs (left - 1) next (Shallow whole)
+      go true f =
+          let a = leb-true (depth body) 64 f in
+          let e : at + 1 + length (flatten body) ≡ next = cc (stop-shallow 64 rs (at + 1) body (n .body .begins) a, q) in
+          def-turn n (sym e) (record { same = n .holds .same ∙ deeper (depth body) (depthDefs (n .rest)) a })
+      go false f = let z : _≡_ {A = ℕ} 0 1 = cc (stop-deep 64 rs (at + 1) body (n .body .begins) (leb-false (depth body) 64 f), q) in absurd (omega arith)
+
+  -- .. or did not
+  pub depth-no : stop (stmt 64) rs (At (at + 1)) ≡ Nothing → whole ≡ false
+  depth-no q = go (leb (depth body) 64) refl
     where
-      go : (es : List Def) → DefsStand 128 left rs at es → whole ≡ leb (depthDefs es) 64 → DepthLeft rs whole (left - 1) next
-      go [] s k = absurd (omega (arith, s .count))
-      go (e ∷ es) s k = some (leb (depth (e .body)) 64) refl
-        where
-          p : DefParts 128 left rs at e es
-          p = def-parts e es s
+      body : Stmt
+      body = stmtAt 128 rs (at + 1)
 
-          some : (t : Bool) → leb (depth (e .body)) 64 ≡ t → DepthLeft rs whole (left - 1) next
-          some true f =
-              let a = leb-true (depth (e .body)) 64 f in
-              let n : at + 1 + length (flatten (e .body)) ≡ next = cc (stop-shallow 64 rs (at + 1) (e .body) (p .body .begins) a, q) in
-              record { rest = es; stand = subst (λ (z : ℕ). DefsStand 128 (left - 1) rs z es) n (p .rest); same = k ∙ deeper (depth (e .body)) (depthDefs es) a }
-          some false f = let z : _≡_ {A = ℕ} 0 1 = cc (stop-deep 64 rs (at + 1) (e .body) (p .body .begins) (leb-false (depth (e .body)) 64 f), q) in absurd (omega arith)
+      go : (t : Bool) → leb (depth body) 64 ≡ t → whole ≡ false
+      go true f = let z : _≡_ {A = ℕ} 0 1 = cc (stop-shallow 64 rs (at + 1) body (n .body .begins) (leb-true (depth body) 64 f), q) in absurd (omega arith)
+      go false f = n .holds .same ∙ lt-leb (max (depth body) (depthDefs (n .rest))) 64 (omega (arith, leb-false (depth body) 64 f))
 
-  pub depth-no : DepthLeft rs whole left at → 0 < left → stop (stmt 64) rs (At (at + 1)) ≡ Nothing → whole ≡ false
-  depth-no l h q = go (l .rest) (l .stand) (l .same)
-    where
-      go : (es : List Def) → DefsStand 128 left rs at es → whole ≡ leb (depthDefs es) 64 → whole ≡ false
-      go [] s k = absurd (omega (arith, s .count))
-      go (e ∷ es) s k = some (leb (depth (e .body)) 64) refl
-        where
-          p : DefParts 128 left rs at e es
-          p = def-parts e es s
-
-          some : (t : Bool) → leb (depth (e .body)) 64 ≡ t → whole ≡ false
-          some true f = let z : _≡_ {A = ℕ} 0 1 = cc (stop-shallow 64 rs (at + 1) (e .body) (p .body .begins) (leb-true (depth (e .body)) 64 f), q) in absurd (omega arith)
-          some false f = k ∙ lt-leb (max (depth (e .body)) (depthDefs es)) 64 (omega (arith, leb-false (depth (e .body)) 64 f))
-
-  pub depth-end : DepthLeft rs whole left at → left ≡ 0 → whole ≡ true
-  depth-end l h = go (l .rest) (l .stand) (l .same)
-    where
-      go : (es : List Def) → DefsStand 128 left rs at es → whole ≡ leb (depthDefs es) 64 → whole ≡ true
-      go [] s k = k
-      go (e ∷ es) s k = absurd (omega (arith, s .count))
+pub depth-end : {rs : List Record} {whole : Bool} {left at : ℕ} → DefsLeft 128 rs left at (Shallow whole) → left ≡ 0 → whole ≡ true
+depth-end l h = defs-end l h .same
 
 -- ── the walk of what is left ──
 
-pub record DefsLeft (rs : List Record) (M : ℕ) (whole : Verdict) (left : ℕ) (here : Walked) : Type 0 where
-  pub rest : List Def
-  pub stand : DefsStand 64 left rs (here .next) rest
-  pub same : whole ≡ walkDefs rest M (here .verdict)
-
-pub record DefNext (rs : List Record) (M : ℕ) (whole : Verdict) (left : ℕ) (here : Walked) : Type 0 where
-  pub inside : here .next < length rs
-  pub kind : kindOf (headOf (drop (here .next) rs)) ≡ 1
-  pub body : StmtStands 64 rs (here .next + 1) (stmtAt 64 rs (here .next + 1))
-  pub turn : (e : Entering) (w : Walked) → Entered e (enterAll M (ids (listOf (headOf (drop (here .next) rs)))) (record { scope = []; verdict = here .verdict }))
-      → WalkedTo w (here .next + 1 + length (flatten (stmtAt 64 rs (here .next + 1)))) (walkStmt (stmtAt 64 rs (here .next + 1)) M (setOf (e .scope)) (e .verdict))
-      → DefsLeft rs M whole (left - 1) w
+pub record WalksDefs (M : ℕ) (whole : Verdict) (here : Walked) (ds : List Def) : Type 0 where
+  pub same : whole ≡ walkDefs ds M (here .verdict)
 
 module _ {rs : List Record} {M : ℕ} {whole : Verdict} {left : ℕ} {here : Walked} where
-  pub def-next : DefsLeft rs M whole left here → 0 < left → DefNext rs M whole left here
+  pub def-walked : DefNext 64 rs left (here .next) (WalksDefs M whole here) → (e : Entering) (w : Walked)
+      → Entered e (enterAll M (ids (listOf (headOf (drop (here .next) rs)))) (record { scope = []; verdict = here .verdict }))
+      → WalkedTo w (here .next + 1 + length (flatten (stmtAt 64 rs (here .next + 1)))) (walkStmt (stmtAt 64 rs (here .next + 1)) M (setOf (e .scope)) (e .verdict))
+      → DefsLeft 64 rs (left - 1) (w .next) (WalksDefs M whole w)
   unfolding walkDefs
-  def-next l h = go (l .rest) (l .stand) (l .same)
-    where
-      go : (ds : List Def) → DefsStand 64 left rs (here .next) ds → whole ≡ walkDefs ds M (here .verdict) → DefNext rs M whole left here
-      go [] s q = absurd (omega (arith, s .count))
-      go (d ∷ ds) s q =
-          let p = def-parts d ds s in
-          let i : stmtAt 64 rs (here .next + 1) ≡ d .body = stmt-is (p .body) in
-          let r : headOf (drop (here .next) rs) ≡ definition (d .name) (d .context) = ap headOf (p .head) in
-          record {
-            inside = head-within rs (here .next) (definition (d .name) (d .context)) (p .head);
-            kind = ap kindOf r;
-            body = subst (StmtStands 64 rs (here .next + 1)) (sym i) (p .body);
-            turn = λ e w a b.
-                let f : scopedOf e ≡ enterAll M (ids (d .context)) (record { scope = []; verdict = here .verdict }) = a .is ∙ ap (λ (z : Record). enterAll M (ids (listOf z)) (record { scope = []; verdict = here .verdict })) r in
-                let n : w .next ≡ here .next + 1 + length (flatten (d .body)) = b .next ∙ ap (λ (z : Stmt). here .next + 1 + length (flatten z)) i in
-                record {
-                  rest = ds;
-                  stand = subst (λ (z : ℕ). DefsStand 64 (left - 1) rs z ds) (sym n) (p .rest);
-                  same = q ∙ ap (walkDefs ds M) (sym (b .verdict ∙ (ap (λ (z : Stmt). walkStmt z M (setOf (e .scope)) (e .verdict)) i ∙ ap (λ (z : Scoped). walkStmt (d .body) M (z .scope) (z .verdict)) f)));
-                };
-          }
+  def-walked n e w a b =
+      let body = stmtAt 64 rs (here .next + 1) in
+      let f : scopedOf e ≡ enterAll M (ids (n .context)) (record { scope = []; verdict = here .verdict }) =
+      a .is ∙ ap (λ (l : List Record). enterAll M (ids (listOf (headOf l))) (record { scope = []; verdict = here .verdict })) (n .head) in
+      def-turn n (b .next) (record { same = n .holds .same ∙ ap (walkDefs (n .rest) M) (sym (b .verdict ∙ ap (λ (z : Scoped). walkStmt body M (z .scope) (z .verdict)) f)) })
 
-  pub defs-end : DefsLeft rs M whole left here → left ≡ 0 → whole ≡ here .verdict
+  pub walked-defs : DefsLeft 64 rs left (here .next) (WalksDefs M whole here) → left ≡ 0 → whole ≡ here .verdict
   unfolding walkDefs
-  defs-end l h = go (l .rest) (l .stand) (l .same)
-    where
-      go : (ds : List Def) → DefsStand 64 left rs (here .next) ds → whole ≡ walkDefs ds M (here .verdict) → whole ≡ here .verdict
-      go [] s q = q
-      go (d ∷ ds) s q = absurd (omega (arith, s .count))
+  walked-defs l h = defs-end l h .same

@@ -1,12 +1,13 @@
--- Laws of bytes put into a buffer: one run after another, a byte past the end, the bytes of a number. Assumes nothing.
+-- Laws of bytes put into a buffer: one run after another, a run whose place was reserved, a byte past the end, the bytes of a number.
+-- Assumes nothing.
 use Prim.Native.Nat.{ℕ, zero, suc, _+_, _-_, _*_, _/_, _%_, _^_, _≤_, _<_}
 use mathlib.Core.List.{List, [], _∷_, _++_}
-use mathlib.Core.Path.{_≡_, refl, ap, sym, _∙_}
+use mathlib.Core.Path.{_≡_, refl, ap, sym, subst, _∙_}
 use native.Mathlib.Omega.{arith}
 use native.Mathlib.Numerals.{add-one}
 use native.Mathlib.Nat.{add-zero, add-suc, suc-add}
 use lib.ListN.{length, set, length-append, replicate}
-use lib.Seq.{sets}
+use lib.Seq.{sets, set-comm, length-sets}
 use Rattle.format.specs.Parse.{field}
 use Rattle.integers.proofs.Halves.{field-join}
 use Rattle.put.specs.Puts.{Puts}
@@ -24,12 +25,43 @@ set-past (x ∷ l) (suc i) b h = ap (λ z. x ∷ z) (set-past l i b (omega arith
 pub puts-none : (l : List ℕ) (at : ℕ) → Puts l l at at []
 puts-none l at = record { holds = refl; ends = sym (add-zero at) }
 
+-- the buffer keeps its length
+pub puts-same : {before after : List ℕ} {at next : ℕ} {bytes : List ℕ} → Puts before after at next bytes → length after ≡ length before
+puts-same {before} {at = at} {bytes = bytes} p = ap length (p .holds) ∙ length-sets before at bytes
+
+-- equal bytes
+pub puts-as : {before after : List ℕ} {at next : ℕ} {xs ys : List ℕ} → xs ≡ ys → Puts before after at next xs → Puts before after at next ys
+puts-as {before} {after} {at} {next} e p = subst (λ z. Puts before after at next z) e p
+
 -- one run of bytes after another
 pub puts-then : {a b c : List ℕ} {at n m : ℕ} {xs ys : List ℕ} → Puts a b at n xs → Puts b c n m ys → Puts a c at m (xs ++ ys)
 puts-then {a = a} {at = at} {xs = xs} {ys = ys} p q = record {
   holds = q .holds ∙ rw (p .holds, p .ends) (sym (sets-append xs a at ys));
   ends = rw (q .ends, p .ends, length-append xs ys) (omega arith);
 }
+
+-- ---- a place that is reserved: the bytes behind it are put first
+
+-- a byte before a run of bytes can be put first
+pub set-before : (ys l : List ℕ) (i j b : ℕ) → i < j → set (sets l j ys) i b ≡ sets (set l i b) j ys
+set-before [] l i j b h = refl
+set-before (y ∷ ys) l i j b h = set-before ys (set l j y) i (suc j) b (omega arith) ∙ ap (λ z. sets z (suc j) ys) (set-comm l j i y b (λ e. absurd (omega (arith, e))))
+
+-- .. and a run that ends before another begins
+pub sets-before : (xs l : List ℕ) (i j : ℕ) (ys : List ℕ) → i + length xs ≤ j → sets (sets l j ys) i xs ≡ sets (sets l i xs) j ys
+sets-before [] l i j ys h = refl
+sets-before (x ∷ xs) l i j ys h = ap (λ z. sets z (suc i) xs) (set-before ys l i j x (omega arith)) ∙ sets-before xs (set l i x) (suc i) j ys (omega arith)
+
+pub sets-reserved : (xs l : List ℕ) (at k : ℕ) (ys : List ℕ) → length xs ≡ k → sets (sets l (at + k) ys) at xs ≡ sets l at (xs ++ ys)
+sets-reserved xs l at k ys e = rw (← e) (sets-before xs l at (at + length xs) ys (omega arith) ∙ sym (sets-append xs l at ys))
+
+pub puts-reserved : {a b c : List ℕ} {at k n m : ℕ} {xs ys : List ℕ} → length xs ≡ k → Puts a b (at + k) n ys → Puts b c at m xs → Puts a c at n (xs ++ ys)
+puts-reserved {a = a} {at = at} {k = k} {xs = xs} {ys = ys} e p q = record {
+  holds = q .holds ∙ rw (p .holds) (sets-reserved xs a at k ys e);
+  ends = rw (p .ends, length-append xs ys) (omega (arith, e));
+}
+
+-- ---- the bytes of a number
 
 -- the lowest byte of a number, and then the others
 pub put-step : (w n b : ℕ) {l m : List ℕ} {at next : ℕ} → 0 < w → b ≡ n % 256 → Puts l m at next (b ∷ [])

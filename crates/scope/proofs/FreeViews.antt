@@ -1,27 +1,24 @@
 -- The free variables of a statement are those that its record uses, those of its clauses and those of its bodies, but for what the record
--- binds; so a record's row of marks comes from its uses and the rows behind it: `row-stmt`, `row-clause`. Assumes nothing.
-use Prim.Native.Nat.{ℕ, _≤_}
-use mathlib.Core.Path.{_≡_, sym, ap, _∙_}
+-- binds; so its mask comes from its uses and the masks behind it: `mask-stmt`, `mask-under`. A statement's rows are its record's, its
+-- clauses' and its bodies': `rows-view`, two numbers for each record. Assumes nothing.
+use Prim.Native.Nat.{ℕ, _+_, _*_, _%_, _^_}
+use mathlib.Core.Path.{_≡_, refl, sym, ap, _∙_}
 use mathlib.Core.Logic.{_⊎_, inl, inr}
 use mathlib.Core.List.{List, [], _∷_, _++_, append-nil, append-assoc}
 use native.Mathlib.Omega.{arith}
+use lib.Bits.{bitOr}
 use lib.ListN.{length, length-append}
 use Rattle.syntax.specs.Sets.{elem, _∈_, without}
-use Rattle.syntax.specs.Context.{Context, ids}
+use Rattle.syntax.specs.Context.{ids}
 use Rattle.syntax.specs.declared.names.VarId.{VarId}
-use Rattle.syntax.specs.declared.names.Identifier.{Identifier}
 use Rattle.syntax.proofs.Bools.{Answers}
 use Rattle.syntax.proofs.Members.{elem?, ∈-left, ∈-right, ∈-split, ∈-without, without-∈}
-use Rattle.model.specs.Syntax.{Stmt, Substitute, Call, Let, Switch, Create, Invoke, Literal, Op, IfC, Clauses, clause}
+use Rattle.model.specs.Syntax.{Stmt, Substitute, Call, Let, Switch, Create, Invoke, Literal, Op, IfC, Clauses, end, clause}
 use Rattle.model.specs.FreeVars.{freeVars, freeVarsClauses, optionalId}
 use Rattle.trees.specs.Views.{recordOf, clausesIn, bodiesOf, binders, usesOf}
-use Rattle.scope.specs.FreeRows.{rowOf, joined}
-use Rattle.scope.proofs.RowLaws.{row-same, row-joined, row-without}
-
--- the free variables of some statements
-abbrev pub freeBodies : List Stmt → List VarId
-freeBodies [] = []
-freeBodies (t ∷ ts) = freeVars t ++ freeBodies ts
+use Rattle.format.specs.Shape.{flatten, flattenClauses}
+use Rattle.scope.specs.FreeRows.{maskOf, freeBodies, rowOf, rowUnder, rowsStmt, rowsClauses, rowsBodies}
+use Rattle.scope.proofs.RowLaws.{mask-same, mask-++, mask-front, mask-without}
 
 -- what is in view from a record: its uses, its clauses' and its bodies' free variables
 abbrev pub inView : Stmt → List VarId
@@ -85,11 +82,11 @@ free-view (Literal lit var next) p = rw append-nil (next-bound [] (freeVars next
 free-view (Op fst op snd var next) p = rw append-nil (next-bound (fst .id ∷ snd .id ∷ []) (freeVars next) (var .id ∷ []))
 free-view (IfC sort fst snd thenc elsec) p = rw append-nil (same-list [] ((fst .id ∷ optionalId snd) ++ (freeVars thenc ++ freeVars elsec)))
 
--- ── rows ──
+-- ── masks ──
 
--- sets with the same members but for what is not in scope have the same row
-row-but : (xs s t Δ : List VarId) → length Δ ≤ 64 → ((x : VarId) → x ∈ Δ → x ∈ xs → ⊥) → SameBut xs s t → rowOf s Δ ≡ rowOf t Δ
-row-but xs s t Δ h apart e = row-same s t Δ h (λ x k. go x k (elem? x s) (elem? x t))
+-- sets with the same members but for what is not in scope have the same mask
+mask-but : (xs s t Δ : List VarId) → ((x : VarId) → x ∈ Δ → x ∈ xs → ⊥) → SameBut xs s t → maskOf s Δ ≡ maskOf t Δ
+mask-but xs s t Δ apart e = mask-same s t Δ (λ x k. go x k (elem? x s) (elem? x t))
   where
     go : (x : VarId) → x ∈ Δ → Answers (elem x s) (x ∈ s) → Answers (elem x t) (x ∈ t) → elem x s ≡ elem x t
     go x k (inl a) (inl b) = a .0 ∙ sym (b .0)
@@ -97,40 +94,60 @@ row-but xs s t Δ h apart e = row-same s t Δ h (λ x k. go x k (elem? x s) (ele
     go x k (inr a) (inl b) = absurd (a .1 (e .back x (λ m. apart x k m) (b .1)))
     go x k (inr a) (inr b) = a .0 ∙ sym (b .0)
 
--- the rows of some statements in a longer scope, joined to the row of a set one after another
-abbrev pub joinedBodies : List Stmt → (scope inner : List VarId) → List ℕ → List ℕ
-joinedBodies [] Δ Δ′ row = row
-joinedBodies (t ∷ ts) Δ Δ′ row = joinedBodies ts Δ Δ′ (joined (length Δ) row (rowOf (freeVars t) Δ′))
-
-row-bodies : (ts : List Stmt) (s Δ xs : List VarId) → length (Δ ++ xs) ≤ 64 → joinedBodies ts Δ (Δ ++ xs) (rowOf s Δ) ≡ rowOf (s ++ freeBodies ts) Δ
-row-bodies [] s Δ xs h = ap (λ (z : List VarId). rowOf z Δ) (sym (append-nil s))
-row-bodies (t ∷ ts) s Δ xs h =
-    ap (joinedBodies ts Δ (Δ ++ xs)) (row-joined s (freeVars t) Δ xs h)
-    ∙ row-bodies ts (s ++ freeVars t) Δ xs h
-    ∙ ap (λ (z : List VarId). rowOf z Δ) (append-assoc s (freeVars t) (freeBodies ts))
-
 module _ (Δ : List VarId) where
-  -- a statement's row: that of its uses, joined with that of its clauses and those of its bodies
-  pub row-stmt : (t : Stmt) → Plain t → length (Δ ++ binders (recordOf t)) ≤ 64 → ((x : VarId) → x ∈ Δ → x ∈ binders (recordOf t) → ⊥)
-      → rowOf (freeVars t) Δ ≡ joinedBodies (bodiesOf t) Δ (Δ ++ binders (recordOf t)) (joined (length Δ) (rowOf (usesOf (recordOf t)) Δ) (rowOf (freeVarsClauses (clausesIn t)) Δ))
-  row-stmt t p h apart =
-      let n : length Δ ≤ 64 = omega (arith, length-append Δ (binders (recordOf t))) in
+  -- what is below binders, joined to a set: the places of the outer scope
+  pub mask-below : (s f xs : List VarId) → bitOr (maskOf s Δ) (maskOf f (Δ ++ xs) % 2 ^ length Δ) ≡ maskOf (s ++ f) Δ
+  mask-below s f xs = ap (bitOr (maskOf s Δ)) (mask-front f Δ xs) ∙ sym (mask-++ s f Δ)
+
+  -- .. without the binders, which are new
+  pub mask-under : (s f xs : List VarId) → ((x : VarId) → x ∈ Δ → x ∈ xs → ⊥) → bitOr (maskOf s Δ) (maskOf f (Δ ++ xs) % 2 ^ length Δ) ≡ maskOf (s ++ without f xs) Δ
+  mask-under s f xs apart = mask-below s f xs ∙ mask-++ s f Δ ∙ ap (bitOr (maskOf s Δ)) (sym (mask-without f xs Δ apart)) ∙ sym (mask-++ s (without f xs) Δ)
+
+  -- a statement's mask: that of its uses, that of its clauses, and that of its bodies at the places of the scope
+  pub mask-stmt : (t : Stmt) → Plain t → ((x : VarId) → x ∈ Δ → x ∈ binders (recordOf t) → ⊥)
+      → maskOf (freeVars t) Δ
+      ≡ bitOr (bitOr (maskOf (usesOf (recordOf t)) Δ) (maskOf (freeVarsClauses (clausesIn t)) Δ)) (maskOf (freeBodies (bodiesOf t)) (Δ ++ binders (recordOf t)) % 2 ^ length Δ)
+  mask-stmt t p apart =
       let u = usesOf (recordOf t) in
       let c = freeVarsClauses (clausesIn t) in
-      let j : joined (length Δ) (rowOf u Δ) (rowOf c Δ) ≡ rowOf (u ++ c) Δ =
-      ap (λ (z : List VarId). joined (length Δ) (rowOf u Δ) (rowOf c z)) (sym (append-nil Δ)) ∙ row-joined u c Δ [] (rw append-nil n) in
-      row-but (binders (recordOf t)) (freeVars t) (inView t) Δ n apart (free-view t p)
-      ∙ ap (λ (z : List VarId). rowOf z Δ) (sym (append-assoc u c (freeBodies (bodiesOf t))))
-      ∙ sym (ap (joinedBodies (bodiesOf t) Δ (Δ ++ binders (recordOf t))) j ∙ row-bodies (bodiesOf t) (u ++ c) Δ (binders (recordOf t)) h)
+      let f = freeBodies (bodiesOf t) in
+      mask-but (binders (recordOf t)) (freeVars t) (inView t) Δ apart (free-view t p)
+      ∙ ap (λ (z : List VarId). maskOf z Δ) (sym (append-assoc u c f))
+      ∙ sym (mask-below (u ++ c) f (binders (recordOf t)))
+      ∙ ap (λ (n : ℕ). bitOr n (maskOf f (Δ ++ binders (recordOf t)) % 2 ^ length Δ)) (mask-++ u c Δ)
 
-  -- a clause's row: that of its body, joined with that of the clauses after it
-  pub row-clause : (x : Identifier) (Γ : Context) (body : Stmt) (rest : Clauses) → length (Δ ++ ids Γ) ≤ 64 → ((y : VarId) → y ∈ Δ → y ∈ ids Γ → ⊥)
-      → rowOf (freeVarsClauses (clause x Γ body rest)) Δ ≡ joined (length Δ) (joined (length Δ) (rowOf [] Δ) (rowOf (freeVars body) (Δ ++ ids Γ))) (rowOf (freeVarsClauses rest) Δ)
-  unfolding freeVars
-  row-clause x Γ body rest h apart =
-      let n : length Δ ≤ 64 = omega (arith, length-append Δ (ids Γ)) in
-      let b : joined (length Δ) (rowOf [] Δ) (rowOf (freeVars body) (Δ ++ ids Γ)) ≡ rowOf (without (freeVars body) (ids Γ)) Δ =
-      row-joined [] (freeVars body) Δ (ids Γ) h ∙ sym (row-without (freeVars body) (ids Γ) Δ n apart) in
-      sym (ap (λ (z : List ℕ). joined (length Δ) z (rowOf (freeVarsClauses rest) Δ)) b
-      ∙ ap (λ (z : List VarId). joined (length Δ) (rowOf (without (freeVars body) (ids Γ)) Δ) (rowOf (freeVarsClauses rest) z)) (sym (append-nil Δ))
-      ∙ row-joined (without (freeVars body) (ids Γ)) (freeVarsClauses rest) Δ [] (rw append-nil n))
+-- ── rows ──
+
+pub rows-view : (t : Stmt) (Δ : List VarId) → rowsStmt t Δ ≡ rowOf t Δ ++ (rowsClauses (clausesIn t) Δ ++ rowsBodies (bodiesOf t) (Δ ++ binders (recordOf t)))
+unfolding rowsStmt
+rows-view (Substitute ps next) Δ = rw (append-nil Δ, append-nil (rowsStmt next Δ)) refl
+rows-view (Call label args) Δ = sym (append-nil (rowOf (Call label args) Δ))
+rows-view (Let var ty tag args next) Δ = rw append-nil refl
+rows-view (Switch var ty cs) Δ = rw append-nil refl
+rows-view (Create var ty env cs next) Δ = rw append-nil refl
+rows-view (Invoke var tag ty args) Δ = sym (append-nil (rowOf (Invoke var tag ty args) Δ))
+rows-view (Literal lit var next) Δ = rw append-nil refl
+rows-view (Op fst op snd var next) Δ = rw append-nil refl
+rows-view (IfC sort fst snd thenc elsec) Δ = rw (append-nil Δ, append-nil (rowsStmt elsec Δ)) refl
+
+-- two numbers for each record
+mutual
+  unfolding flatten rowsStmt rowOf rowUnder
+
+  pub rows-length : (t : Stmt) (Δ : List VarId) → length (rowsStmt t Δ) ≡ 2 * length (flatten t)
+  rows-length (Substitute ps next) Δ = omega (arith, rows-length next Δ)
+  rows-length (Call label args) Δ = refl
+  rows-length (Let var ty tag args next) Δ = omega (arith, rows-length next (Δ ++ (var .id ∷ [])))
+  rows-length (Switch var ty cs) Δ = omega (arith, rows-clauses-length cs Δ)
+  rows-length (Create var ty env cs next) Δ =
+      omega (arith, length-append (rowsClauses cs Δ) (rowsStmt next (Δ ++ (var .id ∷ []))), length-append (flattenClauses cs) (flatten next), rows-clauses-length cs Δ, rows-length next (Δ ++ (var .id ∷ [])))
+  rows-length (Invoke var tag ty args) Δ = refl
+  rows-length (Literal lit var next) Δ = omega (arith, rows-length next (Δ ++ (var .id ∷ [])))
+  rows-length (Op fst op snd var next) Δ = omega (arith, rows-length next (Δ ++ (var .id ∷ [])))
+  rows-length (IfC sort fst snd thenc elsec) Δ =
+      omega (arith, length-append (rowsStmt thenc Δ) (rowsStmt elsec Δ), length-append (flatten thenc) (flatten elsec), rows-length thenc Δ, rows-length elsec Δ)
+
+  pub rows-clauses-length : (cs : Clauses) (Δ : List VarId) → length (rowsClauses cs Δ) ≡ 2 * length (flattenClauses cs)
+  rows-clauses-length end Δ = refl
+  rows-clauses-length (clause xtor context body rest) Δ =
+      omega (arith, length-append (rowsStmt body (Δ ++ ids context)) (rowsClauses rest Δ), length-append (flatten body) (flattenClauses rest), rows-length body (Δ ++ ids context), rows-clauses-length rest Δ)

@@ -1,147 +1,109 @@
--- Laws of the rows of free variables: a row by its members, a row at a place, rows joined; how a record's row comes from its uses and
--- the rows behind it (`row-stmt`, `row-clause`). Assumes nothing.
-use Prim.Native.Nat.{ℕ, zero, suc, _≤_, _<_}
+-- Laws of the masks of free variables: a mask by its members and by its bits, joins, longer scopes; how many numbers the rows have.
+-- Assumes nothing.
+use Prim.Native.Nat.{ℕ, zero, suc, _+_, _*_, _/_, _%_, _^_, _≤_, _<_, max}
 use mathlib.Core.Path.{_≡_, refl, sym, ap, ap₂, _∙_}
 use mathlib.Core.Logic.{inl, inr}
-use mathlib.Core.Bool.{Bool, true, false, _||_, cond}
-use mathlib.Core.List.{List, [], _∷_, _++_, map}
+use mathlib.Core.Bool.{Bool, true, false, _||_}
+use mathlib.Core.List.{List, [], _∷_, _++_}
 use native.Mathlib.Omega.{arith}
-use borrow.Author.Tests.{ltb-true, ltb-false}
-use lib.Dec.{eqb, ltb}
-use lib.ListN.{length, getD, replicate, length-append, length-map, length-replicate}
-use lib.Seq.{getD-take, ext-getD, length-take-le}
+use native.Mathlib.Nat.{pow-suc, div-div-eq-div-mul}
+use lib.Arith.{mod-mul}
+use lib.Bits.{bitOr, or-step}
+use lib.Pow.{pow-pos}
+use lib.ListN.{length, getD}
 use Rattle.syntax.specs.Sets.{elem, _∈_, without}
 use Rattle.syntax.specs.declared.names.VarId.{VarId}
 use Rattle.syntax.proofs.Bools.{Answers}
 use Rattle.syntax.proofs.Members.{elem?, ∈-without, without-∈}
-use Rattle.scope.specs.FreeRows.{bit, rowOf, joined}
+use Rattle.scope.specs.FreeRows.{bit, maskOf}
 use Rattle.scope.proofs.WalkLaws.{elem-++}
 
--- a variable that stands nowhere
-abbrev none : VarId
-none = record { 0 = 0 }
+-- ── the bits of a mask ──
 
--- ── the numbers of a row ──
+bit-small : (b : Bool) → bit b ≤ 1
+bit-small true = omega arith
+bit-small false = omega arith
 
--- the marks of a scope, and zeros
-abbrev padded : (s Δ : List VarId) → List ℕ
-padded s Δ = map (λ (x : VarId). bit (elem x s)) Δ ++ replicate 64 0
+pow-more : (n : ℕ) → 2 ^ suc n ≡ 2 * 2 ^ n
+pow-more n = pow-suc 2 n ∙ omega arith
 
-padded-long : (s Δ : List VarId) → 64 ≤ length (padded s Δ)
-padded-long s Δ = omega (arith, length-append (map (λ (x : VarId). bit (elem x s)) Δ) (replicate 64 0), length-replicate {A = ℕ} 64 0)
+-- the mask of a scope of n variables has n bits
+pub mask-lt : (s Δ : List VarId) → maskOf s Δ < 2 ^ length Δ
+unfolding maskOf
+mask-lt s [] = omega arith
+mask-lt s (x ∷ Δ) = omega (arith, mask-lt s Δ, bit-small (elem x s), pow-more (length Δ))
 
-pub row-length : (s Δ : List VarId) → length (rowOf s Δ) ≡ 64
-unfolding rowOf
-row-length s Δ = length-take-le 64 (padded s Δ) (padded-long s Δ)
+pub mask-empty : (s : List VarId) → maskOf s [] ≡ 0
+unfolding maskOf
+mask-empty s = refl
 
-getD-map-at : (f : VarId → ℕ) (Δ : List VarId) (t : List ℕ) (p : ℕ) → p < length Δ → getD (map f Δ ++ t) p 0 ≡ f (getD Δ p none)
-getD-map-at f [] t p h = absurd (omega arith)
-getD-map-at f (x ∷ Δ) t zero h = refl
-getD-map-at f (x ∷ Δ) t (suc p) h = getD-map-at f Δ t p (omega arith)
+-- its lowest bit, and the others
+mask-head : (s : List VarId) (x : VarId) (Δ : List VarId) → maskOf s (x ∷ Δ) % 2 ≡ bit (elem x s)
+unfolding maskOf
+mask-head s x Δ = omega (arith, bit-small (elem x s))
 
--- at the place of a variable in scope
-pub row-at : (s Δ : List VarId) (p : ℕ) → p < length Δ → p < 64 → getD (rowOf s Δ) p 0 ≡ bit (elem (getD Δ p none) s)
-unfolding rowOf
-row-at s Δ p h k = getD-take 64 (padded s Δ) p 0 k ∙ getD-map-at (λ (x : VarId). bit (elem x s)) Δ (replicate 64 0) p h
+mask-tail : (s : List VarId) (x : VarId) (Δ : List VarId) → maskOf s (x ∷ Δ) / 2 ≡ maskOf s Δ
+unfolding maskOf
+mask-tail s x Δ = omega (arith, bit-small (elem x s))
 
--- .. and past the scope
-pub row-past : (s Δ : List VarId) (p : ℕ) → length Δ ≤ p → p < 64 → getD (rowOf s Δ) p 0 ≡ 0
-unfolding rowOf
-row-past s Δ p h k =
-    getD-take 64 (padded s Δ) p 0 k
-    ∙ past (map (λ (x : VarId). bit (elem x s)) Δ) p (omega (arith, length-map Δ (λ (x : VarId). bit (elem x s))))
-  where
-    clean : (n i : ℕ) → _≡_ {A = ℕ} (getD (replicate n 0) i 0) 0
-    clean zero i = refl
-    clean (suc n) zero = refl
-    clean (suc n) (suc i) = clean n i
+-- the bit of the variable that was bound p-th
+pub mask-at : (s Δ : List VarId) (p : ℕ) (none : VarId) → p < length Δ → maskOf s Δ / 2 ^ p % 2 ≡ bit (elem (getD Δ p none) s)
+mask-at s [] p none h = absurd (omega arith)
+mask-at s (x ∷ Δ) zero none h = ap (λ (n : ℕ). n % 2) (omega arith) ∙ mask-head s x Δ
+mask-at s (x ∷ Δ) (suc p) none h =
+    ap (λ (n : ℕ). maskOf s (x ∷ Δ) / n % 2) (pow-more p)
+    ∙ ap (λ (n : ℕ). n % 2) (sym (div-div-eq-div-mul (maskOf s (x ∷ Δ)) 2 (2 ^ p)) ∙ ap (λ (n : ℕ). n / 2 ^ p) (mask-tail s x Δ))
+    ∙ mask-at s Δ p none (omega arith)
 
-    past : (l : List ℕ) (i : ℕ) → length l ≤ i → getD (l ++ replicate 64 0) i 0 ≡ 0
-    past [] i a = clean 64 i
-    past (x ∷ l) zero a = absurd (omega arith)
-    past (x ∷ l) (suc i) a = past l i (omega arith)
+-- ── a mask depends on the members only ──
 
--- two rows of 64 numbers that agree at every place are one
-pub row-ext : (a b : List ℕ) → length a ≡ 64 → length b ≡ 64 → ((p : ℕ) → p < 64 → getD a p 0 ≡ getD b p 0) → a ≡ b
-row-ext a b ha hb f = ext-getD 0 a b (ha ∙ sym hb) (λ p h. f p (omega arith))
+pub mask-same : (s t Δ : List VarId) → ((x : VarId) → x ∈ Δ → elem x s ≡ elem x t) → maskOf s Δ ≡ maskOf t Δ
+unfolding maskOf
+mask-same s t [] f = refl
+mask-same s t (x ∷ Δ) f = ap₂ (λ (b : Bool) (n : ℕ). bit b + 2 * n) (f x (inl refl)) (mask-same s t Δ (λ y h. f y (inr h)))
 
--- a row is what it is at the places in scope
-pub row-is : (s Δ : List VarId) (row : List ℕ) → length Δ ≤ 64 → length row ≡ 64
-    → ((p : ℕ) → p < length Δ → getD row p 0 ≡ bit (elem (getD Δ p none) s)) → ((p : ℕ) → length Δ ≤ p → p < 64 → getD row p 0 ≡ 0) → row ≡ rowOf s Δ
-row-is s Δ row h n f g = row-ext row (rowOf s Δ) n (row-length s Δ) (λ p k. go p k (ltb p (length Δ)) refl)
-  where
-    go : (p : ℕ) → p < 64 → (t : Bool) → ltb p (length Δ) ≡ t → getD row p 0 ≡ getD (rowOf s Δ) p 0
-    go p k true e = let l = ltb-true p (length Δ) e in f p l ∙ sym (row-at s Δ p l k)
-    go p k false e = let l = ltb-false p (length Δ) e in g p l k ∙ sym (row-past s Δ p l k)
+pub mask-none : (Δ : List VarId) → maskOf [] Δ ≡ 0
+unfolding maskOf
+mask-none [] = refl
+mask-none (x ∷ Δ) = omega (arith, mask-none Δ)
 
--- ── a row depends on the members only ──
+-- ── joins ──
 
-getD-in : (Δ : List VarId) (p : ℕ) → p < length Δ → getD Δ p none ∈ Δ
-getD-in [] p h = absurd (omega arith)
-getD-in (x ∷ Δ) zero h = inl refl
-getD-in (x ∷ Δ) (suc p) h = inr (getD-in Δ p (omega arith))
-
-pub row-same : (s t Δ : List VarId) → length Δ ≤ 64 → ((x : VarId) → x ∈ Δ → elem x s ≡ elem x t) → rowOf s Δ ≡ rowOf t Δ
-row-same s t Δ h f = row-is t Δ (rowOf s Δ) h (row-length s Δ)
-    (λ p l. row-at s Δ p l (omega arith) ∙ ap bit (f (getD Δ p none) (getD-in Δ p l)))
-    (λ p l k. row-past s Δ p l k)
-
--- ── rows joined ──
-
-joined-length : (n : ℕ) (a b : List ℕ) → length (joined n a b) ≡ length a
-unfolding joined
-joined-length zero a b = refl
-joined-length (suc n) [] b = refl
-joined-length (suc n) (x ∷ a) [] = refl
-joined-length (suc n) (x ∷ a) (y ∷ b) = ap suc (joined-length n a b)
-
-pub joined-at : (n : ℕ) (a b : List ℕ) (p : ℕ) → p < n → p < length a → p < length b → getD (joined n a b) p 0 ≡ cond (eqb (getD b p 0) 0) (getD a p 0) 1
-unfolding joined
-joined-at zero a b p h k l = absurd (omega arith)
-joined-at (suc n) [] b p h k l = absurd (omega arith)
-joined-at (suc n) (x ∷ a) [] p h k l = absurd (omega arith)
-joined-at (suc n) (x ∷ a) (y ∷ b) zero h k l = refl
-joined-at (suc n) (x ∷ a) (y ∷ b) (suc p) h k l = joined-at n a b p (omega arith) (omega arith) (omega arith)
-
-pub joined-past : (n : ℕ) (a b : List ℕ) (p : ℕ) → n ≤ p → getD (joined n a b) p 0 ≡ getD a p 0
-unfolding joined
-joined-past zero a b p h = refl
-joined-past (suc n) [] b p h = refl
-joined-past (suc n) (x ∷ a) [] p h = refl
-joined-past (suc n) (x ∷ a) (y ∷ b) zero h = absurd (omega arith)
-joined-past (suc n) (x ∷ a) (y ∷ b) (suc p) h = joined-past n a b p (omega arith)
-
-bit-or : (a b : Bool) → cond (eqb (bit b) 0) (bit a) 1 ≡ bit (a || b)
+bit-or : (a b : Bool) → max (bit a) (bit b) ≡ bit (a || b)
 bit-or true true = refl
 bit-or true false = refl
 bit-or false true = refl
 bit-or false false = refl
 
-getD-left : (Δ xs : List VarId) (p : ℕ) → p < length Δ → getD (Δ ++ xs) p none ≡ getD Δ p none
-getD-left [] xs p h = absurd (omega arith)
-getD-left (x ∷ Δ) xs zero h = refl
-getD-left (x ∷ Δ) xs (suc p) h = getD-left Δ xs p (omega arith)
-
--- the row of a set, joined with that of another one in a longer scope
-pub row-joined : (s u Δ xs : List VarId) → length (Δ ++ xs) ≤ 64 → joined (length Δ) (rowOf s Δ) (rowOf u (Δ ++ xs)) ≡ rowOf (s ++ u) Δ
-row-joined s u Δ xs h =
-    let n : length Δ ≤ 64 = omega (arith, length-append Δ xs) in
-    row-is (s ++ u) Δ (joined (length Δ) (rowOf s Δ) (rowOf u (Δ ++ xs))) n (joined-length (length Δ) (rowOf s Δ) (rowOf u (Δ ++ xs)) ∙ row-length s Δ)
-    (λ p l. at p l) (λ p l k. joined-past (length Δ) (rowOf s Δ) (rowOf u (Δ ++ xs)) p l ∙ row-past s Δ p l k)
+-- the mask of a join
+pub mask-++ : (s u Δ : List VarId) → maskOf (s ++ u) Δ ≡ bitOr (maskOf s Δ) (maskOf u Δ)
+mask-++ s u [] = mask-empty (s ++ u) ∙ ap₂ bitOr (sym (mask-empty s)) (sym (mask-empty u))
+mask-++ s u (x ∷ Δ) =
+    whole
+    ∙ ap₂ (λ (n b : ℕ). n * 2 + b) (mask-++ s u Δ ∙ ap₂ bitOr (sym (mask-tail s x Δ)) (sym (mask-tail u x Δ)))
+    (ap bit (elem-++ x s u) ∙ sym (bit-or (elem x s) (elem x u)) ∙ ap₂ max (sym (mask-head s x Δ)) (sym (mask-head u x Δ)))
+    ∙ sym (or-step (maskOf s (x ∷ Δ)) (maskOf u (x ∷ Δ)))
   where
-    at : (p : ℕ) → p < length Δ → getD (joined (length Δ) (rowOf s Δ) (rowOf u (Δ ++ xs))) p 0 ≡ bit (elem (getD Δ p none) (s ++ u))
-    at p l =
-        let k : p < 64 = omega (arith, length-append Δ xs) in
-        joined-at (length Δ) (rowOf s Δ) (rowOf u (Δ ++ xs)) p l (omega (arith, row-length s Δ)) (omega (arith, row-length u (Δ ++ xs)))
-        ∙ ap₂ (λ (b a : ℕ). cond (eqb b 0) a 1)
-        (row-at u (Δ ++ xs) p (omega (arith, length-append Δ xs)) k ∙ ap (λ (x : VarId). bit (elem x u)) (getD-left Δ xs p l))
-        (row-at s Δ p l k)
-        ∙ bit-or (elem (getD Δ p none) s) (elem (getD Δ p none) u)
-        ∙ ap bit (sym (elem-++ (getD Δ p none) s u))
+    whole : maskOf (s ++ u) (x ∷ Δ) ≡ maskOf (s ++ u) Δ * 2 + bit (elem x (s ++ u))
+    whole = omega (arith, mask-head (s ++ u) x Δ, mask-tail (s ++ u) x Δ)
 
--- binders that are new to the scope take nothing from a row
-pub row-without : (s xs Δ : List VarId) → length Δ ≤ 64 → ((x : VarId) → x ∈ Δ → x ∈ xs → ⊥) → rowOf (without s xs) Δ ≡ rowOf s Δ
-row-without s xs Δ h apart = row-same (without s xs) s Δ h (λ x k. go x k (elem? x s) (elem? x (without s xs)))
+-- ── longer scopes ──
+
+-- what was bound first has the lowest places
+pub mask-front : (s Δ xs : List VarId) → maskOf s (Δ ++ xs) % 2 ^ length Δ ≡ maskOf s Δ
+mask-front s [] xs = omega (arith, mask-lt s [])
+mask-front s (x ∷ Δ) xs =
+    ap (λ (n : ℕ). maskOf s (x ∷ (Δ ++ xs)) % n) (pow-suc 2 (length Δ))
+    ∙ mod-mul (maskOf s (x ∷ (Δ ++ xs))) (pow-pos (length Δ)) (omega arith)
+    ∙ ap₂ (λ (n b : ℕ). n % 2 ^ length Δ * 2 + b) (mask-tail s x (Δ ++ xs)) (mask-head s x (Δ ++ xs))
+    ∙ ap (λ (n : ℕ). n * 2 + bit (elem x s)) (mask-front s Δ xs)
+    ∙ omega (arith, mask-head s x Δ, mask-tail s x Δ)
+
+-- ── binders ──
+
+-- binders that are new to the scope take nothing from a mask
+pub mask-without : (s xs Δ : List VarId) → ((x : VarId) → x ∈ Δ → x ∈ xs → ⊥) → maskOf (without s xs) Δ ≡ maskOf s Δ
+mask-without s xs Δ apart = mask-same (without s xs) s Δ (λ x k. go x k (elem? x s) (elem? x (without s xs)))
   where
     go : (x : VarId) → x ∈ Δ → Answers (elem x s) (x ∈ s) → Answers (elem x (without s xs)) (x ∈ without s xs) → elem x (without s xs) ≡ elem x s
     go x k (inl a) (inl b) = b .0 ∙ sym (a .0)

@@ -1,2 +1,3 @@
--- Sets that the code holds.
+-- Sets that the code holds, and what a walk needs of an image.
 pub mod Sets
+pub mod Sources

@@ -1,13 +1,16 @@
-// The IDs that the record at an index uses, in their order.
+// The IDs that the record at an index uses, in their order, and the scope with what it binds.
+use checking::nodes::enter_node;
 use checking::nodes::first;
 use checking::nodes::list_at;
 use checking::nodes::operand;
+use checking::scoping::Entering;
 use directory::Frame;
 use fields::count;
 use parts::byte;
 use parts::identifier;
 use parts::identifier_at;
 use records::kinds::Kind;
+use scope::Verdict;
 use syntax::names::Identifier;
 use syntax::sets::IdSet;
 ghost use mathlib.Core.Path.{_≡_};
@@ -18,11 +21,13 @@ ghost use lib.ListN.{length};
 ghost use Rattle.syntax.specs.Arrays.{setOf, SetHolds};
 ghost use Rattle.syntax.specs.Context.{ids};
 ghost use Rattle.model.specs.FreeVars.{optionalId};
-ghost use Rattle.trees.specs.Views.{usesOf};
+ghost use Rattle.trees.specs.Views.{binders, usesOf};
 ghost use Rattle.scope.specs.Flat.{smallRecord};
 ghost use Rattle.parts.specs.Parts.{listOf};
 ghost use Rattle.checking.specs.Nodes.{recordAt, At, hasList, firstOf, operandOf, secondOf};
+ghost use Rattle.checking.specs.Scoping.{Scope};
 ghost use Rattle.uses.specs.Sets.{Room};
+ghost use Rattle.uses.specs.Sources.{BoundBy};
 
 // The set, with the bindings of a record's list behind.
 fn add_list(s: &[u8], g: Frame, i: usize, kind: u8, set: IdSet) -> IdSet
@@ -98,4 +103,23 @@ pub fn uses(s: &[u8], g: Frame, i: usize, kind: u8) -> IdSet
         return add_second(s, g, i, only(first(s, g, i, 10)));
     }
     IdSet::empty()
+}
+
+// Binds what the record at index i binds.
+pub fn bind(s: &[u8], g: Frame, i: usize, kind: u8, bound: IdSet) -> IdSet
+    requires { ⌜ At g (now s) i kind × (Scope bound × (length (setOf bound ++ binders (recordAt g (now s) i)) ≤ 64)) ⌝ }
+    ensures { λ r. ⌜ BoundBy r (setOf bound ++ binders (recordAt g (now (s .entry)) i)) ⌝ }
+{
+    let verdict = Verdict {
+        room: true,
+        binders: true,
+        uses: true,
+        ids: true,
+    };
+    let e = Entering {
+        scope: bound,
+        verdict,
+    };
+    let inner = enter_node(s, g, i, kind, e, 0);
+    inner.scope
 }

@@ -13,11 +13,14 @@ use Rattle.directory.specs.Slots.{recordsIn}
 use Rattle.directory.proofs.Places.{records-length}
 use Rattle.trees.specs.Places.{clausesAt, bodiesAt}
 use Rattle.trees.proofs.PlaceLaws.{stmt-parts}
+use Rattle.trees.proofs.Steps.{head-inside, ClausesLeft, clause-next, BodiesLeft, body-next}
 use Rattle.scope.specs.Flat.{smallRecord}
 use Rattle.scope.specs.Marking.{markAll, markClauses, markBodies}
 use Rattle.checking.specs.Nodes.{recordAt}
-use Rattle.checking.proofs.StepLaws.{head-inside}
-use Rattle.annotation.proofs.MarkSteps.{mark-above, mark-bound-room, mark-below, bodies-room, marked-stmt, ClausesLeft, clause-next, clauses-end, BodiesLeft, body-next, bodies-end, record-at, uses-few}
+use Rattle.checking.proofs.StepLaws.{above-at, below-at, clause-kind}
+use Rattle.uses.proofs.BindLaws.{binders-room, clause-bound}
+use Rattle.uses.proofs.CountLaws.{record-at, uses-few}
+use Rattle.annotation.proofs.MarkSteps.{clauses-room, bodies-room, marked-stmt, MarksClauses, clause-room, clause-marked, marked-clauses, MarksBodies, body-marked, marked-bodies}
 use borrow.Fn.Kinds.{In}
 use borrow.Fn.PlainCycle.{Measures, is, falls, and}
 use Rattle.annotation.proofs.walk.bodies.Reads as bodies
@@ -29,7 +32,7 @@ use Rattle.annotation.proofs.walk.+bodies+clauses+statement.Lts-clauses
 use Rattle.annotation.proofs.walk.statement.Reads as statement′
 use Rattle.annotation.proofs.walk.statement.Kinds as statement-kinds
 use Rattle.annotation.proofs.walk.+bodies+clauses+statement.Lts-statement as statement-lts
-use Rattle.annotation.proofs.walk.bind.Reads as bind-reads
+use Rattle.uses.proofs.bind.Reads as bind-reads
 use Rattle.checking.proofs.walk.parts_of.Reads as parts-of-reads
 use Rattle.marking.proofs.mark_all.Reads as mark-all-reads
 use Rattle.uses.proofs.uses.Reads as uses-reads
@@ -76,7 +79,7 @@ statement-claims t =
 
 abbrev bodies-Inv-loop : bodies-lts.InvT-loop
 bodies-Inv-loop s g depth n i bound row₀ here₀ left₀ row here left =
-    (length row ≡ length row₀) × BodiesLeft depth (recordsIn g s) (setOf bound) (i + length (each flatten (bodiesAt depth n (recordsIn g s) i))) (markBodies (bodiesAt depth n (recordsIn g s) i) (setOf bound) row₀) left here row
+    (length row ≡ length row₀) × BodiesLeft depth (recordsIn g s) (i + length (each flatten (bodiesAt depth n (recordsIn g s) i))) left here (MarksBodies (setOf bound) (markBodies (bodiesAt depth n (recordsIn g s) i) (setOf bound) row₀) row)
 
 abbrev bodies-μ-loop : bodies-lts.MeasureT-loop
 bodies-μ-loop s g depth n i bound row₀ here₀ left₀ row here left = left
@@ -91,13 +94,13 @@ bodies-loop-holds :
     bodies-μ-loop
 bodies-loop-holds t c =
     let h = c .before .before .pre .1 in
-    (refl, record { rest = _; stand = h .1 .0; room = h .1 .1 .1; size = refl; same = refl })
+    (refl, record { rest = _; stand = h .1 .0; size = refl; holds = record { room = h .1 .1 .1; same = refl } })
 
 bodies-statement-requires : (t : ℕ) → bodies-lts.Need-statement-requires (bodies-claims t) (bodies-at t) bodies.Post bodies-Inv-loop bodies-μ-loop
 bodies-statement-requires t c κs =
     let h = c .before .before .before .before .before .pre .1 in
     let x = body-next (c .before .before .loop .inv .1) (c .before .loop-test .taken) in
-    (omega arith, (h .0, (x .body, (h .1 .1 .0, x .room))))
+    (omega arith, (h .0, (x .body, (h .1 .1 .0, x .holds .room .0))))
 
 bodies-sub-left :
     (t : ℕ) →
@@ -127,7 +130,7 @@ bodies-loop-again :
     bodies.Post
     bodies-Inv-loop
     bodies-μ-loop
-bodies-loop-again t c = (search needs, body-next (c .before .before .before .before .before .loop .inv .1) (c .before .before .before .before .loop-test .taken) .turn _ _ (c .before .before .statement .ensures))
+bodies-loop-again t c = (search needs, body-marked (body-next (c .before .before .before .before .before .loop .inv .1) (c .before .before .before .before .loop-test .taken)) _ _ (c .before .before .statement .ensures))
 
 bodies-same-length :
     (t : ℕ) →
@@ -147,11 +150,11 @@ bodies-returns :
     bodies.Post
     bodies-Inv-loop
     bodies-μ-loop
-bodies-returns t c = bodies-end (c .before .loop .inv .1) (omega (arith, c .loop-test .left))
+bodies-returns t c = marked-bodies (c .before .loop .inv .1) (omega (arith, c .loop-test .left))
 
 abbrev clauses-Inv-loop : clauses-lts.InvT-loop
 clauses-Inv-loop s g depth n i bound row₀ here₀ left₀ row here left =
-    (length row ≡ length row₀) × ClausesLeft depth (recordsIn g s) (setOf bound) (i + length (flattenClauses (clausesAt depth n (recordsIn g s) i))) (markClauses (clausesAt depth n (recordsIn g s) i) (setOf bound) row₀) left here row
+    (length row ≡ length row₀) × ClausesLeft depth (recordsIn g s) (i + length (flattenClauses (clausesAt depth n (recordsIn g s) i))) left here (MarksClauses (setOf bound) (markClauses (clausesAt depth n (recordsIn g s) i) (setOf bound) row₀) row)
 
 abbrev clauses-μ-loop : clauses-lts.MeasureT-loop
 clauses-μ-loop s g depth n i bound row₀ here₀ left₀ row here left = left
@@ -159,14 +162,14 @@ clauses-μ-loop s g depth n i bound row₀ here₀ left₀ row here left = left
 clauses-loop-holds : (t : ℕ) → clauses-lts.Need-loop-holds (clauses-claims t) (clauses-at t) clauses.Post clauses-Inv-loop clauses-μ-loop
 clauses-loop-holds t c =
     let h = c .before .before .pre .1 in
-    (refl, record { rest = _; stand = h .1 .0; room = h .1 .1 .1; size = refl; same = refl })
+    (refl, record { rest = _; stand = h .1 .0; size = refl; holds = record { room = h .1 .1 .1; same = refl } })
 
 clauses-bind-requires : (t : ℕ) → clauses-lts.Need-bind-requires (clauses-claims t) (clauses-at t) clauses.Post clauses-Inv-loop clauses-μ-loop
 clauses-bind-requires t c κs =
     let a = c .before .before .before .before .args in
     let h = c .before .before .before .before .pre .1 in
     let x = clause-next (c .before .loop .inv .1) (c .loop-test .taken) in
-    (record { ready = h .0 .ready; inside = omega (arith, x .inside, records-length (a .g) (now (a .s)) (h .0 .ready)); kind = x .kind }, (h .1 .1 .0, x .bound))
+    (record { ready = h .0 .ready; inside = omega (arith, x .inside, records-length (a .g) (now (a .s)) (h .0 .ready)); kind = clause-kind x }, (h .1 .1 .0, clause-bound x (setOf (a .bound)) (x .holds .room)))
 
 clauses-add-statement : (t : ℕ) → clauses-lts.Need-add-statement (clauses-claims t) (clauses-at t) clauses.Post clauses-Inv-loop clauses-μ-loop
 clauses-add-statement t c =
@@ -179,7 +182,7 @@ clauses-statement-requires : (t : ℕ) → clauses-lts.Need-statement-requires (
 clauses-statement-requires t c κs =
     let h = c .before .before .before .before .before .before .pre .1 in
     let x = clause-next (c .before .before .before .loop .inv .1) (c .before .before .loop-test .taken) in
-    (omega arith, (h .0, (x .body, (c .before .bind .ensures .scope, x .room _ (c .before .bind .ensures)))))
+    (omega arith, (h .0, (x .body, (c .before .bind .ensures .scope, clause-room x _ (c .before .bind .ensures)))))
 
 clauses-sub-left : (t : ℕ) → clauses-lts.Need-sub-left (clauses-claims t) (clauses-at t) clauses.Post clauses-Inv-loop clauses-μ-loop
 clauses-sub-left t c = omega arith
@@ -188,13 +191,13 @@ clauses-loop-less : (t : ℕ) → clauses-lts.Need-loop-less (clauses-claims t) 
 clauses-loop-less t c = omega arith
 
 clauses-loop-again : (t : ℕ) → clauses-lts.Need-loop-again (clauses-claims t) (clauses-at t) clauses.Post clauses-Inv-loop clauses-μ-loop
-clauses-loop-again t c = (search needs, clause-next (c .before .before .before .before .before .before .loop .inv .1) (c .before .before .before .before .before .loop-test .taken) .turn _ _ _ (c .before .before .before .before .bind .ensures) (c .before .before .statement .ensures))
+clauses-loop-again t c = (search needs, clause-marked (clause-next (c .before .before .before .before .before .before .loop .inv .1) (c .before .before .before .before .before .loop-test .taken)) _ _ _ (c .before .before .before .before .bind .ensures) (c .before .before .statement .ensures))
 
 clauses-same-length : (t : ℕ) → clauses-lts.Need-same-length (clauses-claims t) (clauses-at t) clauses.Post clauses-Inv-loop clauses-μ-loop
 clauses-same-length t c = c .before .loop .inv .0
 
 clauses-returns : (t : ℕ) → clauses-lts.Need-returns (clauses-claims t) (clauses-at t) clauses.Post clauses-Inv-loop clauses-μ-loop
-clauses-returns t c = clauses-end (c .before .loop .inv .1) (omega (arith, c .loop-test .left))
+clauses-returns t c = marked-clauses (c .before .loop .inv .1) (omega (arith, c .loop-test .left))
 
 statement-parts-of-requires : (t : ℕ) → statement-lts.Need-parts-of-requires (statement-claims t) (statement-at t) statement′.Post
 statement-parts-of-requires t c κs =
@@ -241,8 +244,8 @@ statement-clauses-requires t c κs =
     let h = c .before .before .before .before .before .before .before .before .before .pre .1 in
     let rs = recordsIn (a .g) (now (a .s)) in
     let f = c .before .before .before .before .before .before .parts-of .ensures in
-    let m = mark-above (a .depth) rs (a .i) (setOf (a .bound)) (h .1 .0) (h .1 .1 .1) _ (f .clauses) in
-    (omega (arith, stmt-parts (h .1 .0) .positive), (h .0, (m .0, (h .1 .1 .0, m .1))))
+    let m = above-at (a .depth) rs (a .i) (h .1 .0) _ (f .clauses) in
+    (omega (arith, stmt-parts (h .1 .0) .positive), (h .0, (m .clauses, (h .1 .1 .0, clauses-room m (h .1 .1 .1)))))
 
 statement-bind-requires : (t : ℕ) → statement-lts.Need-bind-requires (statement-claims t) (statement-at t) statement′.Post
 statement-bind-requires t c κs =
@@ -250,7 +253,7 @@ statement-bind-requires t c κs =
     let h = c .before .before .before .before .before .before .before .before .before .before .before .before .pre .1 in
     let rs = recordsIn (a .g) (now (a .s)) in
     let f = c .before .before .before .before .before .before .before .before .before .parts-of .ensures in
-    (f .at, (h .1 .1 .0, mark-bound-room (a .depth) rs (a .i) (setOf (a .bound)) (h .1 .0) (h .1 .1 .1)))
+    (f .at, (h .1 .1 .0, binders-room (a .depth) rs (a .i) (setOf (a .bound)) (h .1 .0) (h .1 .1 .1)))
 
 statement-sub-bodies : (t : ℕ) → statement-lts.Need-sub-bodies (statement-claims t) (statement-at t) statement′.Post
 statement-sub-bodies t c =
@@ -265,9 +268,9 @@ statement-bodies-requires t c κs =
     let h = c .before .before .before .before .before .before .before .before .before .before .before .before .before .before .pre .1 in
     let rs = recordsIn (a .g) (now (a .s)) in
     let f = c .before .before .before .before .before .before .before .before .before .before .before .parts-of .ensures in
-    let b = mark-below (a .depth) rs (a .i) (setOf (a .bound)) (h .1 .0) (h .1 .1 .1) _ _ _ (f .clauses) (f .bodies) (c .before .before .before .before .clauses .ensures .nextIs) in
+    let b = below-at (a .depth) rs (a .i) (h .1 .0) _ _ _ (f .clauses) (f .bodies) (c .before .before .before .before .clauses .ensures .nextIs) in
     let x = c .before .bind .ensures in
-    (omega (arith, stmt-parts (h .1 .0) .positive, c .before .before .before .before .before .before .before .before .before .before .before .before .before .before .pre .0), (h .0, (b .bodies, (x .scope, bodies-room b x))))
+    (omega (arith, stmt-parts (h .1 .0) .positive, c .before .before .before .before .before .before .before .before .before .before .before .before .before .before .pre .0), (h .0, (b .bodies, (x .scope, bodies-room b (setOf (a .bound)) x (h .1 .1 .1)))))
 
 statement-same-length : (t : ℕ) → statement-lts.Need-same-length (statement-claims t) (statement-at t) statement′.Post
 statement-same-length t c = search needs
@@ -278,9 +281,9 @@ statement-returns t c =
     let h = c .before .before .before .before .before .before .before .before .before .before .before .before .before .before .before .before .before .pre .1 in
     let rs = recordsIn (a .g) (now (a .s)) in
     let f = c .before .before .before .before .before .before .before .before .before .before .before .before .before .before .parts-of .ensures in
-    let b = mark-below (a .depth) rs (a .i) (setOf (a .bound)) (h .1 .0) (h .1 .1 .1) _ _ _ (f .clauses) (f .bodies) (c .before .before .before .before .before .before .before .clauses .ensures .nextIs) in
+    let b = below-at (a .depth) rs (a .i) (h .1 .0) _ _ _ (f .clauses) (f .bodies) (c .before .before .before .before .before .before .before .clauses .ensures .nextIs) in
     let m = c .before .before .before .before .before .before .before .before .before .before .before .mark-all .ensures ∙ ap (λ (xs : List VarId). markAll (setOf (a .bound)) xs (now (a .row))) (c .before .before .before .before .before .before .before .before .before .before .before .before .before .uses .ensures .list) in
-    marked-stmt b (now (a .row)) m (c .before .before .before .before .before .before .before .clauses .ensures .rowIs) (c .before .before .before .before .bind .ensures) (c .before .before .bodies .ensures)
+    marked-stmt b (setOf (a .bound)) (c .before .before .before .before .bind .ensures) (now (a .row)) m (c .before .before .before .before .before .before .before .clauses .ensures .rowIs) (c .before .before .bodies .ensures)
 
 pub +bodies+clauses+statement-spec : {M : Type 1} → statement M
 +bodies+clauses+statement-spec = close μ-bodies μ-clauses μ-statement (λ t. bodies-lts.spec (bodies-claims t)

@@ -11,7 +11,8 @@ use Rattle.directory.specs.Slots.{recordsIn}
 use Rattle.directory.proofs.Places.{records-length}
 use Rattle.trees.specs.Places.{clausesAt, bodiesAt}
 use Rattle.scope.specs.Walk.{walkClauses, walkBodies}
-use Rattle.checking.proofs.StepLaws.{head-inside, above, below, walked, ClausesLeft, clause-next, clauses-end, BodiesLeft, body-next, bodies-end}
+use Rattle.trees.proofs.Steps.{head-inside, ClausesLeft, clause-next, BodiesLeft, body-next}
+use Rattle.checking.proofs.StepLaws.{above-at, below-at, walked, WalksClauses, clause-kind, clause-walked, walked-clauses, WalksBodies, body-walked, walked-bodies}
 use Prim.Native.Nat.{ℕ, _<_}
 use borrow.Fn.Kinds.{In}
 use borrow.Fn.PlainCycle.{Measures, is, falls, and}
@@ -61,7 +62,7 @@ statement-below t =
 
 abbrev bodies-Inv-loop : bodies-lts.InvT-loop
 bodies-Inv-loop s g depth n i scope max-id here₀ left₀ here left =
-    BodiesLeft depth (recordsIn g s) max-id (setOf scope) (i + length (each flatten (bodiesAt depth n (recordsIn g s) i))) (walkBodies (bodiesAt depth n (recordsIn g s) i) max-id (setOf scope) (here₀ .verdict)) left here
+    BodiesLeft depth (recordsIn g s) (i + length (each flatten (bodiesAt depth n (recordsIn g s) i))) left (here .next) (WalksBodies max-id (setOf scope) (walkBodies (bodiesAt depth n (recordsIn g s) i) max-id (setOf scope) (here₀ .verdict)) here)
 
 abbrev bodies-μ-loop : bodies-lts.MeasureT-loop
 bodies-μ-loop s g depth n i scope max-id here₀ left₀ here left = left
@@ -80,7 +81,7 @@ bodies-loop-holds : (t : ℕ) →
     bodies.Post
     bodies-Inv-loop
     bodies-μ-loop
-bodies-loop-holds t c = record { rest = _; stand = c .before .pre .1 .1 .0; size = refl; same = refl }
+bodies-loop-holds t c = record { rest = _; stand = c .before .pre .1 .1 .0; size = refl; holds = record { same = refl } }
 
 bodies-statement-requires : (t : ℕ) → bodies-lts.Need-statement-requires (bodies-claims t) (bodies-at t) bodies.Post bodies-Inv-loop bodies-μ-loop
 bodies-statement-requires t c κs =
@@ -106,30 +107,30 @@ bodies-loop-again : (t : ℕ) →
     bodies.Post
     bodies-Inv-loop
     bodies-μ-loop
-bodies-loop-again t c = body-next (c .before .before .loop .inv) (c .before .loop-test .taken) .turn _ (c .statement .ensures)
+bodies-loop-again t c = body-walked (body-next (c .before .before .loop .inv) (c .before .loop-test .taken)) _ (c .statement .ensures)
 
 bodies-returns : (t : ℕ) →
     bodies-lts.Need-returns (statement-below t, statement′.Post) (bodies-at t)
     bodies.Post
     bodies-Inv-loop
     bodies-μ-loop
-bodies-returns t c = bodies-end (c .before .loop .inv) (omega (arith, c .loop-test .left))
+bodies-returns t c = walked-bodies (c .before .loop .inv) (omega (arith, c .loop-test .left))
 
 abbrev clauses-Inv-loop : clauses-lts.InvT-loop
 clauses-Inv-loop s g depth n i scope max-id here₀ left₀ here left =
-    ClausesLeft depth (recordsIn g s) max-id (setOf scope) (i + length (flattenClauses (clausesAt depth n (recordsIn g s) i))) (walkClauses (clausesAt depth n (recordsIn g s) i) max-id (setOf scope) (here₀ .verdict)) left here
+    ClausesLeft depth (recordsIn g s) (i + length (flattenClauses (clausesAt depth n (recordsIn g s) i))) left (here .next) (WalksClauses max-id (setOf scope) (walkClauses (clausesAt depth n (recordsIn g s) i) max-id (setOf scope) (here₀ .verdict)) here)
 
 abbrev clauses-μ-loop : clauses-lts.MeasureT-loop
 clauses-μ-loop s g depth n i scope max-id here₀ left₀ here left = left
 
 clauses-loop-holds : (t : ℕ) → clauses-lts.Need-loop-holds (clauses-claims t) (clauses-at t) clauses.Post clauses-Inv-loop clauses-μ-loop
-clauses-loop-holds t c = record { rest = _; stand = c .before .pre .1 .1 .0; size = refl; same = refl }
+clauses-loop-holds t c = record { rest = _; stand = c .before .pre .1 .1 .0; size = refl; holds = record { same = refl } }
 
 clauses-enter-head-requires : (t : ℕ) → clauses-lts.Need-enter-head-requires (clauses-claims t) (clauses-at t) clauses.Post clauses-Inv-loop clauses-μ-loop
 clauses-enter-head-requires t c κs =
     let a = c .before .before .before .args in
     let h = c .before .before .before .pre .1 in
-    let x = clause-next (c .before .loop .inv) (c .loop-test .taken) in (record { ready = h .0; inside = omega (arith, x .inside, records-length (a .g) (now (a .s)) (h .0)); kind = x .kind }, (refl, h .1 .1))
+    let x = clause-next (c .before .loop .inv) (c .loop-test .taken) in (record { ready = h .0; inside = omega (arith, x .inside, records-length (a .g) (now (a .s)) (h .0)); kind = clause-kind x }, (refl, h .1 .1))
 
 clauses-add-statement : (t : ℕ) → clauses-lts.Need-add-statement (clauses-claims t) (clauses-at t) clauses.Post clauses-Inv-loop clauses-μ-loop
 clauses-add-statement t c =
@@ -150,10 +151,10 @@ clauses-loop-less : (t : ℕ) → clauses-lts.Need-loop-less (clauses-claims t) 
 clauses-loop-less t c = omega arith
 
 clauses-loop-again : (t : ℕ) → clauses-lts.Need-loop-again (clauses-claims t) (clauses-at t) clauses.Post clauses-Inv-loop clauses-μ-loop
-clauses-loop-again t c = clause-next (c .before .before .before .before .loop .inv) (c .before .before .before .loop-test .taken) .turn _ _ (c .before .before .enter-head .ensures) (c .statement .ensures)
+clauses-loop-again t c = clause-walked (clause-next (c .before .before .before .before .loop .inv) (c .before .before .before .loop-test .taken)) _ _ (c .before .before .enter-head .ensures) (c .statement .ensures)
 
 clauses-returns : (t : ℕ) → clauses-lts.Need-returns (clauses-claims t) (clauses-at t) clauses.Post clauses-Inv-loop clauses-μ-loop
-clauses-returns t c = clauses-end (c .before .loop .inv) (omega (arith, c .loop-test .left))
+clauses-returns t c = walked-clauses (c .before .loop .inv) (omega (arith, c .loop-test .left))
 
 statement-parts-of-requires : (t : ℕ) → statement-lts.Need-parts-of-requires (statement-claims t) (statement-at t) statement′.Post
 statement-parts-of-requires t c κs =
@@ -168,8 +169,8 @@ statement-sub-clauses t c =
     let a = c .before .before .before .args in
     let h = c .before .before .before .pre .1 in
     let f = c .before .parts-of .ensures in
-    let b = above (a .depth) (recordsIn (a .g) (now (a .s))) (a .i) (h .1 .0) _ (f .clauses) in
-    omega (arith, b .0)
+    let b = above-at (a .depth) (recordsIn (a .g) (now (a .s))) (a .i) (h .1 .0) _ (f .clauses) in
+    omega (arith, b .positive)
 
 statement-add-clauses : (t : ℕ) → statement-lts.Need-add-clauses (statement-claims t) (statement-at t) statement′.Post
 statement-add-clauses t c =
@@ -182,7 +183,7 @@ statement-clauses-requires t c κs =
     let a = c .before .before .before .args in
     let h = c .before .before .before .pre .1 in
     let f = c .before .parts-of .ensures in
-    let b = above (a .depth) (recordsIn (a .g) (now (a .s))) (a .i) (h .1 .0) _ (f .clauses) in (omega (arith, b .0), (h .0, (b .1, h .1 .1)))
+    let b = above-at (a .depth) (recordsIn (a .g) (now (a .s))) (a .i) (h .1 .0) _ (f .clauses) in (omega (arith, b .positive), (h .0, (b .clauses, h .1 .1)))
 
 statement-enter-next-requires : (t : ℕ) → statement-lts.Need-enter-next-requires (statement-claims t) (statement-at t) statement′.Post
 statement-enter-next-requires t c κs = (c .before .before .parts-of .ensures .at, c .before .before .before .before .pre .1 .1 .1)
@@ -192,22 +193,22 @@ statement-sub-bodies t c =
     let a = c .before .before .before .before .before .args in
     let h = c .before .before .before .before .before .pre .1 in
     let f = c .before .before .before .parts-of .ensures in
-    let b = above (a .depth) (recordsIn (a .g) (now (a .s))) (a .i) (h .1 .0) _ (f .clauses) in
-    omega (arith, b .0)
+    let b = above-at (a .depth) (recordsIn (a .g) (now (a .s))) (a .i) (h .1 .0) _ (f .clauses) in
+    omega (arith, b .positive)
 
 statement-bodies-requires : (t : ℕ) → statement-lts.Need-bodies-requires (statement-claims t) (statement-at t) statement′.Post
 statement-bodies-requires t c κs =
     let a = c .before .before .before .before .before .args in
     let h = c .before .before .before .before .before .pre .1 in
     let f = c .before .before .before .parts-of .ensures in
-    let b = below (a .depth) (recordsIn (a .g) (now (a .s))) (a .i) (h .1 .0) _ _ _ (f .clauses) (f .bodies) (c .before .clauses .ensures .next) in (omega (arith, b .positive), (h .0, (b .bodies, c .enter-next .ensures .scope)))
+    let b = below-at (a .depth) (recordsIn (a .g) (now (a .s))) (a .i) (h .1 .0) _ _ _ (f .clauses) (f .bodies) (c .before .clauses .ensures .next) in (omega (arith, b .positive), (h .0, (b .bodies, c .enter-next .ensures .scope)))
 
 statement-returns : (t : ℕ) → statement-lts.Need-returns (statement-claims t) (statement-at t) statement′.Post
 statement-returns t c =
     let a = c .before .before .before .before .before .before .args in
     let h = c .before .before .before .before .before .before .pre .1 in
     let f = c .before .before .before .before .parts-of .ensures in
-    let b = below (a .depth) (recordsIn (a .g) (now (a .s))) (a .i) (h .1 .0) _ _ _ (f .clauses) (f .bodies) (c .before .before .clauses .ensures .next) in
+    let b = below-at (a .depth) (recordsIn (a .g) (now (a .s))) (a .i) (h .1 .0) _ _ _ (f .clauses) (f .bodies) (c .before .before .clauses .ensures .next) in
     walked b (a .max-id) (setOf (a .scope)) (a .v) (c .before .before .before .use-node .ensures) (c .before .before .clauses .ensures .verdict) (c .before .enter-next .ensures) (c .bodies .ensures)
 
 pub +bodies+clauses+statement-spec : {M : Type 1} → statement M

@@ -1,0 +1,47 @@
+// The parts of records.
+use crate::build::low;
+use crate::build::store;
+use crate::build::store2;
+use crate::progress::Progress;
+
+pub fn one(w: Progress, out: &mut [u8], v: usize) -> Progress {
+    store(out, w.at, low(v));
+    w.after(1)
+}
+
+fn identifier(w: Progress, out: &mut [u8], name: usize, id: usize) -> Progress {
+    let named = w.after(2);
+    store2(out, w.at, name);
+    store2(out, named.at, id);
+    named.after(2)
+}
+
+// The variable at hand.
+pub fn var(w: Progress, text: &[u8], out: &mut [u8]) -> Progress {
+    let taken = w.take(text);
+    identifier(taken, out, 2, taken.value)
+}
+
+// The count at hand.
+pub fn count(w: Progress, text: &[u8], out: &mut [u8]) -> Progress {
+    let taken = w.take(text);
+    one(taken, out, taken.value)
+}
+
+// A label, a tag or a type's name.
+pub fn label(w: Progress, out: &mut [u8], name: usize) -> Progress {
+    identifier(w, out, name, w.other)
+}
+
+pub fn declared_type(w: Progress, out: &mut [u8]) -> Progress {
+    let marked = one(w, out, 1);
+    label(marked, out, 5)
+}
+
+// A binding of I64.
+pub fn binding(w: Progress, out: &mut [u8], id: usize) -> Progress {
+    let named = identifier(w, out, 2, id);
+    let external = one(named, out, 2);
+    let marked = one(external, out, 0);
+    identifier(marked, out, 0, 0)
+}

@@ -1,0 +1,52 @@
+// Printing.
+use libc::STDOUT_FILENO;
+
+// The most bytes of a buffer that are printed.
+const SHOWN: usize = 64;
+
+fn say(s: &[u8]) {
+    io::write_all(STDOUT_FILENO, s);
+}
+
+fn number(n: u64) {
+    io::print_decimal(STDOUT_FILENO, n);
+}
+
+// The text from a place to another.
+pub fn name(text: &[u8], from: usize, end: usize) {
+    if from <= end {
+        if end <= text.len() {
+            say(&text[from..end]);
+        }
+    }
+}
+
+// What a call answered: number, length and max_id.
+pub fn answer(given: u32, length: usize, max_id: u32) {
+    say(b": ");
+    number(given as u64);
+    say(b" ");
+    number(length as u64);
+    say(b" ");
+    number(max_id as u64);
+}
+
+fn hexadecimal(b: u8) {
+    io::print_hex(STDOUT_FILENO, b as u64, 2);
+}
+
+// The first bytes of a buffer.
+pub fn bytes(s: &[u8]) {
+    say(b" :");
+    for i in 0..s.len() {
+        if SHOWN <= i {
+            return;
+        }
+        say(b" ");
+        hexadecimal(s[i]);
+    }
+}
+
+pub fn line() {
+    say(b"\n");
+}

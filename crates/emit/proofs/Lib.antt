@@ -1,0 +1,3 @@
+-- Laws of what is written.
+pub mod EmitLaws
+pub mod DirectoryLaws

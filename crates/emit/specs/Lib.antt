@@ -1,0 +1,2 @@
+-- What is written of an image.
+pub mod Emitting

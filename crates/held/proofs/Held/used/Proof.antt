@@ -1,0 +1,76 @@
+-- `Held::used` meets its contract: the entries from i on are left to look at. Assumes nothing.
+use mathlib.Core.Path.{_≡_, refl, sym, _∙_}
+use Prim.Native.Nat.{_≤_, _-_}
+use native.Mathlib.Omega.{arith}
+use lib.ListN.{length}
+use Rattle.syntax.proofs.Lists.{rest, long}
+use Rattle.work.specs.Work.{used}
+use Rattle.held.specs.Holding.{workOf}
+use Rattle.held.proofs.UsedLoops.{used-found, used-next, used-none}
+use Rattle.held.proofs.Held.used.Statement.{statement}
+use Rattle.held.proofs.Held.used.Tie as tie
+
+abbrev Inv-loop : tie.InvT-loop
+Inv-loop x self n id i₀ i = (i ≤ n) × (used (workOf self) x ≡ used (rest (self .entries) n i) x)
+
+abbrev μ-loop : tie.MeasureT-loop
+μ-loop x self n id i₀ i = n - i
+
+size : (c : tie.Start Inv-loop μ-loop) → length (c .args .t1 .entries) ≡ 64
+size c = long _ (c .args .t1 .entries) (c .good .0 .1 .1 .0 .1 .0 .1)
+
+loop-holds : tie.Need-loop-holds Inv-loop μ-loop
+loop-holds c = (omega arith, refl)
+
+mul-e : tie.Need-mul-e Inv-loop μ-loop
+mul-e c = omega arith
+
+element-copy-out-e : tie.Need-element-copy-out-e Inv-loop μ-loop
+element-copy-out-e c = omega arith
+
+same-requires : tie.Need-same-requires Inv-loop μ-loop
+same-requires c κs = tt
+
+spelled-requires : tie.Need-spelled-requires Inv-loop μ-loop
+spelled-requires c κs = tt
+
+returns : tie.Need-returns Inv-loop μ-loop
+returns c =
+    let l = c .before .before .before .before .before .loop in
+    let s = c .before .before .before .before .before .before .before in
+    c .spelled .ensures ∙ sym (l .inv .1 ∙ used-found (s .args .t1 .entries) (s .args .t1 .len) (l .i) (s .args .x) (c .before .before .before .before .loop-test .taken) (omega (arith, size s)) (sym (c .before .before .same .ensures) ∙ c .before .if1 .taken))
+
+add-i : tie.Need-add-i Inv-loop μ-loop
+add-i c = omega arith
+
+loop-less : tie.Need-loop-less Inv-loop μ-loop
+loop-less c = omega arith
+
+loop-again : tie.Need-loop-again Inv-loop μ-loop
+loop-again c =
+    let l = c .before .before .before .before .loop in
+    let s = c .before .before .before .before .before .before in
+    (omega arith, l .inv .1 ∙ used-next (s .args .t1 .entries) (s .args .t1 .len) (l .i) (s .args .x) (c .before .before .before .loop-test .taken) (omega (arith, size s)) (sym (c .before .same .ensures) ∙ c .if1 .left))
+
+returns-2 : tie.Need-returns-2 Inv-loop μ-loop
+returns-2 c =
+    let l = c .before .loop in
+    let s = c .before .before .before in
+    sym (l .inv .1 ∙ used-none (s .args .t1 .entries) (s .args .t1 .len) (l .i) (s .args .x) (c .loop-test .left))
+
+pub used-spec : {M : Type 1} → statement M
+used-spec =
+    tie.close
+    (tie.spec
+    Inv-loop
+    μ-loop
+    loop-holds
+    mul-e
+    element-copy-out-e
+    same-requires
+    spelled-requires
+    returns
+    add-i
+    loop-less
+    loop-again
+    returns-2)

@@ -1,0 +1,44 @@
+-- One entry stored behind the others; the loops that store entries, from the first place on and behind the others. For callers: from what the
+-- struct holds to the list, and the room that question 7 gives. Assumes nothing.
+use mathlib.Core.Path.{_≡_, subst}
+use mathlib.Core.List.{List, [], _∷_, _++_}
+use Prim.Native.Nat.{ℕ, _+_, _≤_, _<_}
+use native.Mathlib.Omega.{arith}
+use lib.ListN.{length, set}
+use Rattle.syntax.specs.declared.names.VarId.{VarId}
+use Rattle.syntax.proofs.Lists.{take-stored, stored-count}
+use Rattle.work.specs.declared.Entry.{Entry}
+use Rattle.work.specs.Work.{Work}
+use Rattle.work.specs.Placed.{Fits}
+use Rattle.held.specs.Holding.{workOf, HoldsWork}
+use Rattle.held.specs.declared.Held.{Held}
+use Rattle.held.proofs.Stores.{Built, built-done}
+
+pub stored-behind : (h : Held) (a e : Entry) → h .len < length (h .entries) → a ≡ e → HoldsWork (record { entries = set (h .entries) (h .len) a; len = h .len + 1 }) (workOf h ++ (e ∷ []))
+stored-behind h a e k q = rw q record { count = stored-count (h .entries) (h .len) e k; list = take-stored (h .entries) (h .len) e k }
+
+-- ── loops: the first of the entries are done ──
+
+-- in place
+pub record Storing (whole : Work) (n : ℕ) (out₀ out : Held) (i : ℕ) : Type 0 where
+  pub len : out .len ≡ n
+  pub turn : Built whole (out₀ .entries) (out .entries) 64 i
+
+-- behind the first `start`: i of `count` are stored
+pub record Appending (whole : Work) (start count : ℕ) (out₀ out : Held) (at i : ℕ) : Type 0 where
+  pub here : at ≡ start + i
+  pub below : i ≤ count
+  pub turn : Built whole (out₀ .entries) (out .entries) 64 at
+
+pub stored-all : {whole l₀ : Work} {i : ℕ} {h : Held} → h .len ≡ length whole → h .len ≤ i → Built whole l₀ (h .entries) 64 i → HoldsWork h whole
+stored-all q k s = record { count = q; list = built-done _ q k s }
+
+-- ── for callers ──
+
+-- what a contract says of the entries held, it says of the list that they are
+pub of-held : {h : Held} {W : Work} (P : Work → Type 0) → HoldsWork h W → P (workOf h) → P W
+of-held P k x = subst P (k .list) x
+
+-- with n variables in scope there are at most n entries. (`Fits` has n ≤ 64.)
+pub held-room : {h : Held} {Δ : List VarId} {W : Work} {n : ℕ} → HoldsWork h W → Fits Δ W n → h .len ≤ n
+held-room k f = omega (arith, k .count, f .placed .fits, f .count)

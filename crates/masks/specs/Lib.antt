@@ -1,0 +1,2 @@
+-- What the walk that finds the masks needs and does.
+pub mod Masks

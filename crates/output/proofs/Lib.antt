@@ -1,0 +1,7 @@
+-- What linearization answers, and what the bytes that it writes are.
+pub mod Held
+pub mod Formed
+pub mod Replies
+pub mod Readable
+pub mod OnBytes
+pub mod Worked

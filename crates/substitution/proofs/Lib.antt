@@ -1,0 +1,2 @@
+-- The laws of pairs that are stored one after another.
+pub mod Pairing

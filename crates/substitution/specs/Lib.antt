@@ -1,0 +1,2 @@
+-- The list of pairs that a substitution holds.
+pub mod Pairs

@@ -1,0 +1,17 @@
+use mathlib.Core.Path.{refl}
+use native.Mathlib.Omega.{arith}
+use Rattle.unpack.proofs.ListPlaces.{unpacked, at-made, named-at}
+use Rattle.unpack.proofs.definition.Statement.{statement}
+use Rattle.unpack.proofs.definition.Tie as tie
+
+named-requires : tie.Need-named-requires
+named-requires c κs = named-at 1 (c .before .pre .0) refl refl (omega arith) refl (c .before .pre .1)
+
+returns : tie.Need-returns
+returns c =
+    let e = at-made 1 (c .before .before .before .before .pre .0) in
+    let n = c .before .before .named .ensures in
+    unpacked (n .list) (cc (e, n .name, n .list .list))
+
+pub definition-spec : {M : Type 1} → statement M
+definition-spec = tie.close (tie.spec named-requires returns)

@@ -1,0 +1,2 @@
+-- What the structs of records stand for.
+pub mod Unpacked

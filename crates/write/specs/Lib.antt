@@ -1,0 +1,2 @@
+-- A mark and an identifier as an optional identifier.
+pub mod Marks

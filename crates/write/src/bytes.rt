@@ -1,0 +1,35 @@
+// Bytes as they are: copied from a lent image, and moved within the buffer.
+use put::put_byte;
+ghost use mathlib.Core.Path.{_≡_};
+ghost use Prim.Native.Nat.{_+_, _≤_, _<_, _^_};
+ghost use lib.ListN.{length, take, drop};
+ghost use lib.Seq.{sets};
+ghost use Rattle.put.specs.Puts.{Puts};
+
+// The n bytes of s that begin at `from`.
+pub fn copy(s: &[u8], from: usize, n: usize, out: &mut [u8], at: usize) -> usize
+    requires { ⌜ (from + n ≤ length (now s)) × (at + n < 2 ^ 64) ⌝ }
+    ensures { λ r. ⌜ Puts (now (out .entry)) (now (out .exit)) at r (take n (drop from (now (s .entry)))) ⌝ }
+{
+    let mut here = at;
+    let mut i = 0;
+    while i < n {
+        here = put_byte(out, here, s[from + i]);
+        i += 1;
+    }
+    here
+}
+
+// Moves the n bytes that begin at `from` up by `by` places, from the last to the first.
+pub fn move_up(out: &mut [u8], from: usize, n: usize, by: usize)
+    requires { ⌜ from + by + n ≤ length (now out) ⌝ }
+    ensures { λ _. ⌜ now (out .exit) ≡ sets (now (out .entry)) (from + by) (take n (drop from (now (out .entry)))) ⌝ }
+{
+    let mut i = 0;
+    while i < n {
+        i += 1;
+        let k = n - i;
+        let b = out[from + k];
+        out[from + by + k] = b;
+    }
+}
