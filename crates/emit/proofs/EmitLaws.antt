@@ -54,8 +54,8 @@ entries-sizes L at [] = refl
 entries-sizes L at (r ∷ R) = ap (λ z. (at, length (recordBytes (L .id) r)) ∷ z) (entries-sizes L (at + length (recordBytes (L .id) r)) R)
 
 -- one length noted, or left out past the end
-pub noted-one : (l : List ℕ) (i x y : ℕ) → y ≡ x → Puts l (set l i y) i (i + 1) (x ∷ [])
-noted-one l i x y e = record { holds = ap (set l i) e; ends = refl }
+pub noted-one : (l : List ℕ) (i x : ℕ) → Puts l (set l i x) i (i + 1) (x ∷ [])
+noted-one l i x = record { holds = refl; ends = refl }
 
 pub noted-past : (l : List ℕ) (i x : ℕ) → length l ≤ i → Puts l l i (i + 1) (x ∷ [])
 noted-past l i x h = record { holds = sym (set-past l i x h); ends = refl }

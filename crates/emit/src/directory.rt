@@ -2,7 +2,7 @@
 use format::Layout;
 use put::put_number;
 ghost use Prim.Native.Nat.{_+_, _*_, _≤_, _<_, _^_};
-ghost use mathlib.Core.List.{_∷_, []};
+ghost use mathlib.Core.Path.{_≡_};
 ghost use lib.ListN.{length, take};
 ghost use Rattle.format.specs.Parse.{each};
 ghost use Rattle.format.specs.Image.{headerBytes, entryBytes};
@@ -20,14 +20,21 @@ pub fn put_header(out: &mut [u8], l: Layout, definitions: u32, max_id: u32, reco
     put_number(out, c, l.place, records)
 }
 
+fn narrow(n: usize) -> u32
+    requires { ⌜ n < 2 ^ 32 ⌝ }
+    ensures { λ r. ⌜ r ≡ n ⌝ }
+{
+    n as u32
+}
+
 // Offset and length of each of the n records, w bytes each; the first begins at `start`.
 pub fn put_directory(
-    lengths: &[u32],
+    lengths: &[usize],
     n: usize,
     out: &mut [u8],
     at: usize,
     w: usize,
-    start: u32,
+    start: usize,
 ) -> usize
     requires { ⌜ (n ≤ length (now lengths)) × ((w ≤ 8) × ((at + 16 * n < 2 ^ 64) × (start + total (take n (now lengths)) < 2 ^ 32))) ⌝ }
     ensures { λ r. ⌜ Puts (now (out .entry)) (now (out .exit)) at r (each (entryBytes w) (entriesFrom start (take n (now (lengths .entry))))) ⌝ }
@@ -37,8 +44,8 @@ pub fn put_directory(
     let mut i = 0;
     while i < n {
         let size = lengths[i];
-        let next = put_number(out, here, w, place);
-        here = put_number(out, next, w, size);
+        let next = put_number(out, here, w, narrow(place));
+        here = put_number(out, next, w, narrow(size));
         place = place + size;
         i += 1;
     }

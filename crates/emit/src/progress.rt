@@ -1,6 +1,5 @@
 // How far the output has come.
 ghost use Prim.Native.Nat.{_+_, _≤_, _<_, _^_};
-ghost use mathlib.Core.Path.{_≡_};
 ghost use Rattle.emit.specs.Emitting.{Noted};
 
 // The place of the next byte, the records so far, and the max_id.
@@ -10,21 +9,14 @@ pub struct Progress {
     pub max_id: u32,
 }
 
-fn narrow(n: usize) -> u32
-    requires { ⌜ n < 2 ^ 32 ⌝ }
-    ensures { λ r. ⌜ r ≡ n ⌝ }
-{
-    n as u32
-}
-
 // A record was written up to `next`: its length is noted.
-pub fn note(lengths: &mut [u32], p: Progress, next: usize) -> Progress
-    requires { ⌜ (p .at ≤ next) × ((next < p .at + 2 ^ 32) × (p .count + 1 < 2 ^ 64)) ⌝ }
+pub fn note(lengths: &mut [usize], p: Progress, next: usize) -> Progress
+    requires { ⌜ (p .at ≤ next) × (p .count + 1 < 2 ^ 64) ⌝ }
     ensures { λ r. ⌜ Noted r p next (now (lengths .entry)) (now (lengths .exit)) ⌝ }
 {
     let count = p.count;
     let max_id = p.max_id;
-    let length = narrow(next - p.at);
+    let length = next - p.at;
     let next_count = count + 1;
     if count < lengths.len() {
         lengths[count] = length;

@@ -89,7 +89,7 @@ pub struct ClauseRecord {
 }
 
 // An identifier and a list: what a definition, a Call and a clause are.
-pub struct NameAndList {
+struct NameAndList {
     pub name: Identifier,
     pub list: TypingContext,
 }
@@ -150,17 +150,6 @@ pub fn call(s: &[u8], g: Frame, i: usize) -> CallRecord
     CallRecord { label, args }
 }
 
-// The clause at index i.
-pub fn clause(s: &[u8], g: Frame, i: usize) -> ClauseRecord
-    requires { ⌜ At g (now s) i 11 × (smallRecord (recordAt g (now s) i) ≡ true) ⌝ }
-    ensures { λ r. ⌜ Unpacked (recordAt g (now (s .entry)) i) (clauseOf r) (r .context) ⌝ }
-{
-    let all = named(s, g, i);
-    let xtor = all.name;
-    let context = all.list;
-    ClauseRecord { xtor, context }
-}
-
 // The Let at index i.
 pub fn let_record(s: &[u8], g: Frame, i: usize) -> LetRecord
     requires { ⌜ At g (now s) i 4 × (smallRecord (recordAt g (now s) i) ≡ true) ⌝ }
@@ -173,20 +162,6 @@ pub fn let_record(s: &[u8], g: Frame, i: usize) -> LetRecord
     let tag = identifier_at(s, w, start + (6 + (w + w)));
     let args = list(s, w, start + (8 + (w + (w + w))));
     LetRecord { var, ty, tag, args }
-}
-
-// The Invoke at index i.
-pub fn invoke(s: &[u8], g: Frame, i: usize) -> InvokeRecord
-    requires { ⌜ At g (now s) i 7 × (smallRecord (recordAt g (now s) i) ≡ true) ⌝ }
-    ensures { λ r. ⌜ Unpacked (recordAt g (now (s .entry)) i) (invokeOf r) (r .args) ⌝ }
-{
-    let w = g.id;
-    let start = offset(s, g, i);
-    let var = identifier_at(s, w, start + 1);
-    let tag = identifier_at(s, w, start + (3 + w));
-    let ty = type_at(s, w, start + (5 + (w + w)));
-    let args = list(s, w, start + (8 + (w + (w + w))));
-    InvokeRecord { var, tag, ty, args }
 }
 
 // The Switch at index i.
@@ -213,6 +188,20 @@ pub fn create(s: &[u8], g: Frame, i: usize) -> CreateRecord
     let ty = type_at(s, w, start + (3 + w));
     let clauses = s[start + (7 + (w + w))];
     CreateRecord { var, ty, clauses }
+}
+
+// The Invoke at index i.
+pub fn invoke(s: &[u8], g: Frame, i: usize) -> InvokeRecord
+    requires { ⌜ At g (now s) i 7 × (smallRecord (recordAt g (now s) i) ≡ true) ⌝ }
+    ensures { λ r. ⌜ Unpacked (recordAt g (now (s .entry)) i) (invokeOf r) (r .args) ⌝ }
+{
+    let w = g.id;
+    let start = offset(s, g, i);
+    let var = identifier_at(s, w, start + 1);
+    let tag = identifier_at(s, w, start + (3 + w));
+    let ty = type_at(s, w, start + (5 + (w + w)));
+    let args = list(s, w, start + (8 + (w + (w + w))));
+    InvokeRecord { var, tag, ty, args }
 }
 
 // The Literal at index i.
@@ -263,4 +252,15 @@ pub fn ifc(s: &[u8], g: Frame, i: usize) -> IfCRecord
     let fst = identifier_at(s, w, start + 2);
     let snd = second_at(s, w, start + (4 + w));
     IfCRecord { sort, fst, snd }
+}
+
+// The clause at index i.
+pub fn clause(s: &[u8], g: Frame, i: usize) -> ClauseRecord
+    requires { ⌜ At g (now s) i 11 × (smallRecord (recordAt g (now s) i) ≡ true) ⌝ }
+    ensures { λ r. ⌜ Unpacked (recordAt g (now (s .entry)) i) (clauseOf r) (r .context) ⌝ }
+{
+    let all = named(s, g, i);
+    let xtor = all.name;
+    let context = all.list;
+    ClauseRecord { xtor, context }
 }

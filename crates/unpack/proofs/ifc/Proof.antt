@@ -1,7 +1,9 @@
 use borrow.Author.Needs.{needs}
+use mathlib.Core.Path.{sym, _∙_}
 use native.Mathlib.Omega.{arith}
 use denote.Ref.{now}
 use Rattle.format.specs.Fields.{sorts, sortCode}
+use Rattle.format.specs.Records.{ifc}
 use Rattle.format.proofs.FieldLaws.{sort-exact}
 use Rattle.checking.specs.Nodes.{recordAt}
 use Rattle.unpack.proofs.FieldPlaces.{code-known, IfCThere, ifc-there}
@@ -45,7 +47,7 @@ returns c =
     let q = code-known sortCode sorts (t .sort) sort-exact (c .before .before .sort-of .ensures) (t .sort-at) in
     let f = c .before .identifier-at .ensures .is _ (t .fst-at) in
     let j = c .second-at .ensures .is _ (t .snd-at) in
-    cc (t .is, q, f, j)
+    t .is ∙ sym (λ i. ifc (q i) (f i) (j i))
 
 pub ifc-spec : {M : Type 1} → statement M
 ifc-spec =

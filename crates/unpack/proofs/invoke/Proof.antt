@@ -2,6 +2,7 @@ use borrow.Author.Needs.{needs}
 use mathlib.Core.Path.{sym, ap, _∙_}
 use native.Mathlib.Omega.{arith}
 use denote.Ref.{now}
+use Rattle.format.specs.Records.{invoke}
 use Rattle.scope.specs.Flat.{smallRecord}
 use Rattle.checking.specs.Nodes.{recordAt}
 use Rattle.unpack.proofs.ListPlaces.{list-at, unpacked, InvokeThere, invoke-there}
@@ -66,7 +67,7 @@ returns c =
     let v = c .before .before .before .identifier-at .ensures .is _ (t .var-at) in
     let y = c .before .type-at .ensures .is _ (t .ty-at) in
     let g = c .before .before .identifier-at2 .ensures .is _ (t .tag-at) in
-    unpacked h (cc (t .is, v, y, g, h .list))
+    unpacked h (t .is ∙ sym (λ i. invoke (v i) (g i) (y i) (h .list i)))
 
 pub invoke-spec : {M : Type 1} → statement M
 invoke-spec =

@@ -2,6 +2,7 @@ use borrow.Author.Needs.{needs}
 use mathlib.Core.Path.{sym, ap, _∙_}
 use native.Mathlib.Omega.{arith}
 use denote.Ref.{now}
+use Rattle.format.specs.Records.{let'}
 use Rattle.scope.specs.Flat.{smallRecord}
 use Rattle.checking.specs.Nodes.{recordAt}
 use Rattle.unpack.proofs.ListPlaces.{list-at, unpacked, LetThere, let-there}
@@ -66,7 +67,7 @@ returns c =
     let v = c .before .before .before .identifier-at .ensures .is _ (t .var-at) in
     let y = c .before .before .type-at .ensures .is _ (t .ty-at) in
     let g = c .before .identifier-at2 .ensures .is _ (t .tag-at) in
-    unpacked h (cc (t .is, v, y, g, h .list))
+    unpacked h (t .is ∙ sym (λ i. let' (v i) (y i) (g i) (h .list i)))
 
 pub let-record-spec : {M : Type 1} → statement M
 let-record-spec =

@@ -1,7 +1,9 @@
 use borrow.Author.Needs.{needs}
+use mathlib.Core.Path.{sym, _∙_}
 use native.Mathlib.Omega.{arith}
 use denote.Ref.{now}
 use Rattle.format.specs.Fields.{operators, operatorCode}
+use Rattle.format.specs.Records.{op}
 use Rattle.format.proofs.FieldLaws.{operator-exact}
 use Rattle.checking.specs.Nodes.{recordAt}
 use Rattle.unpack.proofs.FieldPlaces.{code-known, OpThere, op-there}
@@ -61,7 +63,7 @@ returns c =
     let a = code-known operatorCode operators (t .operator) operator-exact (c .before .before .operator-of .ensures) (t .operator-at) in
     let j = c .before .identifier-at2 .ensures .is _ (t .snd-at) in
     let v = c .identifier-at3 .ensures .is _ (t .var-at) in
-    cc (t .is, f, a, j, v)
+    t .is ∙ sym (λ i. op (f i) (a i) (j i) (v i))
 
 pub op-spec : {M : Type 1} → statement M
 op-spec =

@@ -1,5 +1,6 @@
 use borrow.Author.Needs.{needs}
 use Prim.Native.Nat.{_+_}
+use mathlib.Core.Path.{sym, _∙_}
 use native.Mathlib.Omega.{arith}
 use denote.Ref.{now}
 use Rattle.format.specs.Records.{switch}
@@ -40,14 +41,14 @@ add-clauses-3 : tie.Need-add-clauses-3
 add-clauses-3 c = omega (arith, there (c .before .before) .inside)
 
 shared-slice-read-clauses : tie.Need-shared-slice-read-clauses
-shared-slice-read-clauses c = there (c .before .before .before) .inside
+shared-slice-read-clauses c = omega (arith, there (c .before .before .before) .inside)
 
 returns : tie.Need-returns
 returns c =
     let t = there (c .before .before .before) in
     let v = c .before .before .identifier-at .ensures .is _ (t .var-at) in
     let y = c .before .type-at .ensures .is _ (t .ty-at) in
-    cc (t .is, v, y, t .clauses-at)
+    t .is ∙ sym (λ i. switch (v i) (y i) (t .clauses-at i))
 
 pub switch-spec : {M : Type 1} → statement M
 switch-spec =

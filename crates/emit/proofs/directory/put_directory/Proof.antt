@@ -1,10 +1,12 @@
-use Prim.Native.Nat.{_-_, _≤_}
-use mathlib.Core.Path.{_≡_, refl}
+use Prim.Native.Nat.{ℕ, _-_, _≤_}
+use mathlib.Core.Path.{_≡_, refl, ap}
 use native.Mathlib.Omega.{arith}
 use borrow.Author.Needs.{needs}
 use denote.Ref.{now}
 use lib.ListN.{length}
+use Rattle.format.specs.Parse.{field}
 use Rattle.format.proofs.FieldLaws.{field-length}
+use Rattle.put.proofs.Putting.{puts-as}
 use Rattle.emit.proofs.DirectoryLaws.{DirectoryLeft, directory-begins, directory-fits, directory-next, directory-ends}
 use Rattle.emit.proofs.directory.put_directory.Statement.{statement}
 use Rattle.emit.proofs.directory.put_directory.Tie as tie
@@ -27,17 +29,21 @@ mul-size c = search needs
 shared-slice-read-size : tie.Need-shared-slice-read-size Inv-loop μ-loop
 shared-slice-read-size c = search needs
 
+narrow-requires : tie.Need-narrow-requires Inv-loop μ-loop
+narrow-requires c κs = omega (arith, directory-fits (c .before .before .before .loop .inv .1 .1) (c .before .before .loop-test .taken) (c .before .before .before .before .before .before .pre .0))
+
 put-number-requires : tie.Need-put-number-requires Inv-loop μ-loop
-put-number-requires c κs = omega (arith, c .before .before .before .loop .inv .1 .1 .far, c .before .before .loop-test .taken, c .before .before .before .before .before .before .pre .1 .0)
+put-number-requires c κs = omega (arith, c .before .before .before .before .loop .inv .1 .1 .far, c .before .before .before .loop-test .taken, c .before .before .before .before .before .before .before .pre .1 .0)
+
+narrow-requires-2 : tie.Need-narrow-requires-2 Inv-loop μ-loop
+narrow-requires-2 c κs = omega (arith, directory-fits (c .before .before .before .before .before .before .before .before .loop .inv .1 .1) (c .before .before .before .before .before .before .before .loop-test .taken) (c .before .before .before .before .before .before .before .before .before .before .before .pre .0))
 
 put-number-requires-2 : tie.Need-put-number-requires-2 Inv-loop μ-loop
 put-number-requires-2 c κs =
-    omega (arith, c .before .before .before .before .before .before .before .loop .inv .1 .1 .far, c .before .before .before .before .before .before .loop-test .taken, c .before .before .before .before .before .before .before .before .before .before .pre .1 .0, c .before .before .before .put-number .ensures .ends, field-length (c .before .before .before .before .before .before .before .before .before .before .args .w) (c .before .before .before .before .before .before .before .loop .place))
+    omega (arith, c .before .before .before .before .before .before .before .before .before .loop .inv .1 .1 .far, c .before .before .before .before .before .before .before .before .loop-test .taken, c .before .before .before .before .before .before .before .before .before .before .before .before .pre .1 .0, c .before .before .before .before .put-number .ensures .ends, field-length (c .before .before .before .before .before .before .before .before .before .before .before .before .args .w) (c .before .before .before .before .before .narrow .result))
 
 add-place : tie.Need-add-place Inv-loop μ-loop
-add-place c =
-    let h = c .before .before .before .before .before .before .before .before .before .before .before .before .before .pre in
-    record { fits = directory-fits (c .before .before .before .before .before .before .before .before .before .before .loop .inv .1 .1) (c .before .before .before .before .before .before .before .before .before .loop-test .taken) (h .0) }
+add-place c = record { fits = omega (arith, directory-fits (c .before .before .before .before .before .before .before .before .before .before .before .before .loop .inv .1 .1) (c .before .before .before .before .before .before .before .before .before .before .before .loop-test .taken) (c .before .before .before .before .before .before .before .before .before .before .before .before .before .before .before .pre .0)) }
 
 add-i : tie.Need-add-i Inv-loop μ-loop
 add-i c = search needs
@@ -47,8 +53,15 @@ loop-less c = omega arith
 
 loop-again : tie.Need-loop-again Inv-loop μ-loop
 loop-again c =
-    let h = c .before .before .before .before .before .before .before .before .before .before .before .before .before .pre in
-    (search needs, (omega (arith, c .before .before .before .before .before .before .before .before .before .loop-test .taken), directory-next (c .before .before .before .before .before .before .before .before .before .before .loop .inv .1 .1) _ (c .before .before .before .before .before .before .before .before .before .loop-test .taken) (h .0) (h .1 .0) refl (field-length _ _) (field-length _ _) (c .before .before .before .before .before .before .put-number .ensures) (c .before .before .put-number2 .ensures)))
+    let h = c .before .before .before .before .before .before .before .before .before .before .before .before .before .before .before .pre in
+    let w = c .before .before .before .before .before .before .before .before .before .before .before .before .before .before .before .args .w in (
+      search needs,
+      (
+        omega (arith, c .before .before .before .before .before .before .before .before .before .before .before .loop-test .taken),
+        directory-next (c .before .before .before .before .before .before .before .before .before .before .before .before .loop .inv .1 .1) _ (c .before .before .before .before .before .before .before .before .before .before .before .loop-test .taken) (h .0) (h .1 .0) refl (field-length _ _) (field-length _ _)
+            (puts-as (ap (field w) (c .before .before .before .before .before .before .before .before .narrow .ensures)) (c .before .before .before .before .before .before .before .put-number .ensures)) (puts-as (ap (field w) (c .before .before .before .narrow2 .ensures)) (c .before .before .put-number2 .ensures)),
+      ),
+    )
 
 same-length : tie.Need-same-length Inv-loop μ-loop
 same-length c = c .before .loop .inv .0
@@ -65,7 +78,9 @@ put-directory-spec =
     loop-holds
     mul-size
     shared-slice-read-size
+    narrow-requires
     put-number-requires
+    narrow-requires-2
     put-number-requires-2
     add-place
     add-i

@@ -6,11 +6,8 @@ use Rattle.emit.proofs.EmitLaws.{noted-one, noted-past}
 use Rattle.emit.proofs.progress.note.Statement.{statement}
 use Rattle.emit.proofs.progress.note.Tie as tie
 
-sub-narrow : tie.Need-sub-narrow
-sub-narrow c = search needs
-
-narrow-requires : tie.Need-narrow-requires
-narrow-requires c κs = search needs
+sub-length : tie.Need-sub-length
+sub-length c = search needs
 
 add-next-count : tie.Need-add-next-count
 add-next-count c = search needs
@@ -26,23 +23,15 @@ same-length c = search needs
 
 returns : tie.Need-returns
 returns c =
-    let a = c .before .before .before .before .args in
-    record { at = refl; maxId = refl; puts = noted-one (now (a .lengths)) (a .p .count) (a .next - a .p .at) _ (c .before .narrow .ensures) }
+    let a = c .before .before .args in
+    record { at = refl; maxId = refl; puts = noted-one (now (a .lengths)) (a .p .count) (a .next - a .p .at) }
 
 returns-2 : tie.Need-returns-2
 returns-2 c =
-    let a = c .before .before .before .before .args in
+    let a = c .before .before .args in
     record { at = refl; maxId = refl; puts = noted-past (now (a .lengths)) (a .p .count) (a .next - a .p .at) (c .if1 .left) }
 
 pub note-spec : {M : Type 1} → statement M
 note-spec =
     tie.close
-    (tie.spec
-    sub-narrow
-    narrow-requires
-    add-next-count
-    mul-lengths
-    slice-write-lengths
-    same-length
-    returns
-    returns-2)
+    (tie.spec sub-length add-next-count mul-lengths slice-write-lengths same-length returns returns-2)

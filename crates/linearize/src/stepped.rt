@@ -1,0 +1,15 @@
+// What a step leads to: the context for the bodies, how many variables are in scope there, and how far the output has come.
+use emit::progress::Progress;
+use held::Held;
+
+pub struct Stepped {
+    pub context: Held,
+    pub in_scope: u8,
+    pub progress: Progress,
+}
+
+// What clauses begin with: their context, and where they are written, behind the place of what comes before them.
+pub struct Opened {
+    pub context: Held,
+    pub progress: Progress,
+}
