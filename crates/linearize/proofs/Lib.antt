@@ -11,3 +11,4 @@ pub mod LiteralLaws
 pub mod IfCLaws
 pub mod LetLaws
 pub mod SwitchLaws
+pub mod CreateLaws

@@ -1,5 +1,6 @@
 // The statements, one file each.
 pub mod call;
+pub mod create;
 pub mod ifc;
 pub mod invoke;
 pub mod let_;
