@@ -1,14 +1,13 @@
 -- The step of a Let: its arguments as they are written, under fresh names unless the context is right, and what is written. Assumes nothing.
-use Prim.Native.Nat.{ℕ, _+_, _≤_, _<_, _^_}
-use mathlib.Core.Path.{_≡_, refl, sym, ap, _∙_, subst}
-use mathlib.Core.Bool.{Bool, true, false}
+use Prim.Native.Nat.{ℕ, _+_, _≤_}
+use mathlib.Core.Path.{_≡_, sym, ap, _∙_, subst}
+use mathlib.Core.Bool.{Bool, true}
 use mathlib.Core.List.{List, [], _∷_, _++_}
 use native.Mathlib.Omega.{arith}
 use borrow.Author.Tests.{leb-true}
 use lib.ListN.{length, length-map}
 use Rattle.syntax.specs.Context.{Context, idOf, ids, sameContext}
 use Rattle.syntax.specs.Arrays.{contextOf, setOf, Holds, SetHolds, Freshens}
-use Rattle.syntax.specs.Fresh.{freshen}
 use Rattle.syntax.specs.declared.names.VarId.{VarId}
 use Rattle.syntax.specs.declared.names.Identifier.{Identifier}
 use Rattle.syntax.specs.declared.context.Chirality.the-variants.{Prd}
@@ -16,9 +15,7 @@ use Rattle.syntax.specs.declared.context.TypingContext.{TypingContext}
 use Rattle.syntax.specs.declared.context.Freshened.{Freshened}
 use Rattle.syntax.specs.declared.sets.IdSet.{IdSet}
 use Rattle.syntax.specs.declared.types.Ty.{Ty}
-use Rattle.syntax.proofs.Drawing.{freshen-near}
 use Rattle.model.specs.Rules.{bind, freshenUnless}
-use Rattle.model.proofs.Widths.{unless-length}
 use Rattle.format.specs.Records.{Record, let', recordBytes}
 use Rattle.put.specs.Puts.{Puts}
 use Rattle.emit.specs.Emitting.{Emits, Noted}
@@ -33,7 +30,7 @@ use Rattle.held.specs.Masks.{keptByMask}
 use Rattle.held.specs.declared.Held.{Held}
 use Rattle.steps.specs.Steps.{arranged, stepLet}
 use Rattle.linearize.specs.Drawn.{drawnTo}
-use Rattle.linearize.specs.Stepping.{Paired, Arranges, StepsAs}
+use Rattle.linearize.specs.Stepping.{Arranges, StepsAs}
 use Rattle.linearize.specs.declared.stepped.Stepped.{Stepped}
 use Rattle.linearize.proofs.StepLaws.{kept-says, arranged-then}
 
@@ -43,10 +40,6 @@ use Rattle.linearize.proofs.StepLaws.{kept-says, arranged-then}
 pub args-few : {r : Record} (l : LetRecord) → smallRecord r ≡ true → Unpacked r (letOf l) (l .args) → l .args .len ≤ 32
 args-few l e u = omega (arith, u .count, leb-true (length (contextOf (l .args))) 32 (ap smallRecord (sym (u .is)) ∙ e))
 
--- a struct that holds a list has its count
-pub held-count : {c : TypingContext} {Γ : Context} → Holds c Γ → c .len ≡ length (contextOf c)
-held-count h = h .count ∙ ap length (sym (h .list))
-
 -- as they are written, there are as many
 pub used-count : {c : TypingContext} (W : Work) (args : TypingContext) → args .len ≡ length (contextOf args) → Holds c (usedAll W (contextOf args)) → c .len ≡ args .len
 used-count W args e h = omega (arith, h .count, length-map (contextOf args) (usedBinding W))
@@ -54,32 +47,6 @@ used-count W args e h = omega (arith, h .count, length-map (contextOf args) (use
 -- as many IDs as entries
 pub ids-count : {s : IdSet} (W : Work) → SetHolds s (ids (bindings W)) → s .len ≡ length W
 ids-count W h = h .count ∙ length-map (bindings W) idOf ∙ length-map W (λ (e : Entry). e .binding)
-
--- ── fresh names ──
-
--- the context is right: nothing is drawn
-pub freshens-nothing : (c : TypingContext) (C : List VarId) (m : ℕ) → c .len ≡ length (contextOf c)
-    → Freshens (record { context = c; «max_id» = record { 0 = m } }) (freshenUnless true (contextOf c) C m)
-unfolding freshenUnless
-freshens-nothing c C m h = record { holds = record { count = h; list = refl }; max = refl }
-
--- it is not: all that clashes is
-pub freshens-all : {r : Freshened} (Γ : Context) (C : List VarId) (m : ℕ) → Freshens r (freshen Γ C m) → Freshens r (freshenUnless false Γ C m)
-unfolding freshenUnless
-freshens-all Γ C m h = h
-
--- there is room for what is drawn
-pub freshen-fits : (c : TypingContext) (C : List VarId) (m : ℕ) → c .len ≡ length (contextOf c) → c .len ≤ 64 → m + 256 < 2 ^ 32 → (freshen (contextOf c) C m) .1 < 2 ^ 32
-freshen-fits c C m h k r = omega (arith, freshen-near (contextOf c) C m)
-
--- the freshened list is paired with what is wanted in its places
-pub freshened-paired : {r : Freshened} (right : Bool) {c : TypingContext} {Γ : Context} (C : List VarId) (m : ℕ) → Holds c Γ → c .len ≤ 64 → Freshens r (freshenUnless right (contextOf c) C m) → Paired (r .context) c
-freshened-paired right {c} C m h k f = record {
-  count = held-count (f .holds);
-  same = omega (arith, f .holds .count, unless-length right (contextOf c) C m, held-count h);
-  wantedCount = held-count h;
-  few = omega (arith, f .holds .count, unless-length right (contextOf c) C m, held-count h, k);
-}
 
 -- ── what is written ──
 

@@ -7,7 +7,8 @@ use Rattle.syntax.specs.Arrays.{contextOf, setOf}
 use Rattle.held.specs.Holding.{workOf}
 use Rattle.linearize.specs.Stepping.{Paired}
 use Rattle.linearize.proofs.StepLaws.{paired-self, kept-room, kept-count}
-use Rattle.linearize.proofs.LetLaws.{args-few, held-count, used-count, ids-count, freshened-paired, let-steps}
+use Rattle.linearize.proofs.FreshLaws.{holds-count, paired-fresh}
+use Rattle.linearize.proofs.LetLaws.{args-few, used-count, ids-count, let-steps}
 use Rattle.linearize.proofs.statements.let_.linearize.Statement.{statement}
 use Rattle.linearize.proofs.statements.let_.linearize.Tie as tie
 
@@ -37,7 +38,7 @@ used-few c =
 paired : (c : tie.After-freshen-unless) → Paired (c .freshen-unless .result .context) (c .before .before .before .before .used-all .result)
 paired c =
     let u = c .before .before .before .before in
-    freshened-paired (c .before .before .same .result) (setOf (c .before .ids .result)) (c .before .before .before .before .before .before .before .before .before .before .before .args .p .«max_id») (u .used-all .ensures) (omega (arith, used-few u)) (c .freshen-unless .ensures)
+    paired-fresh (c .before .before .same .result) (u .used-all .result) (setOf (c .before .ids .result)) (c .before .before .before .before .before .before .before .before .before .before .before .args .p .«max_id») (holds-count (u .used-all .ensures)) (omega (arith, used-few u)) (c .freshen-unless .ensures)
 
 context-requires : tie.Need-context-requires
 context-requires c κs = omega (arith, room c)
@@ -54,7 +55,7 @@ ids-requires c κs = omega (arith, room (c .before .before .before .before))
 freshen-unless-requires : tie.Need-freshen-unless-requires
 freshen-unless-requires c κs =
     let n = c .before .before .before .before .before in (
-      held-count (c .before .before .before .used-all .ensures),
+      holds-count (c .before .before .before .used-all .ensures),
       (
         omega (arith, used-few (c .before .before .before)),
         (omega (arith, ids-count (workOf (n .filter .result)) (c .ids .ensures), ap length (n .filter .ensures .list), n .filter .ensures .count, room n), c .before .before .before .before .before .before .before .before .before .before .pre .1 .1 .maxId),
