@@ -1,4 +1,2 @@
--- What a step of linearization needs and does.
-pub mod Drawn
-pub mod Inputs
-pub mod Stepping
+-- What linearization over records needs and does.
+pub mod Walking

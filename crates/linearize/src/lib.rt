@@ -1,6 +1,3 @@
-// Linearization: one file for each construct, with the Rust's names.
-pub mod arrange;
-pub mod fresh;
-pub mod reserve;
-pub mod statements;
-pub mod stepped;
+// Linearization over the records of an image, with the Rust's names. The statements are in crates of their own.
+pub mod def;
+pub mod walk;

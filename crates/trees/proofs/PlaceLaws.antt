@@ -36,23 +36,23 @@ bodies-are {d} {n} {rs} {i} {ts} h = rw (h .begins .split, times-exact (stmt-exa
 
 -- ── the parts of what stands there ──
 
-module _ {rs : List Record} {i : ℕ} where
-  pub begins-left : (a b : List Record) → Begins rs i (a ++ b) → Begins rs i a
+module _ {A : Type 0} {rs : List A} {i : ℕ} where
+  pub begins-left : (a b : List A) → Begins rs i (a ++ b) → Begins rs i a
   begins-left a b h = record { rest = b ++ h .rest; split = h .split ∙ append-assoc a b (h .rest) }
 
-  pub begins-right : (a b : List Record) → Begins rs i (a ++ b) → Begins rs (i + length a) b
+  pub begins-right : (a b : List A) → Begins rs i (a ++ b) → Begins rs (i + length a) b
   begins-right a b h = record {
     rest = h .rest;
     split = sym (drop-drop (length a) i rs) ∙ ap (drop (length a)) (h .split ∙ append-assoc a b (h .rest)) ∙ drop-append-seam a (b ++ h .rest);
   }
 
-  -- the first record, and what follows it
-  pub begins-head : (r : Record) (b : List Record) → Begins rs i (r ∷ b) → drop i rs ≡ r ∷ drop (i + 1) rs
+  -- the first, and what follows it
+  pub begins-head : (r : A) (b : List A) → Begins rs i (r ∷ b) → drop i rs ≡ r ∷ drop (i + 1) rs
   unfolding begins-right
-  begins-head r b h = h .split ∙ ap (λ (l : List Record). r ∷ l) (sym (begins-right (r ∷ []) b h .split))
+  begins-head r b h = h .split ∙ ap (λ (l : List A). r ∷ l) (sym (begins-right (r ∷ []) b h .split))
 
 -- a record that stands somewhere is there
-pub head-within : (rs : List Record) (i : ℕ) (r : Record) → drop i rs ≡ r ∷ drop (i + 1) rs → i < length rs
+pub head-within : {A : Type 0} (rs : List A) (i : ℕ) (r : A) → drop i rs ≡ r ∷ drop (i + 1) rs → i < length rs
 head-within rs i r e = omega (arith, ap length e, length-drop i rs)
 
 pub record StmtParts (d : ℕ) (rs : List Record) (i : ℕ) (t : Stmt) : Type 0 where

@@ -23,9 +23,9 @@ clausesAt d n rs i = ifGot (clauses (stmt d) n (drop i rs)) end (λ cs _. cs)
 unfoldable pub bodiesAt : ℕ → ℕ → List Record → ℕ → List Stmt
 bodiesAt d n rs i = ifGot (times n (stmt d) (drop i rs)) [] (λ ts _. ts)
 
--- the records from i on begin with these
-pub record Begins (rs : List Record) (i : ℕ) (front : List Record) : Type 0 where
-  pub rest : List Record
+-- the records, or the numbers kept for them, from i on begin with these
+pub record Begins {A : Type 0} (rs : List A) (i : ℕ) (front : List A) : Type 0 where
+  pub rest : List A
   pub split : drop i rs ≡ front ++ rest
 
 -- a statement stands at i, at most d deep; and the same of n clauses and of n bodies

@@ -1,0 +1,168 @@
+-- What comes before the clauses of a Create. Assumes nothing.
+use Prim.Native.Nat.{ℕ, _+_, _*_, _≤_}
+use mathlib.Core.Path.{_≡_, refl, sym, ap, ap₂, _∙_, subst}
+use mathlib.Core.Bool.{Bool, true, false, cond}
+use mathlib.Core.List.{List, [], _∷_, _++_}
+use mathlib.Core.Option.{Option, some}
+use native.Mathlib.Omega.{arith}
+use native.Mathlib.Nat.{mul-le-mul}
+use lib.ListN.{length, length-append, length-map, length-take}
+use Rattle.syntax.specs.Context.{Context, ids, sameContext}
+use Rattle.syntax.specs.Arrays.{contextOf, setOf, Holds, SetHolds, Freshens}
+use Rattle.syntax.specs.declared.sets.IdSet.{IdSet}
+use Rattle.syntax.specs.declared.context.Freshened.{Freshened}
+use Rattle.syntax.specs.declared.context.Chirality.the-variants.{Cns}
+use Rattle.model.specs.Rules.{bind, freshenUnless}
+use Rattle.syntax.specs.declared.names.VarId.{VarId}
+use Rattle.syntax.specs.declared.names.Identifier.{Identifier}
+use Rattle.syntax.specs.declared.context.TypingContext.{TypingContext}
+use Rattle.syntax.specs.declared.types.Ty.{Ty}
+use Rattle.syntax.specs.Sets.{elem}
+use Rattle.syntax.proofs.Permutations.{perm-sym}
+use Rattle.format.specs.Kinds.{kindOf, fixed}
+use Rattle.format.specs.Records.{Record, definition, substitute, call, let', switch, create, invoke, literal, op, ifc, clause', recordBytes}
+use Rattle.put.specs.Puts.{Puts}
+use Rattle.emit.specs.Emitting.{Noted}
+use Rattle.emit.specs.declared.progress.Progress.{Progress}
+use Rattle.work.specs.Work.{Work, bindings, kept, movedBehind, own, respelledUnless}
+use Rattle.work.specs.declared.Entry.{Entry}
+use Rattle.work.proofs.Lists.{in-perm, filtered-same}
+use Rattle.work.proofs.Entries.{movedBehind-perm}
+use Rattle.work.proofs.Lengths.{moved-length, respelled-fewer}
+use Rattle.held.specs.Holding.{workOf, HoldsWork}
+use Rattle.held.specs.Masks.{inMask, keptByMask}
+use Rattle.held.specs.declared.Held.{Held}
+use Rattle.held.proofs.MaskLaws.{mask-fewer}
+use Rattle.steps.specs.Steps.{environment, arranged, stepCreate}
+use Rattle.steps.specs.Fronts.{wanted, rightOf, frontRecords, frontBytes, pairsSize, tailSize}
+use Rattle.stepping.specs.Drawn.{drawnTo}
+use Rattle.stepping.specs.Stepping.{Says, Reserves, Opens, OpensAs, Arranges, StepsAs}
+use Rattle.stepping.specs.declared.stepped.Opened.{Opened}
+use Rattle.stepping.specs.declared.stepped.Stepped.{Stepped}
+use Rattle.stepping.proofs.StepLaws.{kept-says, arranged-then, emits-as}
+use Rattle.stepping.proofs.FreshLaws.{fresh-max, fresh-arranged}
+
+-- what the mask retains of the context with some moved behind
+moved-says : {mask : ℕ} {s : List VarId} {W : Work} (j : ℕ) → Says mask s W → keptByMask mask (movedBehind j W) ≡ kept s (movedBehind j W)
+moved-says {mask} {s} {W} j a = filtered-same (inMask mask) (λ (e : Entry). elem (e .source) s) (movedBehind j W) (λ e h. a .says e (in-perm (perm-sym (movedBehind-perm j W)) h))
+
+-- the list of bindings takes few bytes
+pub bindings-most : (k w : ℕ) → k ≤ 64 → w ≤ 8 → k * (6 + (w + w)) ≤ 1408
+bindings-most k w h v = let b : 6 + (w + w) ≤ 22 = omega arith in mul-le-mul h b
+
+-- a record of kind 6 is a Create
+pub record IsCreate (r : Record) : Type 0 where
+  pub var : Identifier
+  pub ty : Ty
+  pub environment : Option Context
+  pub clauses : ℕ
+  pub is : r ≡ create var ty environment clauses
+
+pub is-create : (r : Record) → kindOf r ≡ 6 → IsCreate r
+is-create (definition x Γ) k = absurd (omega (arith, k))
+is-create (substitute ps) k = absurd (omega (arith, k))
+is-create (call x Γ) k = absurd (omega (arith, k))
+is-create (let' v t g Γ) k = absurd (omega (arith, k))
+is-create (switch v t n) k = absurd (omega (arith, k))
+is-create (create v t e n) k = record { var = v; ty = t; environment = e; clauses = n; is = refl }
+is-create (invoke v g t Γ) k = absurd (omega (arith, k))
+is-create (literal z v) k = absurd (omega (arith, k))
+is-create (op f o s v) k = absurd (omega (arith, k))
+is-create (ifc c f s) k = absurd (omega (arith, k))
+is-create (clause' x Γ) k = absurd (omega (arith, k))
+
+-- ── how many there are ──
+
+pub held-count : {h : Held} {N : Work} {c : TypingContext} → HoldsWork h N → Holds c (bindings (workOf h)) → c .len ≡ h .len
+held-count {h} {N} {c} n b = omega (arith, b .count, length-map (workOf h) (λ (e : Entry). e .binding), ap length (n .list), n .count)
+
+pub moved-few : (j : ℕ) {h : Held} (held : Held) → HoldsWork h (movedBehind j (workOf held)) → h .len ≤ held .len
+moved-few j {h} held n = omega (arith, n .count, moved-length j (workOf held), length-take (held .len) (held .entries))
+
+pub environment-few : (mask j : ℕ) {h : Held} (held : Held) → HoldsWork h (keptByMask mask (movedBehind j (workOf held))) → h .len ≤ held .len
+environment-few mask j {h} held n = omega (arith, n .count, mask-fewer mask (movedBehind j (workOf held)), moved-length j (workOf held), length-take (held .len) (held .entries))
+
+pub respelled-few : (right : Bool) (new ren : Held) (T : Context) → HoldsWork ren (respelledUnless right (workOf new) T) → ren .len ≤ new .len
+unfolding respelledUnless
+respelled-few true new ren T n = omega (arith, n .count, length-take (new .len) (new .entries))
+respelled-few false new ren T n = omega (arith, n .count, respelled-fewer (workOf new) T, length-take (new .len) (new .entries))
+
+-- ── the place ──
+
+pub create-opens : {w : ℕ} {record′ : Record} (var : Identifier) (ty : Ty) (env : Option Context) (clauses : ℕ) {maskClauses maskNext : ℕ} {W : Work} {p : Progress} {r : Opened} {new : Held} {c x : TypingContext} {right : Bool} {own : ℕ}
+    → record′ ≡ create var ty env clauses → HoldsWork new (keptByMask maskNext W) → HoldsWork (r .context) (keptByMask maskClauses (movedBehind (new .len) W))
+    → Holds c (bindings (workOf new)) → Holds x (bindings (workOf (r .context)))
+    → right ≡ sameContext (bindings W) (contextOf c ++ contextOf x) → own ≡ fixed w 6 → Reserves right (c .len + x .len) (own + (3 + x .len * (6 + (w + w)))) w p (r .progress)
+    → OpensAs w record′ maskClauses maskNext W p r
+unfolding frontBytes frontRecords rightOf wanted tailSize environment
+create-opens {w} {record′} var ty env clauses {maskClauses} {maskNext} {W} {p} {r} {new} {c} {x} {right} {own} e h k d z b o a =
+    rw e record {
+      opens = λ fc fn s y.
+          let g : keptByMask maskNext W ≡ kept fn W = kept-says y in
+          let j : new .len ≡ length (kept fn W) = h .count ∙ ap length g in
+          let N = kept fn W in
+          let E = kept fc (movedBehind (length N) W) in
+          let u : keptByMask maskClauses (movedBehind (new .len) W) ≡ E = moved-says (new .len) s ∙ ap (λ (i : ℕ). kept fc (movedBehind i W)) j in
+          let A : contextOf c ≡ bindings N = d .list ∙ ap bindings (h .list ∙ g) in
+          let X : contextOf x ≡ bindings E = z .list ∙ ap bindings (k .list ∙ u) in
+          let l : contextOf c ++ contextOf x ≡ bindings N ++ bindings E = ap₂ (λ (i i′ : Context). i ++ i′) A X in
+          let q : right ≡ sameContext (bindings W) (bindings N ++ bindings E) = b ∙ ap (sameContext (bindings W)) l in
+          let cn : c .len ≡ length (bindings N) = d .count ∙ ap (λ (i : Work). length (bindings i)) (h .list ∙ g) in
+          let xn : x .len ≡ length (bindings E) = z .count ∙ ap (λ (i : Work). length (bindings i)) (k .list ∙ u) in
+          let xe : x .len ≡ length E = xn ∙ length-map E (λ (i : Entry). i .binding) in
+          let n : c .len + x .len ≡ length (bindings N ++ bindings E) = omega (arith, cn, xn, length-append (bindings N) (bindings E)) in
+          record {
+            context = subst (HoldsWork (r .context)) u k;
+            at = a .at ∙ (ap (λ (t : Bool). p .at + (cond t 0 (1 + pairsSize w (c .len + x .len)) + (own + (3 + x .len * (6 + (w + w)))))) q
+                ∙ (ap₂ (λ (t t′ : ℕ). p .at + (cond (sameContext (bindings W) (bindings N ++ bindings E)) 0 (1 + pairsSize w t) + (t′ + (3 + x .len * (6 + (w + w)))))) n o
+                ∙ (ap (λ (t : ℕ). p .at + (cond (sameContext (bindings W) (bindings N ++ bindings E)) 0 (1 + pairsSize w (length (bindings N ++ bindings E))) + (fixed w 6 + (3 + t * (6 + (w + w)))))) xe
+                ∙ ap (λ (t : ℕ). p .at + (cond (sameContext (bindings W) (bindings N ++ bindings E)) 0 (1 + pairsSize w (length (bindings N ++ bindings E))) + (fixed w 6 + t))) (same-tail (length E * (6 + (w + w)))))));
+            count = a .count ∙ ap (λ (t : Bool). p .count + cond t 1 2) q;
+            maxId = a .maxId;
+          };
+    }
+  where
+    same-tail : (t : ℕ) → 3 + t ≡ 1 + (1 + t + 1)
+    same-tail t = omega arith
+
+-- ── the clauses are done ──
+
+pub create-steps : {w : ℕ} {record′ : Record} (var : Identifier) (ty : Ty) (env : Option Context) (clauses : ℕ) {maskClauses maskNext : ℕ} {W : Work} {n : ℕ} {out mid out′ lengths middle lengths′ : List ℕ} {p q written : Progress} {place : ℕ} {r : Stepped}
+    {new captured ren : Held} {c x : TypingContext} {clashes : IdSet} {right : Bool} {f : Freshened}
+    → record′ ≡ create var ty env clauses → HoldsWork new (keptByMask maskNext W) → HoldsWork captured (keptByMask maskClauses (movedBehind (new .len) W))
+    → Holds c (bindings (workOf new)) → Holds x (bindings (workOf captured)) → SetHolds clashes (ids (bindings (workOf captured)))
+    → right ≡ sameContext (bindings W) (contextOf c ++ contextOf x) → Freshens f (freshenUnless right (contextOf c) (setOf clashes) (p .«max_id»))
+    → Arranges w out mid lengths middle p q (arranged right (contextOf (f .context) ++ contextOf x) (contextOf c ++ contextOf x))
+    → Puts mid out′ (q .at) place (recordBytes w (create var ty (some (contextOf x)) clauses)) → Noted written q place middle lengths′
+    → HoldsWork ren (respelledUnless right (workOf new) (contextOf (f .context))) → HoldsWork (r .context) (workOf ren ++ (own n (bind var Cns ty) ∷ [])) → r .«in_scope» ≡ n + 1
+    → r .progress ≡ drawnTo written (f .«max_id» .0) → StepsAs w record′ maskClauses maskNext W n out out′ lengths lengths′ p r
+unfolding stepCreate environment
+create-steps {w} {record′} var ty env clauses {maskClauses} {maskNext} {W} {n} {out} {mid} {out′} {lengths} {middle} {lengths′} {p} {q} {written} {place} {r} {new} {captured} {ren} {c} {x} {clashes} {right} {f} e h k d z s b v a u m j t y o =
+    rw e record {
+      steps = λ fc fn sc sn.
+          let g : keptByMask maskNext W ≡ kept fn W = kept-says sn in
+          let l : new .len ≡ length (kept fn W) = h .count ∙ ap length g in
+          let N = kept fn W in
+          let E = kept fc (movedBehind (length N) W) in
+          let i : keptByMask maskClauses (movedBehind (new .len) W) ≡ E = moved-says (new .len) sc ∙ ap (λ (a : ℕ). kept fc (movedBehind a W)) l in
+          let A : Holds c (bindings N) = subst (λ (a : Work). Holds c (bindings a)) (h .list ∙ g) d in
+          let B : Holds x (bindings E) = subst (λ (a : Work). Holds x (bindings a)) (k .list ∙ i) z in
+          let C : SetHolds clashes (ids (bindings E)) = subst (λ (a : Work). SetHolds clashes (ids (bindings a))) (k .list ∙ i) s in
+          let R = sameContext (bindings W) (bindings N ++ bindings E) in
+          let rl : right ≡ R = b ∙ ap (sameContext (bindings W)) (ap₂ (λ (a a′ : Context). a ++ a′) (A .list) (B .list)) in
+          let F = freshenUnless R (bindings N) (ids (bindings E)) (p .«max_id») in
+          let fl : contextOf (f .context) ≡ F .0 = v .holds .list
+          ∙ (ap (λ (a : Bool). freshenUnless a (contextOf c) (setOf clashes) (p .«max_id») .0) rl ∙ ap₂ (λ (a : Context) (a′ : List VarId). freshenUnless R a a′ (p .«max_id») .0) (A .list) (C .list)) in
+          let front : arranged right (contextOf (f .context) ++ contextOf x) (contextOf c ++ contextOf x) ++ (create var ty (some (contextOf x)) clauses ∷ [])
+          ≡ arranged R (F .0 ++ bindings E) (bindings N ++ bindings E) ++ (create var ty (some (bindings E)) clauses ∷ []) =
+          ap (λ (a : List Record). a ++ (create var ty (some (contextOf x)) clauses ∷ [])) (fresh-arranged W (p .«max_id») A B C b v)
+          ∙ ap (λ (a : Context). arranged R (F .0 ++ bindings E) (bindings N ++ bindings E) ++ (create var ty (some a) clauses ∷ [])) (B .list) in
+          let ctx : workOf ren ≡ respelledUnless R N (F .0) = j .list
+          ∙ (ap (λ (a : Bool). respelledUnless a (workOf new) (contextOf (f .context))) rl ∙ ap₂ (λ (a : Work) (a′ : Context). respelledUnless R a a′) (h .list ∙ g) fl) in
+          record {
+            emits = emits-as front (ap (λ (a : Progress). a .at) o) (ap (λ (a : Progress). a .count) o) (arranged-then (create var ty (some (contextOf x)) clauses) a u m);
+            context = subst (λ (a : Work). HoldsWork (r .context) (a ++ (own n (bind var Cns ty) ∷ []))) ctx t;
+            inScope = y;
+            maxId = ap (λ (a : Progress). a .«max_id») o ∙ fresh-max W (p .«max_id») A B C b v;
+          };
+    }

@@ -1,0 +1,2 @@
+-- What a Switch draws.
+pub mod Drawing

@@ -1,0 +1,98 @@
+-- The choice by kind: how much a statement of a kind binds, and which of the two sets its step looks at. A step that does not look at a set is
+-- the same for every set, so its contract with the empty mask does for every mask. Assumes nothing.
+use Prim.Native.Nat.{ℕ, _≤_}
+use mathlib.Core.Path.{_≡_, refl, sym, _∙_, subst}
+use mathlib.Core.Bool.{Bool, true, false, cond}
+use mathlib.Core.List.{List, [], _∷_}
+use native.Mathlib.Omega.{arith}
+use lib.ListN.{length, getD}
+use Rattle.syntax.specs.declared.names.VarId.{VarId}
+use Rattle.directory.specs.declared.Frame.{Frame}
+use Rattle.format.specs.Records.{Record, definition, substitute, call, let', switch, create, invoke, literal, op, ifc, clause'}
+use Rattle.format.specs.Kinds.{kindOf}
+use Rattle.emit.specs.declared.progress.Progress.{Progress}
+use Rattle.trees.specs.Views.{binders}
+use Rattle.checking.specs.Nodes.{recordAt}
+use Rattle.unpack.proofs.MadeLaws.{made, partsOf}
+use Rattle.unpack.proofs.ListPlaces.{at-made}
+use Rattle.work.specs.Work.{Work}
+use Rattle.held.specs.declared.Held.{Held}
+use Rattle.held.proofs.MaskLaws.{marked-past}
+use Rattle.steps.specs.Steps.{Step, stepOf}
+use Rattle.steps.specs.Fronts.{wanted, rightOf, frontRecords, frontBytes, tailSize}
+use Rattle.stepping.specs.Stepping.{Says, RoomAt, SourceAt, Workable, Steps, StepsAs, OpensAs}
+use Rattle.stepping.specs.declared.stepped.Stepped.{Stepped}
+use Rattle.stepping.specs.declared.stepped.Opened.{Opened}
+
+-- ── what a kind asks for ──
+
+pub source-as : {g : Frame} {s : List ℕ} {i kind : ℕ} (k : ℕ) → kind ≡ k → SourceAt g s i kind → SourceAt g s i k
+source-as {g} {s} {i} k e a = subst (λ (z : ℕ). SourceAt g s i z) e a
+
+-- the room for what the record binds, by its kind
+pub step-ready : {g : Frame} {s : List ℕ} {i kind : ℕ} {held : Held} {n : ℕ} {p : Progress} (k : ℕ) → kind ≡ k
+    → SourceAt g s i kind × ((3 ≤ kind) × ((kind ≤ 10) × (Workable held n (length (binders (recordAt g s i))) × RoomAt p)))
+    → SourceAt g s i k × (Workable held n (length (binders (made (recordAt g s i) (partsOf (recordAt g s i)) k))) × RoomAt p)
+step-ready {g} {s} {i} {kind} {held} {n} {p} k e h =
+    let a = source-as k e (h .0) in
+    (a, (subst (λ (r : Record). Workable held n (length (binders r))) (at-made k (a .at)) (h .1 .1 .1 .0), h .1 .1 .1 .1))
+
+-- ── which sets are looked at ──
+
+-- does the step of a record of kind k look at the set of its clauses? A Switch's and a Create's do.
+abbrev pub seesClauses : ℕ → Bool
+seesClauses k = getD (false ∷ false ∷ false ∷ false ∷ false ∷ true ∷ true ∷ []) k false
+
+-- .. and at the set of its bodies? That of a Let, a Create, a Literal and an Op does.
+abbrev pub seesNext : ℕ → Bool
+seesNext k = getD (false ∷ false ∷ false ∷ false ∷ true ∷ false ∷ true ∷ false ∷ true ∷ true ∷ []) k false
+
+-- the set, or the empty one if it is not looked at
+abbrev seen : Bool → List VarId → List VarId
+seen b s = cond b s []
+
+step-sees : (r : Record) (fc fn : List VarId) → stepOf r (seen (seesClauses (kindOf r)) fc) (seen (seesNext (kindOf r)) fn) ≡ stepOf r fc fn
+step-sees (definition x Γ) fc fn = refl
+step-sees (substitute ps) fc fn = refl
+step-sees (call x Γ) fc fn = refl
+step-sees (let' v t g Γ) fc fn = refl
+step-sees (switch v t n) fc fn = refl
+step-sees (create v t e n) fc fn = refl
+step-sees (invoke v g t Γ) fc fn = refl
+step-sees (literal z v) fc fn = refl
+step-sees (op f o j v) fc fn = refl
+step-sees (ifc c f j) fc fn = refl
+step-sees (clause' x Γ) fc fn = refl
+
+-- the empty mask says the empty set
+pub says-none : (W : Work) → Says 0 [] W
+says-none W = record { says = λ e _. marked-past 0 0 (e .place) (omega arith) (omega arith) }
+
+says-seen : (b : Bool) {mask : ℕ} {s : List VarId} {W : Work} → Says mask s W → Says (cond b mask 0) (seen b s) W
+says-seen true h = h
+says-seen false {W = W} h = says-none W
+
+pub steps-as : {g : Frame} {s : List ℕ} {i kind w clauses next : ℕ} {W : Work} {n : ℕ} {out out′ lengths lengths′ : List ℕ} {p : Progress} {r : Stepped} (k : ℕ) → kind ≡ k → SourceAt g s i kind
+    → StepsAs w (recordAt g s i) (cond (seesClauses k) clauses 0) (cond (seesNext k) next 0) W n out out′ lengths lengths′ p r
+    → StepsAs w (recordAt g s i) clauses next W n out out′ lengths lengths′ p r
+steps-as {g} {s} {i} {kind} {w} {clauses} {next} {W} {n} {out} {out′} {lengths} {lengths′} {p} {r} k e a h =
+    let same : (fc fn : List VarId) → stepOf (recordAt g s i) (seen (seesClauses k) fc) (seen (seesNext k) fn) ≡ stepOf (recordAt g s i) fc fn =
+    λ fc fn. subst (λ (z : ℕ). stepOf (recordAt g s i) (seen (seesClauses z) fc) (seen (seesNext z) fn) ≡ stepOf (recordAt g s i) fc fn) (a .at .kind ∙ e) (step-sees (recordAt g s i) fc fn) in
+    record {
+      steps = λ fc fn x y.
+          subst (λ (f : Work → (n m : ℕ) → Step). Steps w out out′ lengths lengths′ p r (f W n (p .«max_id»))) (same fc fn)
+          (h .steps (seen (seesClauses k) fc) (seen (seesNext k) fn) (says-seen (seesClauses k) x) (says-seen (seesNext k) y));
+    }
+
+-- what comes before the clauses of a Switch does not look at the set of the bodies
+switch-sees : {v t n w clauses next W p r : _} → OpensAs w (switch v t n) clauses 0 W p r → OpensAs w (switch v t n) clauses next W p r
+unfolding frontBytes frontRecords rightOf wanted tailSize
+switch-sees {W = W} h = record {
+  opens = λ fc fn x _. let o = h .opens fc [] x (says-none W) in record { context = o .context; at = o .at; count = o .count; maxId = o .maxId };
+}
+
+pub switch-opens-as : {g : Frame} {s : List ℕ} {i kind w clauses next : ℕ} {W : Work} {p : Progress} {r : Opened} → kind ≡ 5 → SourceAt g s i kind
+    → OpensAs w (recordAt g s i) clauses 0 W p r → OpensAs w (recordAt g s i) clauses next W p r
+switch-opens-as {g} {s} {i} {kind} {w} {clauses} {next} {W} {p} {r} e a h =
+    let d = at-made 5 (source-as 5 e a .at) in
+    subst (λ (x : Record). OpensAs w x clauses next W p r) (sym d) (switch-sees (subst (λ (x : Record). OpensAs w x clauses 0 W p r) d h))

@@ -1,0 +1,3 @@
+-- Laws of the choice by kind, and of what stands before a body.
+pub mod DispatchLaws
+pub mod EnterLaws

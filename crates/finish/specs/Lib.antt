@@ -1,0 +1,2 @@
+-- What the end of linearization does.
+pub mod Finishing

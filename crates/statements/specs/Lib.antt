@@ -1,0 +1,2 @@
+-- What an Op retains.
+pub mod Inputs

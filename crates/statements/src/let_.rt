@@ -1,0 +1,55 @@
+// let.rs
+use directory::Frame;
+use emit::progress::Progress;
+use emit::progress::note;
+use held::Held;
+use stepping::arrange::arrange;
+use stepping::fresh::freshen_unless;
+use stepping::fresh::with_max_id;
+use stepping::stepped::Stepped;
+use syntax::context::Chirality;
+use syntax::context::ContextBinding;
+use unpack::let_record;
+use write::records::put_let;
+ghost use Rattle.checking.specs.Nodes.{recordAt};
+ghost use Rattle.held.specs.Holding.{workOf};
+ghost use Rattle.stepping.specs.Stepping.{RoomAt, SourceAt, Workable, StepsAs};
+
+// A Let keeps what its next needs, with its arguments behind it, and binds its var in their place.
+pub fn linearize(
+    s: &[u8],
+    g: Frame,
+    i: usize,
+    free_vars_next: u64,
+    context: Held,
+    in_scope: u8,
+    out: &mut [u8],
+    lengths: &mut [usize],
+    p: Progress,
+) -> Stepped
+    requires { ⌜ SourceAt g (now s) i 4 × (Workable context «in_scope» 1 × RoomAt p) ⌝ }
+    ensures { λ r. ⌜ StepsAs (g .id) (recordAt g (now (s .entry)) i) 0 «free_vars_next» (workOf context) «in_scope» (now (out .entry)) (now (out .exit)) (now (lengths .entry)) (now (lengths .exit)) p r ⌝ }
+{
+    let statement = let_record(s, g, i);
+    let new_context = context.filter(free_vars_next);
+    let kept = new_context.context();
+    let args = context.used_all(statement.args);
+    let var = statement.var;
+    let ty = statement.ty;
+    let new_binding = ContextBinding {
+        var,
+        chi: Chirality::Prd,
+        ty,
+    };
+    let right = context.same(kept, args);
+    let fresh = freshen_unless(right, args, new_context.ids(), p.max_id);
+    let freshened = fresh.context;
+    let q = arrange(right, kept, kept, freshened, args, g.id, out, lengths, p);
+    let next = put_let(out, q.at, g.id, var, ty, statement.tag, freshened);
+    let noted = note(lengths, q, next);
+    Stepped {
+        context: new_context.own(in_scope, new_binding),
+        in_scope: in_scope + 1,
+        progress: with_max_id(noted, fresh.max_id),
+    }
+}

@@ -1,0 +1,52 @@
+// literal.rs
+use directory::Frame;
+use emit::progress::Progress;
+use emit::progress::note;
+use held::Held;
+use stepping::arrange::arrange;
+use stepping::stepped::Stepped;
+use syntax::context::Chirality;
+use syntax::context::ContextBinding;
+use syntax::context::TypingContext;
+use syntax::types::Ty;
+use unpack::literal;
+use write::records::put_literal;
+ghost use Rattle.checking.specs.Nodes.{recordAt};
+ghost use Rattle.held.specs.Holding.{workOf};
+ghost use Rattle.stepping.specs.Stepping.{RoomAt, SourceAt, Workable, StepsAs};
+
+// A Literal keeps what its next needs, and binds its var behind it.
+pub fn linearize(
+    s: &[u8],
+    g: Frame,
+    i: usize,
+    free_vars_next: u64,
+    context: Held,
+    in_scope: u8,
+    out: &mut [u8],
+    lengths: &mut [usize],
+    p: Progress,
+) -> Stepped
+    requires { ⌜ SourceAt g (now s) i 8 × (Workable context «in_scope» 1 × RoomAt p) ⌝ }
+    ensures { λ r. ⌜ StepsAs (g .id) (recordAt g (now (s .entry)) i) 0 «free_vars_next» (workOf context) «in_scope» (now (out .entry)) (now (out .exit)) (now (lengths .entry)) (now (lengths .exit)) p r ⌝ }
+{
+    let statement = literal(s, g, i);
+    let new_context = context.filter(free_vars_next);
+    let kept = new_context.context();
+    let nothing = TypingContext::empty();
+    let right = context.same(kept, nothing);
+    let q = arrange(right, kept, kept, nothing, nothing, g.id, out, lengths, p);
+    let next = put_literal(out, q.at, g.id, statement.lit, statement.var);
+    let progress = note(lengths, q, next);
+    let var = statement.var;
+    let binding = ContextBinding {
+        var,
+        chi: Chirality::Ext,
+        ty: Ty::I64,
+    };
+    Stepped {
+        context: new_context.own(in_scope, binding),
+        in_scope: in_scope + 1,
+        progress,
+    }
+}
