@@ -20,16 +20,15 @@ use Rattle.format.specs.Shape.{flatten, flattenClauses, flattenDefs, maxDepth}
 use Rattle.format.specs.declared.Answer.{Answer}
 use Rattle.format.specs.declared.Answer.the-variants.{Accepted, Refused}
 use Rattle.format.specs.declared.Refusal.{Refusal}
-use Rattle.format.specs.declared.Refusal.the-variants.{Size, LayoutNumber, Directory, RecordForm, Shape, Linearized, Limits, Room, Place}
+use Rattle.format.specs.declared.Refusal.the-variants.{Linearized, Limits, Room, Place}
 use Rattle.format.specs.declared.Layout.{Layout}
-use Rattle.format.specs.Reading.{Reading, refuse, accept, asked as askedReading, question1, question2, question3, question4, question5, programOf, reading}
 use Rattle.format.proofs.FieldLaws.{field-length}
 use Rattle.directory.specs.Slots.{Ready, recordsIn}
 use Rattle.directory.specs.declared.Frame.{Frame}
 use Rattle.directory.proofs.Places.{records-length}
 use Rattle.parts.specs.Standing.{headOf}
 use Rattle.parts.proofs.TailPlaces.{record-ok}
-use Rattle.reading.specs.Opening.{openedBy, openedOf}
+use Rattle.reading.specs.Opening.{openedOf}
 use Rattle.reading.specs.declared.Opened.the-variants.{Closed}
 use Rattle.reading.proofs.OpenedLaws.{IsOpened}
 use Rattle.trees.specs.Views.{recordOf, clausesIn, bodiesOf, binders}
@@ -40,14 +39,14 @@ use Rattle.put.proofs.Putting.{puts-then}
 use Rattle.scope.specs.Flat.{allRecords, plainRecord, smallRecord}
 use Rattle.scope.specs.Rooms.{inRoom, RoomFor, RoomForClauses}
 use Rattle.scope.specs.Marking.{markStmt, markClauses, keep, markedFrom}
-use Rattle.scope.specs.Calls.{Reply, refuses, writes, replyAnswer, replyBuffer, askedOf, hasAnnotation, firstHas, question13, setBytes, annotationBytes, placing, annotating, annotateOf, afterRefusal, replyAfter, Replies}
+use Rattle.scope.specs.Calls.{Reply, refuses, writes, replyAnswer, replyBuffer, askedOf, hasAnnotation, firstHas, question13, setBytes, annotationBytes, placing, annotating, annotateOf, Replies}
 use Rattle.scope.proofs.FlatLaws.{question6-flat, question7-flat}
 use Rattle.scope.proofs.Inside.{Inside, inside, asked-parts}
 use Rattle.scope.proofs.IdsFit.{all-left, stmt-ids-fit, clauses-ids-fit, two-bytes}
 use Rattle.scope.proofs.MarkLaws.{FitRow, Marks, allUses, allUsesClauses, marks-stmt, marks-clauses, marked-ascending}
 use Rattle.checking.specs.Nodes.{recordAt}
 use Rattle.checking.specs.Deciding.{programIn}
-use Rattle.checking.proofs.CheckLaws.{opened-defs}
+use Rattle.checking.proofs.ReplyLaws.{opened-replies, closed-replies}
 use Rattle.uses.specs.Sources.{Source}
 use Rattle.annotation.specs.Annotating.{annotatedKind, Annotated, Limited, Settled}
 
@@ -339,33 +338,9 @@ pub opened-reply : {L : Layout} {s : List ℕ} {g : Frame} {D m : ℕ} (o : IsOp
     → Replies (annotating (g .id) (programIn D (recordsIn g s) m) i (length before)) r before after → Replies (annotateOf L s i (length before)) r before after
 unfolding annotateOf
 opened-reply {L} {s} {g} {D} {m} o i {before} {after} {r} p =
-    rw (o .reads)
-    (subst (λ (P : Prog). Replies (annotating (L .id) P i (length before)) r before after) (λ j. record { defs = opened-defs o j; maxId = o .maxId j })
-    (subst (λ (w : ℕ). Replies (annotating w (programIn D (recordsIn g s) m) i (length before)) r before after) (ap (λ (f : Frame). f .id) (o .frame)) p))
-
--- a refusal of reading leaves the buffer
-Leaves : Reading → Type 0
-Leaves (refuse q) = (out : List ℕ) → afterRefusal q out ≡ out
-Leaves (accept p) = Unit {0}
-
-asked-leaves : (b : Bool) (q : Refusal) (r : Reading) → ((out : List ℕ) → afterRefusal q out ≡ out) → Leaves r → Leaves (askedReading b q r)
-unfolding Leaves
-asked-leaves true q r h k = k
-asked-leaves false q r h k = h
-
-reading-leaves : (L : Layout) (s : List ℕ) → Leaves (reading L s)
-unfolding reading Leaves
-reading-leaves L s =
-    asked-leaves (question1 L s) Size _ (λ out. refl)
-    (asked-leaves (question2 L s) LayoutNumber _ (λ out. refl)
-    (asked-leaves (question3 L s) Directory _ (λ out. refl)
-    (asked-leaves (question4 L s) RecordForm _ (λ out. refl)
-    (asked-leaves (question5 L s) Shape (accept (programOf L s)) (λ out. refl) tt))))
+    opened-replies o (λ (P : Prog). annotating (L .id) P i (length before))
+    (subst (λ (w : ℕ). Replies (annotating w (programIn D (recordsIn g s) m) i (length before)) r before after) (ap (λ (f : Frame). f .id) (o .frame)) p)
 
 pub closed-reply : (L : Layout) (s : List ℕ) (i : ℕ) (before : List ℕ) {q : Refusal} → openedOf L s ≡ Closed q → Replies (annotateOf L s i (length before)) (Refused q) before before
-unfolding openedOf annotateOf Leaves
-closed-reply L s i before {q} e = go (reading L s) (reading-leaves L s) e
-  where
-    go : (r : Reading) → Leaves r → openedBy L s r ≡ Closed q → Replies (replyAfter r (λ P. annotating (L .id) P i (length before))) (Refused q) before before
-    go (refuse p) h e = let z : q ≡ p = cc (e) in rw z record { answers = refl; leaves = sym (h before) }
-    go (accept p) h e = let z : _≡_ {A = ℕ} 0 1 = cc (e) in absurd (omega arith)
+unfolding annotateOf
+closed-reply L s i before e = closed-replies L s (λ (P : Prog). annotating (L .id) P i (length before)) before e

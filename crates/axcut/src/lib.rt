@@ -3,10 +3,12 @@ use annotation::annotate::annotate;
 use checking::check::check;
 use format::Answer;
 use format::Layout;
+use program::linearize;
 use reading::read;
 ghost use Rattle.format.specs.Answers.{Reports, report};
 ghost use Rattle.format.specs.Reading.{readCall};
 ghost use Rattle.scope.specs.Calls.{checkCall, annotateCall, Told};
+ghost use Rattle.output.specs.Calls.{linearizeCall};
 
 fn tell(answer: Answer, length: &mut usize, max_id: &mut u32) -> u32
     ensures { λ r. ⌜ Reports (report answer) r (now (length .exit)) (now («max_id» .exit)) ⌝ }
@@ -56,4 +58,17 @@ pub extern "C" fn axcut_annotate(
     ensures { λ r. ⌜ Told (annotateCall (now (image .entry)) «record» (now (out .entry))) r (now (length .exit)) (now («max_id» .exit)) (now (out .entry)) (now (out .exit)) ⌝ }
 {
     tell(annotate(image, Layout::one(), record, out), length, max_id)
+}
+
+// Questions 1 to 12. Writes the linearized image.
+#[no_mangle]
+pub extern "C" fn axcut_linearize(
+    image: &[u8],
+    out: &mut [u8],
+    length: &mut usize,
+    max_id: &mut u32,
+) -> u32
+    ensures { λ r. ⌜ Told (linearizeCall (now (image .entry)) (now (out .entry))) r (now (length .exit)) (now («max_id» .exit)) (now (out .entry)) (now (out .exit)) ⌝ }
+{
+    tell(linearize(image, Layout::one(), out), length, max_id)
 }

@@ -6,3 +6,4 @@ pub mod EnterLaws
 pub mod StepLaws
 pub mod DefLaws
 pub mod CheckLaws
+pub mod ReplyLaws

@@ -1,0 +1,2 @@
+-- Laws of linearization of a whole image.
+pub mod ProgramLaws

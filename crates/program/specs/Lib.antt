@@ -1,0 +1,2 @@
+-- What is known of an image on the way through the questions.
+pub mod Programs

@@ -1,0 +1,69 @@
+// program.rs: linearization of a whole image (questions 1 to 12).
+use checking::check::check_image;
+use directory::Frame;
+use emit::progress::Progress;
+use finish::finish;
+use format::Answer;
+use format::Layout;
+use linearize::def::definitions;
+use masks::definitions::free_rows;
+use reading::Opened;
+use reading::open;
+ghost use Prim.Native.Nat.{_≤_};
+ghost use lib.ListN.{length};
+ghost use Rattle.model.specs.Pass.{linearize};
+ghost use Rattle.directory.specs.Slots.{recordsIn};
+ghost use Rattle.reading.specs.Opening.{Known};
+ghost use Rattle.scope.specs.Calls.{Replies};
+ghost use Rattle.checking.specs.Deciding.{programIn};
+ghost use Rattle.output.specs.Calls.{linearizing, linearizeOf};
+ghost use Rattle.finish.specs.Finishing.{closing};
+ghost use Rattle.program.specs.Programs.{Read, Checked};
+
+// Questions 11 and 12, of an image that has passed 1 to 10. The records are written behind the place of a directory for as many records as the
+// source has; there may be up to twice as many.
+fn linearize_program(s: &[u8], l: Layout, g: Frame, d: usize, max_id: u32, out: &mut [u8]) -> Answer
+    requires { ⌜ Checked l g (now s) d «max_id» ⌝ }
+    ensures { λ r. ⌜ Replies (closing l (linearize (programIn d (recordsIn g (now (s .entry))) «max_id»)) (length (now (out .entry)))) r (now (out .entry)) (now (out .exit)) ⌝ }
+{
+    let mut rows = [0u64; 4000];
+    free_rows(s, g, d, &mut rows);
+    let mut lengths = [0usize; 4000];
+    let start = g.start;
+    let p = Progress {
+        at: start,
+        count: 0,
+        max_id,
+    };
+    let q = definitions(s, g, &rows, d, out, &mut lengths, p);
+    finish(out, &lengths, l, d, start, q)
+}
+
+// Questions 6 to 12.
+fn linearize_image(s: &[u8], l: Layout, g: Frame, d: usize, max_id: u32, out: &mut [u8]) -> Answer
+    requires { ⌜ Read l g (now s) d «max_id» ⌝ }
+    ensures { λ r. ⌜ Replies (linearizing l (programIn d (recordsIn g (now (s .entry))) «max_id») (length (now (out .entry)))) r (now (out .entry)) (now (out .exit)) ⌝ }
+{
+    match check_image(s, g, d, max_id) {
+        Answer::Accepted {
+            length: _,
+            max_id: _,
+        } => linearize_program(s, l, g, d, max_id, out),
+        Answer::Refused(question) => Answer::Refused(question),
+    }
+}
+
+// Linearizes an image of a layout whose IDs have at most two bytes.
+pub fn linearize(s: &[u8], l: Layout, out: &mut [u8]) -> Answer
+    requires { ⌜ Known l × (l .id ≤ 2) ⌝ }
+    ensures { λ r. ⌜ Replies (linearizeOf l (now (s .entry)) (length (now (out .entry)))) r (now (out .entry)) (now (out .exit)) ⌝ }
+{
+    match open(s, l) {
+        Opened::Image {
+            frame,
+            definitions: d,
+            max_id,
+        } => linearize_image(s, l, frame, d, max_id, out),
+        Opened::Closed(question) => Answer::Refused(question),
+    }
+}
