@@ -38,10 +38,11 @@ use Rattle.steps.proofs.StepBounds.{bodies-rise}
 use Rattle.stepping.specs.Stepping.{RoomAt, SourceAt, Workable, Steps}
 use Rattle.stepping.specs.declared.stepped.Stepped.{Stepped}
 use Rattle.dispatch.specs.Entering.{entering}
-use Rattle.linearize.specs.Walking.{Sources, RoomTo, StmtAhead, ClausesAhead, BodiesAhead, Writes, LinearizedTo}
+use Rattle.linearize.specs.Walking.{Sources, RoomTo, StmtAhead, BodiesAhead, Writes, LinearizedTo}
 use Rattle.linearize.specs.declared.walk.Linearized.{Linearized}
 use Rattle.linearize.proofs.RoomLaws.{room-here, room-first, Writing, writing-begun, writing-on, writing-as, writing-done}
 use Rattle.linearize.proofs.SourceLaws.{source-at}
+use Rattle.linearize.proofs.WalkSteps.{ClausesAhead}
 
 -- ── a body under its parameters ──
 

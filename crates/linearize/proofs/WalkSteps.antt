@@ -21,7 +21,7 @@ use Rattle.emit.specs.Emitting.{Emits}
 use Rattle.emit.specs.declared.progress.Progress.{Progress}
 use Rattle.emit.proofs.EmitLaws.{emits-then, emits-reserved}
 use Rattle.trees.specs.Views.{recordOf, clausesIn, bodiesOf, binders}
-use Rattle.trees.specs.Places.{stmtAt, clausesAt, bodiesAt, Begins}
+use Rattle.trees.specs.Places.{stmtAt, clausesAt, bodiesAt, Begins, ClausesStand}
 use Rattle.trees.proofs.PlaceLaws.{begins-left, begins-right}
 use Rattle.trees.proofs.Steps.{head-inside, Above, Below}
 use Rattle.scope.specs.Flat.{plainRecord}
@@ -45,7 +45,7 @@ use Rattle.stepping.specs.Drawn.{drawnTo}
 use Rattle.stepping.specs.Stepping.{Says, RoomAt, Workable, Steps, Opens}
 use Rattle.stepping.specs.declared.stepped.Stepped.{Stepped}
 use Rattle.stepping.specs.declared.stepped.Opened.{Opened}
-use Rattle.linearize.specs.Walking.{RoomTo, StmtAhead, ClausesAhead, BodiesAhead, Writes, LinearizedTo}
+use Rattle.linearize.specs.Walking.{RoomTo, Sources, StmtAhead, BodiesAhead, Writes, LinearizedTo}
 use Rattle.linearize.specs.declared.walk.Linearized.{Linearized}
 use Rattle.linearize.proofs.RoomLaws.{emits-at, emits-count, room-here, room-first, room-second}
 use Rattle.linearize.proofs.SourceLaws.{SourceKind, source-kind, no-clauses, binders-fit, row-says}
@@ -66,6 +66,16 @@ row-here {rows} {j} a b xs h = record {
 }
 
 -- ── a statement ──
+
+-- what the clauses of a statement need: they stand at index i, the rows have their masks, the context at work fits, and there is room
+pub record ClausesAhead (g : Frame) (s rows : List ℕ) (d k i : ℕ) (before : Bool) (held : Held) (n : ℕ) (p : Progress) (cs : Clauses) : Type 0 where
+  pub sources : Sources g s
+  pub stand : ClausesStand d k (recordsIn g s) i cs
+  pub count : held .len ≡ length (workOf held)
+  pub scope : List VarId
+  pub rowsAre : Begins rows (2 * i) (rowsClauses cs scope)
+  pub fits : AllFitClauses cs before scope (workOf held) n
+  pub room : RoomTo (g .id) p (flattenClauses (workClauses cs before (workOf held) n (p .«max_id») .0)) (workClauses cs before (workOf held) n (p .«max_id») .1)
 
 module _ {g : Frame} {s rows : List ℕ} {d i : ℕ} {held : Held} {n : ℕ} {p : Progress} (h : StmtAhead g s rows d i held n p (stmtAt d (recordsIn g s) i)) where
   abbrev here : Stmt

@@ -1,4 +1,4 @@
-// The walk that linearizes: the statements of a body, each in its context, and the clauses of a statement. What a statement comes to is its
+// The walk that linearizes: the statements of a body, each in its context. What a statement comes to is its
 // step's; here is only the order: clauses first, then the step, then the bodies. What stands before the clauses is written once they are done,
 // for they draw first; its place is kept free.
 use checking::walk::parts_of;
@@ -16,13 +16,13 @@ ghost use Prim.Native.Nat.{_+_};
 ghost use lib.Dec.{leb};
 ghost use lib.ListN.{length};
 ghost use Rattle.format.specs.Parse.{each};
-ghost use Rattle.format.specs.Shape.{flatten, flattenClauses};
+ghost use Rattle.format.specs.Shape.{flatten};
 ghost use Rattle.directory.specs.Slots.{recordsIn};
-ghost use Rattle.trees.specs.Places.{stmtAt, clausesAt, bodiesAt};
-ghost use Rattle.work.specs.Work.{workStmt, workClauses};
+ghost use Rattle.trees.specs.Places.{stmtAt, bodiesAt};
+ghost use Rattle.work.specs.Work.{workStmt};
 ghost use Rattle.steps.specs.Steps.{workBodies};
 ghost use Rattle.held.specs.Holding.{workOf};
-ghost use Rattle.linearize.specs.Walking.{StmtAhead, ClausesAhead, BodiesAhead, LinearizedTo};
+ghost use Rattle.linearize.specs.Walking.{StmtAhead, BodiesAhead, LinearizedTo};
 
 // Where the walk has come to, and how far the output has.
 pub struct Linearized {
@@ -62,35 +62,54 @@ pub fn statement(
     let fn_ = rows[row + 1];
     if has_clauses(k) {
         let o = open(s, g, i, k, fc, fn_, context, p);
-        let c = clauses(
-            s,
-            g,
-            rows,
-            depth - 1,
-            f.clauses,
-            i + 1,
-            k == 6,
-            o.context,
-            in_scope,
-            out,
-            lengths,
-            o.progress,
-        );
-        let here = with_max_id(p, VarId(c.progress.max_id));
-        let st = step(s, g, i, k, fc, fn_, context, in_scope, out, lengths, here);
-        let q = with_max_id(c.progress, VarId(st.progress.max_id));
+        let before = k == 6;
+        let begun = o.progress;
+        let mut here = Linearized {
+            next: i + 1,
+            progress: begun,
+        };
+        let mut left = f.clauses;
+        while 0 < left {
+            let e = enter_clause(
+                s,
+                g,
+                here.next,
+                before,
+                o.context,
+                in_scope,
+                out,
+                lengths,
+                here.progress,
+            );
+            here = statement(
+                s,
+                g,
+                rows,
+                depth - 1,
+                here.next + 1,
+                e.context,
+                e.in_scope,
+                out,
+                lengths,
+                e.progress,
+            );
+            left = left - 1;
+        }
+        let q = with_max_id(p, VarId(here.progress.max_id));
+        let st = step(s, g, i, k, fc, fn_, context, in_scope, out, lengths, q);
+        let r = with_max_id(here.progress, VarId(st.progress.max_id));
         return bodies(
             s,
             g,
             rows,
             depth - 1,
             f.bodies,
-            c.next,
+            here.next,
             st.context,
             st.in_scope,
             out,
             lengths,
-            q,
+            r,
         );
     }
     let st = step(s, g, i, k, fc, fn_, context, in_scope, out, lengths, p);
@@ -107,58 +126,6 @@ pub fn statement(
         lengths,
         st.progress,
     )
-}
-
-// The n clauses from index i on, with bodies of depth at most `depth`.
-fn clauses(
-    s: &[u8],
-    g: Frame,
-    rows: &[u64],
-    depth: usize,
-    n: usize,
-    i: usize,
-    before: bool,
-    context: Held,
-    in_scope: u8,
-    out: &mut [u8],
-    lengths: &mut [usize],
-    p: Progress,
-) -> Linearized
-    requires { ⌜ ClausesAhead g (now s) (now rows) depth n i before context «in_scope» p (clausesAt depth n (recordsIn g (now s)) i) ⌝ }
-    ensures { λ r. ⌜ LinearizedTo (g .id) (now (out .entry)) (now (out .exit)) (now (lengths .entry)) (now (lengths .exit)) p r (i + length (flattenClauses (clausesAt depth n (recordsIn g (now (s .entry))) i))) (flattenClauses (workClauses (clausesAt depth n (recordsIn g (now (s .entry))) i) before (workOf context) «in_scope» (p .«max_id») .0)) (workClauses (clausesAt depth n (recordsIn g (now (s .entry))) i) before (workOf context) «in_scope» (p .«max_id») .1) ⌝ }
-{
-    let mut here = Linearized {
-        next: i,
-        progress: p,
-    };
-    let mut left = n;
-    while 0 < left {
-        let e = enter_clause(
-            s,
-            g,
-            here.next,
-            before,
-            context,
-            in_scope,
-            out,
-            lengths,
-            here.progress,
-        );
-        here = statement(
-            s,
-            g,
-            rows,
-            depth,
-            here.next + 1,
-            e.context,
-            e.in_scope,
-            out,
-            lengths,
-            e.progress,
-        );
-        left = left - 1;
-    }
-    here
 }
 
 // The n statements from index i on, each of depth at most `depth`.

@@ -5,3 +5,4 @@ pub mod Replies
 pub mod Readable
 pub mod OnBytes
 pub mod Worked
+pub mod OnCalls
