@@ -1,6 +1,6 @@
--- What comes before the clauses of a Create. Assumes nothing.
+-- What comes before the clauses of a Create, and what comes once they are done. Assumes nothing.
 use Prim.Native.Nat.{ℕ, _+_, _*_, _≤_}
-use mathlib.Core.Path.{_≡_, refl, sym, ap, ap₂, _∙_, subst}
+use mathlib.Core.Path.{_≡_, refl, ap, ap₂, _∙_, subst}
 use mathlib.Core.Bool.{Bool, true, false, cond}
 use mathlib.Core.List.{List, [], _∷_, _++_}
 use mathlib.Core.Option.{Option, some}
@@ -36,11 +36,11 @@ use Rattle.held.proofs.MaskLaws.{mask-fewer}
 use Rattle.steps.specs.Steps.{environment, arranged, stepCreate}
 use Rattle.steps.specs.Fronts.{wanted, rightOf, frontRecords, frontBytes, pairsSize, tailSize}
 use Rattle.stepping.specs.Drawn.{drawnTo}
-use Rattle.stepping.specs.Stepping.{Says, Reserves, Opens, OpensAs, Arranges, StepsAs}
+use Rattle.stepping.specs.Stepping.{Says, Reserves, OpensAs, Arranges, StepsAs}
 use Rattle.stepping.specs.declared.stepped.Opened.{Opened}
 use Rattle.stepping.specs.declared.stepped.Stepped.{Stepped}
 use Rattle.stepping.proofs.StepLaws.{kept-says, arranged-then, emits-as}
-use Rattle.stepping.proofs.FreshLaws.{fresh-max, fresh-arranged}
+use Rattle.branches.proofs.SwitchLaws.{held-workable}
 
 -- what the mask retains of the context with some moved behind
 moved-says : {mask : ℕ} {s : List VarId} {W : Work} (j : ℕ) → Says mask s W → keptByMask mask (movedBehind j W) ≡ kept s (movedBehind j W)
@@ -73,9 +73,6 @@ is-create (clause' x Γ) k = absurd (omega (arith, k))
 
 -- ── how many there are ──
 
-pub held-count : {h : Held} {N : Work} {c : TypingContext} → HoldsWork h N → Holds c (bindings (workOf h)) → c .len ≡ h .len
-held-count {h} {N} {c} n b = omega (arith, b .count, length-map (workOf h) (λ (e : Entry). e .binding), ap length (n .list), n .count)
-
 pub moved-few : (j : ℕ) {h : Held} (held : Held) → HoldsWork h (movedBehind j (workOf held)) → h .len ≤ held .len
 moved-few j {h} held n = omega (arith, n .count, moved-length j (workOf held), length-take (held .len) (held .entries))
 
@@ -89,14 +86,15 @@ respelled-few false new ren T n = omega (arith, n .count, respelled-fewer (workO
 
 -- ── the place ──
 
-pub create-opens : {w : ℕ} {record′ : Record} (var : Identifier) (ty : Ty) (env : Option Context) (clauses : ℕ) {maskClauses maskNext : ℕ} {W : Work} {p : Progress} {r : Opened} {new : Held} {c x : TypingContext} {right : Bool} {own : ℕ}
-    → record′ ≡ create var ty env clauses → HoldsWork new (keptByMask maskNext W) → HoldsWork (r .context) (keptByMask maskClauses (movedBehind (new .len) W))
+pub create-opens : {w : ℕ} {record′ : Record} (var : Identifier) (ty : Ty) (env : Option Context) (clauses : ℕ) {maskClauses maskNext : ℕ} {W : Work} {p : Progress} {r : Opened} {new : Held} {c x : TypingContext} {own : ℕ}
+    → record′ ≡ create var ty env clauses → HoldsWork new (keptByMask maskNext W) → HoldsWork (r .context) (keptByMask maskClauses (movedBehind (new .len) W)) → r .context .len ≤ 64
     → Holds c (bindings (workOf new)) → Holds x (bindings (workOf (r .context)))
-    → right ≡ sameContext (bindings W) (contextOf c ++ contextOf x) → own ≡ fixed w 6 → Reserves right (c .len + x .len) (own + (3 + x .len * (6 + (w + w)))) w p (r .progress)
+    → r .right ≡ sameContext (bindings W) (contextOf c ++ contextOf x) → own ≡ fixed w 6 → Reserves (r .right) (c .len + x .len) (own + (3 + x .len * (6 + (w + w)))) w p (r .progress)
     → OpensAs w record′ maskClauses maskNext W p r
 unfolding frontBytes frontRecords rightOf wanted tailSize environment
-create-opens {w} {record′} var ty env clauses {maskClauses} {maskNext} {W} {p} {r} {new} {c} {x} {right} {own} e h k d z b o a =
+create-opens {w} {record′} var ty env clauses {maskClauses} {maskNext} {W} {p} {r} {new} {c} {x} {own} e h k few d z b o a =
     rw e record {
+      workable = held-workable k few;
       opens = λ fc fn s y.
           let g : keptByMask maskNext W ≡ kept fn W = kept-says y in
           let j : new .len ≡ length (kept fn W) = h .count ∙ ap length g in
@@ -106,13 +104,14 @@ create-opens {w} {record′} var ty env clauses {maskClauses} {maskNext} {W} {p}
           let A : contextOf c ≡ bindings N = d .list ∙ ap bindings (h .list ∙ g) in
           let X : contextOf x ≡ bindings E = z .list ∙ ap bindings (k .list ∙ u) in
           let l : contextOf c ++ contextOf x ≡ bindings N ++ bindings E = ap₂ (λ (i i′ : Context). i ++ i′) A X in
-          let q : right ≡ sameContext (bindings W) (bindings N ++ bindings E) = b ∙ ap (sameContext (bindings W)) l in
+          let q : r .right ≡ sameContext (bindings W) (bindings N ++ bindings E) = b ∙ ap (sameContext (bindings W)) l in
           let cn : c .len ≡ length (bindings N) = d .count ∙ ap (λ (i : Work). length (bindings i)) (h .list ∙ g) in
           let xn : x .len ≡ length (bindings E) = z .count ∙ ap (λ (i : Work). length (bindings i)) (k .list ∙ u) in
           let xe : x .len ≡ length E = xn ∙ length-map E (λ (i : Entry). i .binding) in
           let n : c .len + x .len ≡ length (bindings N ++ bindings E) = omega (arith, cn, xn, length-append (bindings N) (bindings E)) in
           record {
             context = subst (HoldsWork (r .context)) u k;
+            right = q;
             at = a .at ∙ (ap (λ (t : Bool). p .at + (cond t 0 (1 + pairsSize w (c .len + x .len)) + (own + (3 + x .len * (6 + (w + w)))))) q
                 ∙ (ap₂ (λ (t t′ : ℕ). p .at + (cond (sameContext (bindings W) (bindings N ++ bindings E)) 0 (1 + pairsSize w t) + (t′ + (3 + x .len * (6 + (w + w)))))) n o
                 ∙ (ap (λ (t : ℕ). p .at + (cond (sameContext (bindings W) (bindings N ++ bindings E)) 0 (1 + pairsSize w (length (bindings N ++ bindings E))) + (fixed w 6 + (3 + t * (6 + (w + w)))))) xe
@@ -127,42 +126,38 @@ create-opens {w} {record′} var ty env clauses {maskClauses} {maskNext} {W} {p}
 
 -- ── the clauses are done ──
 
-pub create-steps : {w : ℕ} {record′ : Record} (var : Identifier) (ty : Ty) (env : Option Context) (clauses : ℕ) {maskClauses maskNext : ℕ} {W : Work} {n : ℕ} {out mid out′ lengths middle lengths′ : List ℕ} {p q written : Progress} {place : ℕ} {r : Stepped}
-    {new captured ren : Held} {c x : TypingContext} {clashes : IdSet} {right : Bool} {f : Freshened}
-    → record′ ≡ create var ty env clauses → HoldsWork new (keptByMask maskNext W) → HoldsWork captured (keptByMask maskClauses (movedBehind (new .len) W))
-    → Holds c (bindings (workOf new)) → Holds x (bindings (workOf captured)) → SetHolds clashes (ids (bindings (workOf captured)))
-    → right ≡ sameContext (bindings W) (contextOf c ++ contextOf x) → Freshens f (freshenUnless right (contextOf c) (setOf clashes) (p .«max_id»))
-    → Arranges w out mid lengths middle p q (arranged right (contextOf (f .context) ++ contextOf x) (contextOf c ++ contextOf x))
+pub create-steps : {w : ℕ} {record′ : Record} (var : Identifier) (ty : Ty) (env : Option Context) (clauses : ℕ) {maskClauses maskNext : ℕ} {W : Work} {n : ℕ} {out mid out′ lengths middle lengths′ : List ℕ} {p q written : Progress} {place : ℕ} {o : Opened} {r : Stepped}
+    {new ren : Held} {c x : TypingContext} {clashes : IdSet} {f : Freshened}
+    → record′ ≡ create var ty env clauses → OpensAs w record′ maskClauses maskNext W p o → HoldsWork new (keptByMask maskNext W)
+    → Holds c (bindings (workOf new)) → Holds x (bindings (workOf (o .context))) → SetHolds clashes (ids (bindings (workOf (o .context))))
+    → Freshens f (freshenUnless (o .right) (contextOf c) (setOf clashes) (p .«max_id»))
+    → Arranges w out mid lengths middle p q (arranged (o .right) (contextOf (f .context) ++ contextOf x) (contextOf c ++ contextOf x))
     → Puts mid out′ (q .at) place (recordBytes w (create var ty (some (contextOf x)) clauses)) → Noted written q place middle lengths′
-    → HoldsWork ren (respelledUnless right (workOf new) (contextOf (f .context))) → HoldsWork (r .context) (workOf ren ++ (own n (bind var Cns ty) ∷ [])) → r .«in_scope» ≡ n + 1
+    → HoldsWork ren (respelledUnless (o .right) (workOf new) (contextOf (f .context))) → HoldsWork (r .context) (workOf ren ++ (own n (bind var Cns ty) ∷ [])) → r .«in_scope» ≡ n + 1
     → r .progress ≡ drawnTo written (f .«max_id» .0) → StepsAs w record′ maskClauses maskNext W n out out′ lengths lengths′ p r
-unfolding stepCreate environment
-create-steps {w} {record′} var ty env clauses {maskClauses} {maskNext} {W} {n} {out} {mid} {out′} {lengths} {middle} {lengths′} {p} {q} {written} {place} {r} {new} {captured} {ren} {c} {x} {clashes} {right} {f} e h k d z s b v a u m j t y o =
+unfolding stepCreate rightOf wanted
+create-steps {w} {record′} var ty env clauses {maskClauses} {maskNext} {W} {n} {out} {mid} {out′} {lengths} {middle} {lengths′} {p} {q} {written} {place} {o} {r} {new} {ren} {c} {x} {clashes} {f} e k h d z s v a u m j t y i =
     rw e record {
       steps = λ fc fn sc sn.
-          let g : keptByMask maskNext W ≡ kept fn W = kept-says sn in
-          let l : new .len ≡ length (kept fn W) = h .count ∙ ap length g in
+          let opened = subst (λ (b : Record). OpensAs w b maskClauses maskNext W p o) e k .opens fc fn sc sn in
           let N = kept fn W in
-          let E = kept fc (movedBehind (length N) W) in
-          let i : keptByMask maskClauses (movedBehind (new .len) W) ≡ E = moved-says (new .len) sc ∙ ap (λ (a : ℕ). kept fc (movedBehind a W)) l in
-          let A : Holds c (bindings N) = subst (λ (a : Work). Holds c (bindings a)) (h .list ∙ g) d in
-          let B : Holds x (bindings E) = subst (λ (a : Work). Holds x (bindings a)) (k .list ∙ i) z in
-          let C : SetHolds clashes (ids (bindings E)) = subst (λ (a : Work). SetHolds clashes (ids (bindings a))) (k .list ∙ i) s in
+          let E = environment fc fn W in
+          let g : workOf new ≡ N = h .list ∙ kept-says sn in
+          let A : contextOf c ≡ bindings N = d .list ∙ ap bindings g in
+          let B : contextOf x ≡ bindings E = z .list ∙ ap bindings (opened .context .list) in
+          let C : setOf clashes ≡ ids (bindings E) = s .list ∙ ap (λ (b : Work). ids (bindings b)) (opened .context .list) in
           let R = sameContext (bindings W) (bindings N ++ bindings E) in
-          let rl : right ≡ R = b ∙ ap (sameContext (bindings W)) (ap₂ (λ (a a′ : Context). a ++ a′) (A .list) (B .list)) in
+          let right : o .right ≡ R = opened .right in
           let F = freshenUnless R (bindings N) (ids (bindings E)) (p .«max_id») in
-          let fl : contextOf (f .context) ≡ F .0 = v .holds .list
-          ∙ (ap (λ (a : Bool). freshenUnless a (contextOf c) (setOf clashes) (p .«max_id») .0) rl ∙ ap₂ (λ (a : Context) (a′ : List VarId). freshenUnless R a a′ (p .«max_id») .0) (A .list) (C .list)) in
-          let front : arranged right (contextOf (f .context) ++ contextOf x) (contextOf c ++ contextOf x) ++ (create var ty (some (contextOf x)) clauses ∷ [])
-          ≡ arranged R (F .0 ++ bindings E) (bindings N ++ bindings E) ++ (create var ty (some (bindings E)) clauses ∷ []) =
-          ap (λ (a : List Record). a ++ (create var ty (some (contextOf x)) clauses ∷ [])) (fresh-arranged W (p .«max_id») A B C b v)
-          ∙ ap (λ (a : Context). arranged R (F .0 ++ bindings E) (bindings N ++ bindings E) ++ (create var ty (some a) clauses ∷ [])) (B .list) in
-          let ctx : workOf ren ≡ respelledUnless R N (F .0) = j .list
-          ∙ (ap (λ (a : Bool). respelledUnless a (workOf new) (contextOf (f .context))) rl ∙ ap₂ (λ (a : Work) (a′ : Context). respelledUnless R a a′) (h .list ∙ g) fl) in
+          let fl : contextOf (f .context) ≡ F .0 = cc (v .holds .list, right, A, C) in
+          let front : arranged (o .right) (contextOf (f .context) ++ contextOf x) (contextOf c ++ contextOf x) ++ (create var ty (some (contextOf x)) clauses ∷ [])
+          ≡ arranged R (F .0 ++ bindings E) (bindings N ++ bindings E) ++ (create var ty (some (bindings E)) clauses ∷ []) = cc (right, fl, A, B) in
+          let ctx : workOf ren ≡ respelledUnless R N (F .0) = cc (j .list, right, g, fl) in
+          let max : f .«max_id» .0 ≡ F .1 = cc (v .max, right, A, C) in
           record {
-            emits = emits-as front (ap (λ (a : Progress). a .at) o) (ap (λ (a : Progress). a .count) o) (arranged-then (create var ty (some (contextOf x)) clauses) a u m);
-            context = subst (λ (a : Work). HoldsWork (r .context) (a ++ (own n (bind var Cns ty) ∷ []))) ctx t;
+            emits = emits-as front (ap (λ (b : Progress). b .at) i) (ap (λ (b : Progress). b .count) i) (arranged-then (create var ty (some (contextOf x)) clauses) a u m);
+            context = subst (λ (b : Work). HoldsWork (r .context) (b ++ (own n (bind var Cns ty) ∷ []))) ctx t;
             inScope = y;
-            maxId = ap (λ (a : Progress). a .«max_id») o ∙ fresh-max W (p .«max_id») A B C b v;
+            maxId = ap (λ (b : Progress). b .«max_id») i ∙ max;
           };
     }

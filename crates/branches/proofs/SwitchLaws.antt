@@ -1,5 +1,5 @@
--- What comes before the clauses of a Switch. Assumes nothing.
-use Prim.Native.Nat.{ℕ, _+_}
+-- What comes before the clauses of a Switch, and what comes once they are done. Assumes nothing.
+use Prim.Native.Nat.{ℕ, _+_, _≤_}
 use mathlib.Core.Path.{_≡_, refl, sym, ap, ap₂, _∙_, subst}
 use mathlib.Core.Bool.{Bool, cond}
 use mathlib.Core.List.{List, [], _∷_, _++_}
@@ -9,7 +9,6 @@ use lib.Seq.{getD-take}
 use Rattle.syntax.specs.Context.{Context, idOf, ids, sameContext}
 use Rattle.syntax.specs.Arrays.{contextOf, setOf, Holds, SetHolds}
 use Rattle.syntax.specs.declared.sets.IdSet.{IdSet}
-use Rattle.syntax.specs.declared.names.VarId.{VarId}
 use Rattle.syntax.specs.declared.names.Identifier.{Identifier}
 use Rattle.syntax.specs.declared.context.Chirality.the-variants.{Prd}
 use Rattle.syntax.specs.declared.context.ContextBinding.{ContextBinding}
@@ -28,7 +27,7 @@ use Rattle.held.specs.Masks.{keptByMask}
 use Rattle.held.specs.declared.Held.{Held}
 use Rattle.steps.specs.Fronts.{wanted, rightOf, frontRecords, frontBytes, pairsSize, tailSize}
 use Rattle.steps.specs.Steps.{arranged, stepSwitch}
-use Rattle.stepping.specs.Stepping.{Reserves, Opens, OpensAs, Paired, Arranges, StepsAs}
+use Rattle.stepping.specs.Stepping.{Reserves, Workable, OpensAs, Paired, Arranges, StepsAs}
 use Rattle.branches.specs.Drawing.{FreshVarIs}
 use Rattle.stepping.specs.declared.stepped.Opened.{Opened}
 use Rattle.stepping.specs.declared.stepped.Stepped.{Stepped}
@@ -39,6 +38,22 @@ use Rattle.stepping.proofs.StepLaws.{kept-says, arranged-then, emits-as, holds-
 pub one-binding : {none one : TypingContext} {b d : ContextBinding} → Holds none [] → b ≡ d → Holds one (contextOf none ++ (b ∷ [])) → Holds one (d ∷ [])
 one-binding {none} {one} {b} {d} n e h = subst (λ (x : ContextBinding). Holds one (x ∷ [])) e (holds-one n h)
 
+-- a struct that holds a list is one to work with
+pub held-workable : {h : Held} {N : Work} → HoldsWork h N → h .len ≤ 64 → Workable h 0 0
+held-workable n k = record { count = n .count ∙ ap length (sym (n .list)); room = omega (arith, k); places = omega arith }
+
+-- .. with room for nothing more
+pub workable-zero : {h : Held} {n k : ℕ} → Workable h n k → Workable h 0 0
+workable-zero a = record { count = a .count; room = omega (arith, a .room); places = omega arith }
+
+-- .. and holds its own list
+pub workable-holds : {h : Held} {n k : ℕ} → Workable h n k → HoldsWork h (workOf h)
+workable-holds a = record { count = a .count; list = refl }
+
+-- as many bindings as entries
+pub held-count : {h : Held} {N : Work} {c : TypingContext} → HoldsWork h N → Holds c (bindings (workOf h)) → c .len ≡ h .len
+held-count {h} {N} {c} n b = omega (arith, b .count, length-map (workOf h) (λ (e : Entry). e .binding), ap length (n .list), n .count)
+
 -- the wanted list is what is retained, and the variable that is matched on
 module _ {N : Work} {new : Held} {c x : TypingContext} {b : ContextBinding} (h : HoldsWork new N) (k : Holds c (bindings (workOf new))) (z : Holds x (b ∷ [])) where
   pub matched-list : contextOf c ++ contextOf x ≡ bindings N ++ (b ∷ [])
@@ -47,20 +62,22 @@ module _ {N : Work} {new : Held} {c x : TypingContext} {b : ContextBinding} (h :
   pub matched-count : length (bindings N ++ (b ∷ [])) ≡ c .len + 1
   matched-count = omega (arith, length-append (bindings N) (b ∷ []), k .count, ap (λ (s : Work). length (bindings s)) (h .list))
 
-pub switch-opens : {w : ℕ} {record′ : Record} (var : Identifier) (ty : Ty) (clauses : ℕ) {mask next : ℕ} {W : Work} {p : Progress} {r : Opened} {c x : TypingContext} {right : Bool} {own : ℕ}
-    → record′ ≡ switch var ty clauses → HoldsWork (r .context) (keptByMask mask W) → Holds c (bindings (workOf (r .context))) → Holds x (bind (used W var) Prd ty ∷ [])
-    → right ≡ sameContext (bindings W) (contextOf c ++ contextOf x) → own ≡ fixed w 5 → Reserves right (c .len + 1) (own + 1) w p (r .progress) → OpensAs w record′ mask next W p r
+pub switch-opens : {w : ℕ} {record′ : Record} (var : Identifier) (ty : Ty) (clauses : ℕ) {mask next : ℕ} {W : Work} {p : Progress} {r : Opened} {c x : TypingContext} {own : ℕ}
+    → record′ ≡ switch var ty clauses → HoldsWork (r .context) (keptByMask mask W) → r .context .len ≤ 64 → Holds c (bindings (workOf (r .context))) → Holds x (bind (used W var) Prd ty ∷ [])
+    → r .right ≡ sameContext (bindings W) (contextOf c ++ contextOf x) → own ≡ fixed w 5 → Reserves (r .right) (c .len + 1) (own + 1) w p (r .progress) → OpensAs w record′ mask next W p r
 unfolding frontBytes frontRecords rightOf wanted tailSize
-switch-opens {w} {record′} var ty clauses {mask} {next} {W} {p} {r} {c} {x} {right} {own} e h k z b o a =
+switch-opens {w} {record′} var ty clauses {mask} {next} {W} {p} {r} {c} {x} {own} e h few k z b o a =
     rw e record {
+      workable = held-workable h few;
       opens = λ fc fn s _.
           let g : keptByMask mask W ≡ kept fc W = kept-says s in
           let xtor = bind (used W var) Prd ty in
           let l : contextOf c ++ contextOf x ≡ bindings (kept fc W) ++ (xtor ∷ []) = matched-list h k z ∙ ap (λ (t : Work). bindings t ++ (xtor ∷ [])) g in
           let n : c .len + 1 ≡ length (bindings (kept fc W) ++ (xtor ∷ [])) = sym (matched-count h k z) ∙ ap (λ (t : Work). length (bindings t ++ (xtor ∷ []))) g in
-          let q : right ≡ sameContext (bindings W) (bindings (kept fc W) ++ (xtor ∷ [])) = b ∙ ap (sameContext (bindings W)) l in
+          let q : r .right ≡ sameContext (bindings W) (bindings (kept fc W) ++ (xtor ∷ [])) = b ∙ ap (sameContext (bindings W)) l in
           record {
             context = subst (HoldsWork (r .context)) g h;
+            right = q;
             at = a .at ∙ ap (λ (t : Bool). p .at + (cond t 0 (1 + pairsSize w (c .len + 1)) + (own + 1))) q
                 ∙ ap₂ (λ (t u : ℕ). p .at + (cond (sameContext (bindings W) (bindings (kept fc W) ++ (xtor ∷ []))) 0 (1 + pairsSize w t) + (u + 1))) n o;
             count = a .count ∙ ap (λ (t : Bool). p .count + cond t 1 2) q;
@@ -84,44 +101,31 @@ paired-ones {none} {t} {x} b {d} n h k =
 pub ids-few : {s : IdSet} {new : Held} {N : Work} → HoldsWork new N → SetHolds s (ids (bindings (workOf new))) → s .len ≡ new .len
 ids-few {s} {new} {N} h k = omega (arith, k .count, length-map (bindings (workOf new)) idOf, length-map (workOf new) (λ (e : Entry). e .binding), ap length (h .list), h .count)
 
--- what is drawn, from what is retained
-drawn-from : {right : Bool} {N : Work} {new : Held} {clashes : IdSet} {x : ContextBinding} (m : ℕ) (b : ContextBinding) (R : Bool) → x ≡ b → right ≡ R → HoldsWork new N → SetHolds clashes (ids (bindings (workOf new)))
-    → freshVarUnless right x (setOf clashes) m ≡ freshVarUnless R b (ids (bindings N)) m
-drawn-from {right} {N} {new} {clashes} {x} m b R e q h s =
-    ap (λ (t : Bool). freshVarUnless t x (setOf clashes) m) q
-    ∙ (ap (λ (y : ContextBinding). freshVarUnless R y (setOf clashes) m) e
-    ∙ ap (λ (z : List VarId). freshVarUnless R b z m) (s .list ∙ ap (λ (t : Work). ids (bindings t)) (h .list)))
-
-pub switch-steps : {w : ℕ} {record′ : Record} (var : Identifier) (ty : Ty) (clauses : ℕ) {mask next : ℕ} {W : Work} {n : ℕ} {out mid out′ lengths middle lengths′ : List ℕ} {p q written : Progress} {place : ℕ} {r : Stepped}
-    {new : Held} {c x none target : TypingContext} {clashing : IdSet} {right : Bool} {v : FreshVar} {x₀ : ContextBinding}
-    → record′ ≡ switch var ty clauses → HoldsWork new (keptByMask mask W) → Holds c (bindings (workOf new)) → Holds x (bind (used W var) Prd ty ∷ [])
-    → right ≡ sameContext (bindings W) (contextOf c ++ contextOf x) → SetHolds clashing (ids (bindings (workOf new))) → x₀ ≡ bind (used W var) Prd ty
-    → FreshVarIs v (freshVarUnless right x₀ (setOf clashing) (p .«max_id»)) → Holds none [] → Holds target (contextOf none ++ (v .binding ∷ []))
-    → Arranges w out mid lengths middle p q (arranged right (contextOf c ++ contextOf target) (contextOf c ++ contextOf x))
+pub switch-steps : {w : ℕ} {record′ : Record} (var : Identifier) (ty : Ty) (clauses : ℕ) {mask next : ℕ} {W : Work} {n : ℕ} {out mid out′ lengths middle lengths′ : List ℕ} {p q written : Progress} {place : ℕ} {o : Opened} {r : Stepped}
+    {c x none target : TypingContext} {clashing : IdSet} {v : FreshVar} {x₀ : ContextBinding}
+    → record′ ≡ switch var ty clauses → OpensAs w record′ mask next W p o → Holds c (bindings (workOf (o .context))) → Holds x (bind (used W var) Prd ty ∷ [])
+    → SetHolds clashing (ids (bindings (workOf (o .context)))) → x₀ ≡ bind (used W var) Prd ty
+    → FreshVarIs v (freshVarUnless (o .right) x₀ (setOf clashing) (p .«max_id»)) → Holds none [] → Holds target (contextOf none ++ (v .binding ∷ []))
+    → Arranges w out mid lengths middle p q (arranged (o .right) (contextOf c ++ contextOf target) (contextOf c ++ contextOf x))
     → Puts mid out′ (q .at) place (recordBytes w (switch (v .binding .var) ty clauses)) → Noted written q place middle lengths′
     → r .progress .at ≡ written .at → r .progress .count ≡ written .count → r .progress .«max_id» ≡ v .«max_id» → HoldsWork (r .context) W → r .«in_scope» ≡ n
     → StepsAs w record′ mask next W n out out′ lengths lengths′ p r
-unfolding stepSwitch
-switch-steps {w} {record′} var ty clauses {mask} {next} {W} {n} {out} {mid} {out′} {lengths} {middle} {lengths′} {p} {q} {written} {place} {r} {new} {c} {x} {none} {target} {clashing} {right} {v} {x₀} e h k z b s i f o t a u m at count max held scope =
+unfolding stepSwitch rightOf wanted
+switch-steps {w} {record′} var ty clauses {mask} {next} {W} {n} {out} {mid} {out′} {lengths} {middle} {lengths′} {p} {q} {written} {place} {o} {r} {c} {x} {none} {target} {clashing} {v} {x₀} e h k z s i f l t a u m at count max held scope =
     rw e record {
-      steps = λ fc fn y _.
-          let g : keptByMask mask W ≡ kept fc W = kept-says y in
+      steps = λ fc fn y y′.
+          let opened = subst (λ (j : Record). OpensAs w j mask next W p o) e h .opens fc fn y y′ in
           let xtor = bind (used W var) Prd ty in
           let N = kept fc W in
-          let h′ : HoldsWork new N = subst (HoldsWork new) g h in
           let R = sameContext (bindings W) (bindings N ++ (xtor ∷ [])) in
-          let l : right ≡ R = b ∙ ap (sameContext (bindings W)) (matched-list h′ k z) in
+          let right : o .right ≡ R = opened .right in
           let F = freshVarUnless R xtor (ids (bindings N)) (p .«max_id») in
-          let d : freshVarUnless right x₀ (setOf clashing) (p .«max_id») ≡ F = drawn-from (p .«max_id») xtor R i l h′ s in
+          let d : freshVarUnless (o .right) x₀ (setOf clashing) (p .«max_id») ≡ F = cc (right, i, s .list, opened .context .list) in
           let vb : v .binding ≡ F .0 = f .binding ∙ ap (λ (j : ContextBinding × ℕ). j .0) d in
-          let A : contextOf c ≡ bindings N = k .list ∙ ap bindings (h′ .list) in
-          let T : contextOf target ≡ F .0 ∷ [] = one-binding o vb t .list in
-          let front : arranged right (contextOf c ++ contextOf target) (contextOf c ++ contextOf x) ++ (switch (v .binding .var) ty clauses ∷ [])
-          ≡ arranged R (bindings N ++ (F .0 ∷ [])) (bindings N ++ (xtor ∷ [])) ++ (switch (F .0 .var) ty clauses ∷ []) =
-          ap (λ (j : Bool). arranged j (contextOf c ++ contextOf target) (contextOf c ++ contextOf x) ++ (switch (v .binding .var) ty clauses ∷ [])) l
-          ∙ (ap (λ (j : Context). arranged R (j ++ contextOf target) (j ++ contextOf x) ++ (switch (v .binding .var) ty clauses ∷ [])) A
-          ∙ (ap₂ (λ (j j′ : Context). arranged R (bindings N ++ j) (bindings N ++ j′) ++ (switch (v .binding .var) ty clauses ∷ [])) T (z .list)
-          ∙ ap (λ (j : ContextBinding). arranged R (bindings N ++ (F .0 ∷ [])) (bindings N ++ (xtor ∷ [])) ++ (switch (j .var) ty clauses ∷ [])) vb)) in
+          let A : contextOf c ≡ bindings N = k .list ∙ ap bindings (opened .context .list) in
+          let T : contextOf target ≡ F .0 ∷ [] = one-binding l vb t .list in
+          let front : arranged (o .right) (contextOf c ++ contextOf target) (contextOf c ++ contextOf x) ++ (switch (v .binding .var) ty clauses ∷ [])
+          ≡ arranged R (bindings N ++ (F .0 ∷ [])) (bindings N ++ (xtor ∷ [])) ++ (switch (F .0 .var) ty clauses ∷ []) = cc (right, A, T, z .list, vb) in
           record {
             emits = emits-as front at count (arranged-then (switch (v .binding .var) ty clauses) a u m);
             context = held;

@@ -57,6 +57,7 @@ pub fn open(
     let progress = reserve(right, next.len + kept.len, own, w, p);
     Opened {
         context: closure_environment,
+        right,
         progress,
     }
 }
@@ -89,11 +90,12 @@ pub fn linearize(
     ensures { λ r. ⌜ StepsAs (g .id) (recordAt g (now (s .entry)) i) «free_vars_clauses» «free_vars_next» (workOf context) «in_scope» (now (out .entry)) (now (out .exit)) (now (lengths .entry)) (now (lengths .exit)) p r ⌝ }
 {
     let statement = create(s, g, i);
+    let opened = open(s, g, i, free_vars_clauses, free_vars_next, context, p);
+    let captured = opened.context;
+    let right = opened.right;
     let context_next = context.filter(free_vars_next);
-    let captured = environment(context, context_next.len, free_vars_clauses);
     let next = context_next.context();
     let kept = captured.context();
-    let right = context.same(next, kept);
     let freshened = freshen_unless(right, next, captured.ids(), p.max_id);
     let fresh = freshened.context;
     let q = arrange(right, fresh, next, kept, kept, g.id, out, lengths, p);

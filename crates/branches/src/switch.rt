@@ -64,6 +64,7 @@ pub fn open(
     let progress = reserve(right, kept.len + 1, own, w, p);
     Opened {
         context: new_context,
+        right,
         progress,
     }
 }
@@ -111,11 +112,12 @@ pub fn linearize(
     ensures { λ r. ⌜ StepsAs (g .id) (recordAt g (now (s .entry)) i) «free_vars_clauses» 0 (workOf context) «in_scope» (now (out .entry)) (now (out .exit)) (now (lengths .entry)) (now (lengths .exit)) p r ⌝ }
 {
     let statement = switch(s, g, i);
-    let new_context = context.filter(free_vars_clauses);
+    let opened = open(s, g, i, free_vars_clauses, context, p);
+    let new_context = opened.context;
+    let right = opened.right;
     let kept = new_context.context();
     let ty = statement.ty;
     let xtor = matched(context, statement.var, ty);
-    let right = context.same(kept, xtor);
     let fresh = fresh_var(right, xtor.bindings[0], new_context.ids(), p.max_id);
     let binding = fresh.binding;
     let target = TypingContext::empty().push(binding);

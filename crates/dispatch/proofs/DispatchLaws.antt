@@ -88,7 +88,8 @@ steps-as {g} {s} {i} {kind} {w} {clauses} {next} {W} {n} {out} {out′} {lengths
 switch-sees : {v t n w clauses next W p r : _} → OpensAs w (switch v t n) clauses 0 W p r → OpensAs w (switch v t n) clauses next W p r
 unfolding frontBytes frontRecords rightOf wanted tailSize
 switch-sees {W = W} h = record {
-  opens = λ fc fn x _. let o = h .opens fc [] x (says-none W) in record { context = o .context; at = o .at; count = o .count; maxId = o .maxId };
+  workable = h .workable;
+  opens = λ fc fn x _. let o = h .opens fc [] x (says-none W) in record { context = o .context; right = o .right; at = o .at; count = o .count; maxId = o .maxId };
 }
 
 pub switch-opens-as : {g : Frame} {s : List ℕ} {i kind w clauses next : ℕ} {W : Work} {p : Progress} {r : Opened} → kind ≡ 5 → SourceAt g s i kind

@@ -20,7 +20,7 @@ use Rattle.held.specs.Holding.{workOf, HoldsWork}
 use Rattle.held.specs.Masks.{marked}
 use Rattle.held.specs.declared.Held.{Held}
 use Rattle.steps.specs.Steps.{Step, stepOf, clauseContext}
-use Rattle.steps.specs.Fronts.{pairsSize, frontRecords, frontBytes}
+use Rattle.steps.specs.Fronts.{pairsSize, rightOf, frontRecords, frontBytes}
 use Rattle.stepping.specs.declared.stepped.Stepped.{Stepped}
 use Rattle.stepping.specs.declared.stepped.Opened.{Opened}
 
@@ -77,13 +77,15 @@ pub record Steps (w : ℕ) (out out′ lengths lengths′ : List ℕ) (p : Progr
 pub record StepsAs (w : ℕ) (record′ : Record) (clauses next : ℕ) (W : Work) (n : ℕ) (out out′ lengths lengths′ : List ℕ) (p : Progress) (r : Stepped) : Type 0 where
   pub steps : (freeClauses freeNext : List VarId) → Says clauses freeClauses W → Says next freeNext W → Steps w out out′ lengths lengths′ p r (stepOf record′ freeClauses freeNext W n (p .«max_id»))
 
--- what stands before the clauses has its place, and this is the context for the clauses
+-- what stands before the clauses has its place, this is the context for the clauses, and this says whether the context is right already
 pub record Opens (w : ℕ) (record′ : Record) (freeClauses freeNext : List VarId) (W : Work) (p : Progress) (r : Opened) : Type 0 where
   pub context : HoldsWork (r .context) (clauseContext record′ freeClauses freeNext W)
+  pub right : r .right ≡ rightOf record′ freeClauses freeNext W
   pub at : r .progress .at ≡ p .at + frontBytes w record′ freeClauses freeNext W
   pub count : r .progress .count ≡ p .count + frontRecords record′ freeClauses freeNext W
   pub maxId : r .progress .«max_id» ≡ p .«max_id»
 
--- .. with whatever sets the masks say
+-- .. with whatever sets the masks say. Whatever they say, the context for the clauses is one to work with.
 pub record OpensAs (w : ℕ) (record′ : Record) (clauses next : ℕ) (W : Work) (p : Progress) (r : Opened) : Type 0 where
+  pub workable : Workable (r .context) 0 0
   pub opens : (freeClauses freeNext : List VarId) → Says clauses freeClauses W → Says next freeNext W → Opens w record′ freeClauses freeNext W p r

@@ -8,8 +8,10 @@ pub struct Stepped {
     pub progress: Progress,
 }
 
-// What clauses begin with: their context, and where they are written, behind the place of what comes before them.
+// What clauses begin with: their context, whether the context is right already, and where they are written, behind the place of what comes before
+// them.
 pub struct Opened {
     pub context: Held,
+    pub right: bool,
     pub progress: Progress,
 }

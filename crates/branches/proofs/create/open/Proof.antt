@@ -4,7 +4,8 @@ use Prim.Native.Nat.{_≤_}
 use Rattle.held.specs.Holding.{workOf}
 use Rattle.held.proofs.MaskLaws.{mask-fewer}
 use Rattle.stepping.proofs.StepLaws.{kept-room}
-use Rattle.branches.proofs.CreateLaws.{bindings-most, held-count, environment-few, is-create, create-opens}
+use Rattle.branches.proofs.SwitchLaws.{held-count}
+use Rattle.branches.proofs.CreateLaws.{bindings-most, environment-few, is-create, create-opens}
 use Rattle.branches.proofs.create.open.Statement.{statement}
 use Rattle.branches.proofs.create.open.Tie as tie
 
@@ -20,15 +21,19 @@ environment-requires c κs =
 context-requires : tie.Need-context-requires
 context-requires c κs = omega (arith, kept-room (c .before .before .before .pre .1 .0) (c .before .before .before .args .free-vars-next) (c .before .filter .ensures))
 
+-- how many entries the environment has
+entries-few : (c : tie.After-environment) → c .environment .result .len ≤ 64
+entries-few c = let s = c .before .before .before in omega (arith, environment-few (s .args .free-vars-clauses) (c .before .filter .result .len) (s .args .context) (c .environment .ensures), s .pre .1 .0 .room)
+
 context-requires-2 : tie.Need-context-requires-2
-context-requires-2 c κs = omega (arith, environment-few (c .before .before .before .before .args .free-vars-clauses) (c .before .before .filter .result .len) (c .before .before .before .before .args .context) (c .before .environment .ensures), c .before .before .before .before .pre .1 .0 .room)
+context-requires-2 c κs = entries-few (c .before)
 
 -- how many bindings the two lists have
 next-few : (c : tie.After-context2) → c .before .context .result .len ≤ 64
 next-few c = omega (arith, held-count (c .before .before .before .filter .ensures) (c .before .context .ensures), kept-room (c .before .before .before .before .before .pre .1 .0) (c .before .before .before .before .before .args .free-vars-next) (c .before .before .before .filter .ensures))
 
 env-few : (c : tie.After-context2) → c .context2 .result .len ≤ 64
-env-few c = omega (arith, held-count (c .before .before .environment .ensures) (c .context2 .ensures), environment-few (c .before .before .before .before .before .args .free-vars-clauses) (c .before .before .before .filter .result .len) (c .before .before .before .before .before .args .context) (c .before .before .environment .ensures), c .before .before .before .before .before .pre .1 .0 .room)
+env-few c = omega (arith, held-count (c .before .before .environment .ensures) (c .context2 .ensures), entries-few (c .before .before))
 
 same-requires : tie.Need-same-requires
 same-requires c κs = (omega (arith, c .before .before .before .before .before .pre .1 .0 .room), (next-few (c), env-few (c)))
@@ -67,7 +72,7 @@ reserve-requires c κs =
 returns : tie.Need-returns
 returns c =
     let i = is-create _ (c .before .before .before .before .before .before .before .before .before .before .before .pre .0 .at .kind) in
-    create-opens (i .var) (i .ty) (i .environment) (i .clauses) (i .is) (c .before .before .before .before .before .before .before .before .before .filter .ensures) (c .before .before .before .before .before .before .before .before .environment .ensures) (c .before .before .before .before .before .before .before .context .ensures) (c .before .before .before .before .before .before .context2 .ensures)
+    create-opens (i .var) (i .ty) (i .environment) (i .clauses) (i .is) (c .before .before .before .before .before .before .before .before .before .filter .ensures) (c .before .before .before .before .before .before .before .before .environment .ensures) (entries-few (c .before .before .before .before .before .before .before .before)) (c .before .before .before .before .before .before .before .context .ensures) (c .before .before .before .before .before .before .context2 .ensures)
     (c .before .before .before .before .before .same .ensures) (c .before .before .before .before .fixed .ensures) (c .reserve .ensures)
 
 pub open-spec : {M : Type 1} → statement M

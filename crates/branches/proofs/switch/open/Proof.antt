@@ -1,6 +1,5 @@
 use native.Mathlib.Omega.{arith}
 use borrow.Author.Needs.{needs}
-use denote.Ref.{now}
 use Rattle.stepping.proofs.StepLaws.{kept-room, kept-count}
 use Rattle.branches.proofs.SwitchLaws.{switch-opens}
 use Rattle.branches.proofs.switch.open.Statement.{statement}
@@ -41,7 +40,7 @@ reserve-requires c κs =
 returns : tie.Need-returns
 returns c =
     let l = c .before .before .before .before .before .before .before .switch .result in
-    switch-opens (l .var) (l .ty) (l .clauses) (c .before .before .before .before .before .before .before .switch .ensures) (c .before .before .before .before .before .before .filter .ensures) (c .before .before .before .before .before .context .ensures) (c .before .before .before .before .matched .ensures) (c .before .before .before .same .ensures)
+    switch-opens (l .var) (l .ty) (l .clauses) (c .before .before .before .before .before .before .before .switch .ensures) (c .before .before .before .before .before .before .filter .ensures) (omega (arith, kept-room (c .before .before .before .before .before .before .before .before .before .pre .1 .0) (c .before .before .before .before .before .before .before .before .before .args .free-vars-clauses) (c .before .before .before .before .before .before .filter .ensures))) (c .before .before .before .before .before .context .ensures) (c .before .before .before .before .matched .ensures) (c .before .before .before .same .ensures)
     (c .before .before .fixed .ensures) (c .reserve .ensures)
 
 pub open-spec : {M : Type 1} → statement M
