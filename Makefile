@@ -1,4 +1,45 @@
-# `make test` is the gate.
-.PHONY: test
+# `make run` shows an example before and after linearization; `make test` is the gate. Both need nothing but Rattle's `rt` and what the gate installs.
+.PHONY: run test tries tool library bindings c-example examples differential
+
+example = examples/axle
+
+run: tool
+	bin/axcut dump --names $(example)/names $(example)/program.axc
+	bin/axcut linearize $(example)/program.axc | bin/axcut dump --names $(example)/names
+
 test:
 	.ci/run
+
+# The command by its tests, the Rust crate and the C example. What is missing of the two compilers is installed.
+tries: tool
+	tests/tool
+	command -v cc >/dev/null || { apt-get update && apt-get install -y gcc; }
+	command -v cargo >/dev/null || { apt-get update && apt-get install -y cargo; }
+	$(MAKE) bindings c-example
+
+# The library against the Rust: 1,300,000 cases.
+differential: library
+	cd oracle && cargo run --release --offline -p differential --features library -- --cases 1300000
+
+# The command bin/axcut: proves the program and all below it, builds it and tries it.
+tool:
+	rt check tool
+
+# target/staticlib/libaxcut.a, for C and Rust.
+library:
+	rt staticlib axcut
+
+# The tests of the Rust crate.
+bindings: library
+	cargo test --offline --manifest-path bindings/rust/Cargo.toml
+
+# The C example, on an example program.
+c-example: library
+	mkdir -p target/c
+	$(CC) -std=c99 -Wall -Wextra -pedantic -Werror -Iinclude -o target/c/linearize examples/c/linearize.c target/staticlib/libaxcut.a
+	target/c/linearize $(example)/program.axc target/c/linear.axc
+	cmp target/c/linear.axc $(example)/linear.axc
+
+# Every file of examples/ anew, from the texts.
+examples: tool
+	examples/make

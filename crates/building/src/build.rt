@@ -1,13 +1,13 @@
 // Stores into a buffer. A store past its end is left out.
 
-// The sum of two places, which are small here.
+// The sum of two places, which are small here. One that is past every buffer stays so.
 pub fn plus(a: usize, b: usize) -> usize {
-    if a < 100000 {
-        if b < 100000 {
+    if a < 1000000 {
+        if b < 1000000 {
             return a + b;
         }
     }
-    0
+    1000000
 }
 
 pub fn store(out: &mut [u8], at: usize, v: u8) {

@@ -2,6 +2,8 @@
 use crate::build::pair;
 use crate::build::plus;
 use crate::lists::list;
+use crate::lists::pairs;
+use crate::pieces::TYPE;
 use crate::pieces::binding;
 use crate::pieces::count;
 use crate::pieces::declared_type;
@@ -28,8 +30,9 @@ fn part(w: Progress, text: &[u8], out: &mut [u8], code: u8) -> Progress {
         b'n' => count(w, text, out),
         b'l' => label(w, out, 1),
         b'g' => label(w, out, 6),
-        b't' => declared_type(w, out),
+        b't' => declared_type(w, out, TYPE),
         b'(' => list(w, text, out),
+        b'<' => pairs(w, text, out),
         _ => one(w, out, code as usize),
     }
 }
@@ -63,12 +66,20 @@ pub fn raw(w: Progress, text: &[u8], out: &mut [u8]) -> Progress {
     next
 }
 
+// One pair, or those in parentheses.
+fn substitute(w: Progress, text: &[u8], out: &mut [u8]) -> Progress {
+    if byte(text, w.from) == b'(' {
+        return parts(w, text, out, b"\x02<");
+    }
+    parts(w, text, out, b"\x02\x01bv")
+}
+
 // Kinds and codes stand for themselves; v is the variable at hand, b a binding of it, n the count at hand, ( the list at hand,
-// l a label, g a tag, t a type.
+// < the pairs at hand, l a label, g a tag, t a type.
 fn by_letter(w: Progress, text: &[u8], out: &mut [u8], letter: u8) -> Progress {
     match letter {
         b'd' => parts(w, text, out, b"\x01l("),
-        b'u' => parts(w, text, out, b"\x02\x01bv"),
+        b'u' => substitute(w, text, out),
         b'c' => parts(w, text, out, b"\x03l("),
         b't' => parts(w, text, out, b"\x04vtg("),
         b's' => parts(w, text, out, b"\x05vtn"),

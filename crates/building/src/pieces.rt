@@ -4,6 +4,9 @@ use crate::build::store;
 use crate::build::store2;
 use crate::progress::Progress;
 
+// The name of a declared type that is written with none.
+pub const TYPE: usize = 5;
+
 pub fn one(w: Progress, out: &mut [u8], v: usize) -> Progress {
     store(out, w.at, low(v));
     w.after(1)
@@ -19,7 +22,7 @@ fn identifier(w: Progress, out: &mut [u8], name: usize, id: usize) -> Progress {
 // The variable at hand.
 pub fn var(w: Progress, text: &[u8], out: &mut [u8]) -> Progress {
     let taken = w.take(text);
-    identifier(taken, out, 2, taken.value)
+    identifier(taken, out, taken.name, taken.value)
 }
 
 // The count at hand.
@@ -33,14 +36,21 @@ pub fn label(w: Progress, out: &mut [u8], name: usize) -> Progress {
     identifier(w, out, name, w.other)
 }
 
-pub fn declared_type(w: Progress, out: &mut [u8]) -> Progress {
+pub fn declared_type(w: Progress, out: &mut [u8], name: usize) -> Progress {
     let marked = one(w, out, 1);
-    label(marked, out, 5)
+    label(marked, out, name)
+}
+
+// A binding of the variable that was taken, of a declared type.
+pub fn declared(w: Progress, out: &mut [u8], chirality: usize, name: usize) -> Progress {
+    let named = identifier(w, out, w.name, w.value);
+    let sorted = one(named, out, chirality);
+    declared_type(sorted, out, name)
 }
 
 // A binding of I64.
 pub fn binding(w: Progress, out: &mut [u8], id: usize) -> Progress {
-    let named = identifier(w, out, 2, id);
+    let named = identifier(w, out, w.name, id);
     let external = one(named, out, 2);
     let marked = one(external, out, 0);
     identifier(marked, out, 0, 0)

@@ -33,7 +33,7 @@ pub fn hex(b: u8) -> usize {
     }
 }
 
-fn wide(b: u8) -> usize {
+pub fn wide(b: u8) -> usize {
     b as usize
 }
 

@@ -7,10 +7,10 @@ use Rattle.building.proofs.lists.items.Statement.{statement}
 use Rattle.building.proofs.lists.items.Tie as tie
 
 abbrev Inv-loop : tie.InvT-loop
-Inv-loop text out₀ next₀ counter₀ out next counter = (length out ≡ length out₀) × (counter ≤ 40)
+Inv-loop text out₀ paired next₀ counter₀ out next counter = (length out ≡ length out₀) × (counter ≤ 40)
 
 abbrev μ-loop : tie.MeasureT-loop
-μ-loop text out₀ next₀ counter₀ out next counter = 40 - counter
+μ-loop text out₀ paired next₀ counter₀ out next counter = 40 - counter
 
 loop-holds : tie.Need-loop-holds Inv-loop μ-loop
 loop-holds c = (search needs, omega arith)

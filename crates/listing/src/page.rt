@@ -1,0 +1,83 @@
+// Text on its way out. It is gathered in a room that the caller lends, and written whenever the room is full.
+
+pub struct Page {
+    // Where it is written to.
+    pub fd: i32,
+    // How much of the room is taken.
+    pub at: usize,
+    // Has a write failed? Then nothing more is written.
+    pub failed: bool,
+}
+
+impl Page {
+    pub fn start(fd: i32) -> Page {
+        Page {
+            fd,
+            at: 0,
+            failed: false,
+        }
+    }
+
+    // With a write done.
+    fn wrote(self, well: bool) -> Page {
+        let mut next = self;
+        next.at = 0;
+        next.failed = !well;
+        next
+    }
+}
+
+fn write(fd: i32, room: &[u8], n: usize) -> bool {
+    if n <= room.len() {
+        return io::write_all(fd, &room[0..n]);
+    }
+    false
+}
+
+// Writes what was gathered.
+pub fn flush(page: Page, room: &[u8]) -> Page {
+    if page.failed {
+        return page.wrote(false);
+    }
+    page.wrote(write(page.fd, room, page.at))
+}
+
+fn with_space(page: Page, room: &[u8]) -> Page {
+    if page.at < room.len() {
+        return page;
+    }
+    flush(page, room)
+}
+
+pub fn put(page: Page, room: &mut [u8], b: u8) -> Page {
+    let mut next = with_space(page, room);
+    let at = next.at;
+    if at < room.len() {
+        room[at] = b;
+        next.at = at + 1;
+    }
+    next
+}
+
+pub fn say(page: Page, room: &mut [u8], text: &[u8]) -> Page {
+    let mut next = page;
+    for i in 0..text.len() {
+        next = put(next, room, text[i]);
+    }
+    next
+}
+
+pub fn decimal(page: Page, room: &mut [u8], n: u64) -> Page {
+    let mut digits = [0u8; 20];
+    let k = io::decimal(n, &mut digits);
+    say(page, room, &digits[..k])
+}
+
+// Two spaces for each level.
+pub fn indent(page: Page, room: &mut [u8], levels: usize) -> Page {
+    let mut next = page;
+    for _ in 0..levels {
+        next = say(next, room, b"  ");
+    }
+    next
+}
