@@ -1,5 +1,5 @@
 # `make run` shows an example before and after linearization; `make test` is the gate. Both need nothing but Rattle's `rt` and what the gate installs.
-.PHONY: run test tries tool library bindings c-example examples differential
+.PHONY: run test tries tool library bindings c-example examples differential bench
 
 example = examples/axle
 
@@ -43,3 +43,7 @@ c-example: library
 # Every file of examples/ anew, from the texts.
 examples: tool
 	examples/make
+
+# The library and the Rust on the same images: time and stack.
+bench: library
+	cd oracle && cargo run --release --offline -p bench --features library

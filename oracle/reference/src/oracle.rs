@@ -1,6 +1,6 @@
 //! The oracle: one image examined once, and what each of the four calls answers for it.
 
-mod rust;
+pub mod rust;
 
 use crate::image::{Frame, LARGEST, LARGEST_ID, frame, order, writer};
 use crate::questions::{Question, ask, scoped, source_form};

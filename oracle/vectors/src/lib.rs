@@ -14,6 +14,9 @@
 //! The rest of the output buffer follows from the number: 11 and 12 have set all of it to zero, after
 //! every other number all bytes past the length are still the old byte. No image and no output buffer
 //! has more than 65,536 bytes.
+//!
+//! The program is the crate `vectors` of the repository: the file is its `stdin`, and the summary
+//! its `stdout`.
 
 mod sample;
 
@@ -21,6 +24,17 @@ pub use sample::{LARGEST_ROOM, sample};
 
 use generators::boundaries::Call;
 use reference::oracle::Oracle;
+use std::fmt::Write;
+
+/// The functions, by their number in the file.
+const FUNCTIONS: [&str; 4] = [
+    "axcut_read",
+    "axcut_check",
+    "axcut_linearize",
+    "axcut_annotate",
+];
+/// The answers are 0 to 13.
+const ANSWERS: usize = 14;
 
 /// An image and the calls to make on it.
 pub struct Vector {
@@ -46,16 +60,45 @@ pub fn file(vectors: &[Vector]) -> Vec<u8> {
     out
 }
 
+/// What the program that replays these vectors prints where every call agrees: how many calls each
+/// function answers with each number, and how many images and calls there are.
+pub fn summary(vectors: &[Vector]) -> String {
+    let mut counts = [[0; ANSWERS]; FUNCTIONS.len()];
+    for vector in vectors {
+        let oracle = Oracle::new(&vector.image);
+        for &call in &vector.calls {
+            let answer = call.ask(&oracle, &mut vec![0; call.room()]);
+            counts[function(call)][usize::from(answer.number)] += 1;
+        }
+    }
+    let mut out = String::new();
+    for (name, counts) in FUNCTIONS.iter().zip(counts) {
+        for (number, count) in counts.iter().enumerate().filter(|&(_, &count)| count > 0) {
+            writeln!(out, "{name} {number}: {count}").expect("a string takes all");
+        }
+    }
+    let (images, calls) = (vectors.len(), counts.as_flattened().iter().sum::<usize>());
+    writeln!(out, "{images} images, {calls} calls, 0 mismatches").expect("a string takes all");
+    out
+}
+
+fn function(call: Call) -> usize {
+    match call {
+        Call::Read => 0,
+        Call::Check => 1,
+        Call::Linearize { .. } => 2,
+        Call::Annotate { .. } => 3,
+    }
+}
+
 fn write(out: &mut Vec<u8>, oracle: &Oracle, call: Call, old: u8) {
-    let (function, record) = match call {
-        Call::Read => (0, 0),
-        Call::Check => (1, 0),
-        Call::Linearize { .. } => (2, 0),
-        Call::Annotate { record, .. } => (3, record),
+    let record = match call {
+        Call::Annotate { record, .. } => record,
+        _ => 0,
     };
     let mut buffer = vec![old; call.room()];
     let answer = call.ask(oracle, &mut buffer);
-    out.push(function);
+    out.push(function(call) as u8);
     out.extend((record as u64).to_le_bytes());
     number4(out, call.room());
     out.push(old);

@@ -1,4 +1,4 @@
-//! `vectors FILE` writes the sample.
+//! `vectors FILE` writes the sample, and prints the summary of a replay where every call agrees.
 
 use std::process::ExitCode;
 use std::{env, fs};
@@ -9,16 +9,10 @@ fn main() -> ExitCode {
         return ExitCode::from(2);
     };
     let sample = vectors::sample();
-    let bytes = vectors::file(&sample);
-    if let Err(error) = fs::write(&file, &bytes) {
+    if let Err(error) = fs::write(&file, vectors::file(&sample)) {
         eprintln!("{file}: {error}");
         return ExitCode::FAILURE;
     }
-    let calls: usize = sample.iter().map(|vector| vector.calls.len()).sum();
-    println!(
-        "{} images, {calls} calls, {} bytes",
-        sample.len(),
-        bytes.len()
-    );
+    print!("{}", vectors::summary(&sample));
     ExitCode::SUCCESS
 }

@@ -2,6 +2,7 @@
 
 use reference::calls;
 use reference::oracle::Answer;
+use std::fs;
 
 struct Reader<'a>(&'a [u8]);
 
@@ -88,4 +89,16 @@ fn the_sample_replays_and_covers_every_answer() {
             assert!(found == 0 || found >= 20, "{function} {number}: {found}");
         }
     }
+}
+
+/// The crate `vectors` replays the file, and prints the summary, that are made now.
+#[test]
+fn the_stored_files_are_those_made_now() {
+    let stored = |name: &str| fs::read(format!("../../crates/vectors/{name}")).expect(name);
+    let sample = vectors::sample();
+    assert!(stored("stdin") == vectors::file(&sample), "stdin");
+    assert!(
+        stored("stdout") == vectors::summary(&sample).into_bytes(),
+        "stdout"
+    );
 }

@@ -1,8 +1,8 @@
 //! The unchanged Rust at work on a tree.
 
 mod annotated;
-mod from_rust;
-mod to_rust;
+pub mod from_rust;
+pub mod to_rust;
 
 use crate::syntax::{Id, Prog};
 use axcut::traits::free_vars::FreeVars;

@@ -1,0 +1,11 @@
+//! The library and the Rust on the same images: time and stack.
+
+pub mod contexts;
+pub mod options;
+pub mod paths;
+pub mod report;
+pub mod rounds;
+pub mod sets;
+pub mod stack;
+pub mod table;
+pub mod worst;
