@@ -1,4 +1,4 @@
-# `make run` shows an example before and after linearization; `make test` is the gate. Both need nothing but Rattle's `rt` and what the gate installs.
+# `make run` shows an example before and after linearization; `make test` is the gate. Both need nothing but Rattle's `rt`.
 .PHONY: run test tries tool library bindings c-example examples differential bench
 
 example = examples/axle

@@ -2,8 +2,8 @@
  * AxCut's linearization over binary program images (docs/FORMAT.md), proved in Rattle.
  *
  * The functions are those of target/staticlib/libaxcut.a, which `make library` builds; x86-64 Linux. They need nothing of the C library but
- * memcpy, memmove and memset, take no memory but the caller's buffers and the stack, keep nothing between calls, and may be called from any
- * number of threads at once.
+ * memcpy, memmove and memset, take no memory but the caller's buffers and the stack (less than 1 MiB of it), keep nothing between calls, and
+ * may be called from any number of threads at once.
  *
  * What holds for every call:
  *

@@ -72,23 +72,18 @@ impl Runner {
     }
 
     pub fn linearize(&mut self, image: &[u8]) -> Given {
-        let (mut length, mut max_id) = (0, 0);
+        let (call, out) = (self.subject.linearize, &mut self.out);
         // SAFETY: the pointers and lengths are those of the slices.
-        let number = unsafe {
-            (self.subject.linearize)(
+        answered(|length, max_id| unsafe {
+            call(
                 image.as_ptr(),
                 image.len(),
-                self.out.as_mut_ptr(),
-                self.out.len(),
-                &mut length,
-                &mut max_id,
+                out.as_mut_ptr(),
+                out.len(),
+                length,
+                max_id,
             )
-        };
-        Given {
-            number,
-            length,
-            max_id,
-        }
+        })
     }
 
     pub fn read(&self, image: &[u8]) -> Given {
@@ -100,24 +95,19 @@ impl Runner {
     }
 
     pub fn annotate(&mut self, image: &[u8], record: usize) -> Given {
-        let (mut length, mut max_id) = (0, 0);
+        let (call, out) = (self.subject.annotate, &mut self.out);
         // SAFETY: as above.
-        let number = unsafe {
-            (self.subject.annotate)(
+        answered(|length, max_id| unsafe {
+            call(
                 image.as_ptr(),
                 image.len(),
                 record,
-                self.out.as_mut_ptr(),
-                self.out.len(),
-                &mut length,
-                &mut max_id,
+                out.as_mut_ptr(),
+                out.len(),
+                length,
+                max_id,
             )
-        };
-        Given {
-            number,
-            length,
-            max_id,
-        }
+        })
     }
 
     /// Whether the subject gives the Rust's bytes for the image, and accepts it in its other calls.
@@ -163,9 +153,14 @@ impl Runner {
 }
 
 fn ask_about(call: Read, image: &[u8]) -> Given {
-    let (mut length, mut max_id) = (0, 0);
     // SAFETY: the pointer and the length are those of the slice.
-    let number = unsafe { call(image.as_ptr(), image.len(), &mut length, &mut max_id) };
+    answered(|length, max_id| unsafe { call(image.as_ptr(), image.len(), length, max_id) })
+}
+
+/// What a call answers, with the two results that it sets.
+fn answered(call: impl FnOnce(*mut usize, *mut u32) -> u32) -> Given {
+    let (mut length, mut max_id) = (0, 0);
+    let number = call(&mut length, &mut max_id);
     Given {
         number,
         length,

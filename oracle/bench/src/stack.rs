@@ -1,26 +1,11 @@
 //! How much stack a call uses: it runs on memory of our own that was painted before.
 
+use differential::pages::{MAP_PRIVATE_ANONYMOUS, PROT_NONE, PROT_READ_WRITE};
+use differential::pages::{mmap, mprotect, munmap};
 use std::arch::asm;
 use std::ffi::c_void;
 use std::hint::black_box;
 use std::slice;
-
-unsafe extern "C" {
-    fn mmap(
-        address: *mut c_void,
-        length: usize,
-        protection: i32,
-        flags: i32,
-        file: i32,
-        offset: i64,
-    ) -> *mut c_void;
-    fn mprotect(address: *mut c_void, length: usize, protection: i32) -> i32;
-    fn munmap(address: *mut c_void, length: usize) -> i32;
-}
-
-const PROT_NONE: i32 = 0;
-const PROT_READ_WRITE: i32 = 1 | 2;
-const MAP_PRIVATE_ANONYMOUS: i32 = 0x02 | 0x20;
 
 /// A call that goes below the painted bytes ends the program: they follow bytes that may not be
 /// touched.

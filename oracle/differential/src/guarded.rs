@@ -1,27 +1,9 @@
 //! Memory that ends at a page which may not be touched: a read or write past the end of a lent buffer
 //! ends the program.
 
-use std::ffi::c_void;
+use crate::pages::{MAP_PRIVATE_ANONYMOUS, PROT_NONE, PROT_READ_WRITE, SC_PAGESIZE};
+use crate::pages::{mmap, mprotect, munmap, sysconf};
 use std::slice;
-
-unsafe extern "C" {
-    fn mmap(
-        address: *mut c_void,
-        length: usize,
-        protection: i32,
-        flags: i32,
-        file: i32,
-        offset: i64,
-    ) -> *mut c_void;
-    fn mprotect(address: *mut c_void, length: usize, protection: i32) -> i32;
-    fn munmap(address: *mut c_void, length: usize) -> i32;
-    fn sysconf(name: i32) -> isize;
-}
-
-const PROT_NONE: i32 = 0;
-const PROT_READ_WRITE: i32 = 1 | 2;
-const MAP_PRIVATE_ANONYMOUS: i32 = 0x02 | 0x20;
-const SC_PAGESIZE: i32 = 30;
 
 /// So many bytes before a lent buffer are watched.
 const WATCHED: usize = 64;

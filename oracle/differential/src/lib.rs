@@ -4,6 +4,7 @@
 mod compare;
 mod fault;
 mod guarded;
+pub mod pages;
 mod run;
 mod stack;
 pub mod subject;
