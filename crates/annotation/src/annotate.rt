@@ -141,7 +141,8 @@ fn in_limits(s: &[u8], g: Frame, d: usize, max_id: u32) -> bool
     ensures { λ r. ⌜ r ≡ question7 (programIn d (recordsIn g (now (s .entry))) «max_id») ⌝ }
 {
     if within_limits(s, g, d) {
-        let v = walk_definitions(s, g, d, max_id);
+        let mut none = [0u64; 1];
+        let v = walk_definitions(s, g, d, max_id, &mut none);
         return v.room;
     }
     false

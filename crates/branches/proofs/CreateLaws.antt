@@ -6,7 +6,7 @@ use mathlib.Core.List.{List, [], _∷_, _++_}
 use mathlib.Core.Option.{Option, some}
 use native.Mathlib.Omega.{arith}
 use native.Mathlib.Nat.{mul-le-mul}
-use lib.ListN.{length, length-append, length-map, length-take}
+use lib.ListN.{length, length-append, length-take}
 use Rattle.syntax.specs.Context.{Context, ids, sameContext}
 use Rattle.syntax.specs.Arrays.{contextOf, setOf, Holds, SetHolds, Freshens}
 use Rattle.syntax.specs.declared.sets.IdSet.{IdSet}
@@ -36,11 +36,11 @@ use Rattle.held.proofs.MaskLaws.{mask-fewer}
 use Rattle.steps.specs.Steps.{environment, arranged, stepCreate}
 use Rattle.steps.specs.Fronts.{wanted, rightOf, frontRecords, frontBytes, pairsSize, tailSize}
 use Rattle.stepping.specs.Drawn.{drawnTo}
-use Rattle.stepping.specs.Stepping.{Says, Reserves, OpensAs, Arranges, StepsAs}
+use Rattle.stepping.specs.Stepping.{Says, Reserves, OpensAs, OpenedAs, Arranges, StepsAs}
 use Rattle.stepping.specs.declared.stepped.Opened.{Opened}
 use Rattle.stepping.specs.declared.stepped.Stepped.{Stepped}
-use Rattle.stepping.proofs.StepLaws.{kept-says, arranged-then, emits-as}
-use Rattle.branches.proofs.SwitchLaws.{held-workable}
+use Rattle.stepping.proofs.StepLaws.{kept-says, arranged-then, emits-as, held-workable}
+use Rattle.branches.proofs.OpenLaws.{bindings-count}
 
 -- what the mask retains of the context with some moved behind
 moved-says : {mask : ℕ} {s : List VarId} {W : Work} (j : ℕ) → Says mask s W → keptByMask mask (movedBehind j W) ≡ kept s (movedBehind j W)
@@ -86,36 +86,34 @@ respelled-few false new ren T n = omega (arith, n .count, respelled-fewer (workO
 
 -- ── the place ──
 
-pub create-opens : {w : ℕ} {record′ : Record} (var : Identifier) (ty : Ty) (env : Option Context) (clauses : ℕ) {maskClauses maskNext : ℕ} {W : Work} {p : Progress} {r : Opened} {new : Held} {c x : TypingContext} {own : ℕ}
+pub create-opens : {w : ℕ} {record′ : Record} (var : Identifier) (ty : Ty) (env : Option Context) (clauses : ℕ) {maskClauses maskNext : ℕ} {W : Work} {p : Progress} {r : Opened} {new : Held} {own : ℕ}
     → record′ ≡ create var ty env clauses → HoldsWork new (keptByMask maskNext W) → HoldsWork (r .context) (keptByMask maskClauses (movedBehind (new .len) W)) → r .context .len ≤ 64
-    → Holds c (bindings (workOf new)) → Holds x (bindings (workOf (r .context)))
-    → r .right ≡ sameContext (bindings W) (contextOf c ++ contextOf x) → own ≡ fixed w 6 → Reserves (r .right) (c .len + x .len) (own + (3 + x .len * (6 + (w + w)))) w p (r .progress)
+    → r .right ≡ sameContext (bindings W) (bindings (workOf new) ++ bindings (workOf (r .context))) → own ≡ fixed w 6
+    → Reserves (r .right) (new .len + r .context .len) (own + (3 + r .context .len * (6 + (w + w)))) w p (r .progress)
     → OpensAs w record′ maskClauses maskNext W p r
 unfolding frontBytes frontRecords rightOf wanted tailSize environment
-create-opens {w} {record′} var ty env clauses {maskClauses} {maskNext} {W} {p} {r} {new} {c} {x} {own} e h k few d z b o a =
+create-opens {w} {record′} var ty env clauses {maskClauses} {maskNext} {W} {p} {r} {new} {own} e h k few b o a =
     rw e record {
       workable = held-workable k few;
       opens = λ fc fn s y.
-          let g : keptByMask maskNext W ≡ kept fn W = kept-says y in
-          let j : new .len ≡ length (kept fn W) = h .count ∙ ap length g in
           let N = kept fn W in
           let E = kept fc (movedBehind (length N) W) in
+          let g : keptByMask maskNext W ≡ N = kept-says y in
+          let j : new .len ≡ length N = h .count ∙ ap length g in
           let u : keptByMask maskClauses (movedBehind (new .len) W) ≡ E = moved-says (new .len) s ∙ ap (λ (i : ℕ). kept fc (movedBehind i W)) j in
-          let A : contextOf c ≡ bindings N = d .list ∙ ap bindings (h .list ∙ g) in
-          let X : contextOf x ≡ bindings E = z .list ∙ ap bindings (k .list ∙ u) in
-          let l : contextOf c ++ contextOf x ≡ bindings N ++ bindings E = ap₂ (λ (i i′ : Context). i ++ i′) A X in
-          let q : r .right ≡ sameContext (bindings W) (bindings N ++ bindings E) = b ∙ ap (sameContext (bindings W)) l in
-          let cn : c .len ≡ length (bindings N) = d .count ∙ ap (λ (i : Work). length (bindings i)) (h .list ∙ g) in
-          let xn : x .len ≡ length (bindings E) = z .count ∙ ap (λ (i : Work). length (bindings i)) (k .list ∙ u) in
-          let xe : x .len ≡ length E = xn ∙ length-map E (λ (i : Entry). i .binding) in
-          let n : c .len + x .len ≡ length (bindings N ++ bindings E) = omega (arith, cn, xn, length-append (bindings N) (bindings E)) in
+          let A : workOf new ≡ N = h .list ∙ g in
+          let X : workOf (r .context) ≡ E = k .list ∙ u in
+          let q : r .right ≡ sameContext (bindings W) (bindings N ++ bindings E) = cc (b, A, X) in
+          let xe : r .context .len ≡ length E = k .count ∙ ap length u in
+          let n : new .len + r .context .len ≡ length (bindings N ++ bindings E) = omega (arith, bindings-count h, bindings-count k, ap (λ (i : Work). length (bindings i)) A, ap (λ (i : Work). length (bindings i)) X, length-append (bindings N) (bindings E)) in
+          let R = sameContext (bindings W) (bindings N ++ bindings E) in
           record {
             context = subst (HoldsWork (r .context)) u k;
             right = q;
-            at = a .at ∙ (ap (λ (t : Bool). p .at + (cond t 0 (1 + pairsSize w (c .len + x .len)) + (own + (3 + x .len * (6 + (w + w)))))) q
-                ∙ (ap₂ (λ (t t′ : ℕ). p .at + (cond (sameContext (bindings W) (bindings N ++ bindings E)) 0 (1 + pairsSize w t) + (t′ + (3 + x .len * (6 + (w + w)))))) n o
-                ∙ (ap (λ (t : ℕ). p .at + (cond (sameContext (bindings W) (bindings N ++ bindings E)) 0 (1 + pairsSize w (length (bindings N ++ bindings E))) + (fixed w 6 + (3 + t * (6 + (w + w)))))) xe
-                ∙ ap (λ (t : ℕ). p .at + (cond (sameContext (bindings W) (bindings N ++ bindings E)) 0 (1 + pairsSize w (length (bindings N ++ bindings E))) + (fixed w 6 + t))) (same-tail (length E * (6 + (w + w)))))));
+            at = a .at ∙ (ap (λ (t : Bool). p .at + (cond t 0 (1 + pairsSize w (new .len + r .context .len)) + (own + (3 + r .context .len * (6 + (w + w)))))) q
+                ∙ (ap₂ (λ (t t′ : ℕ). p .at + (cond R 0 (1 + pairsSize w t) + (t′ + (3 + r .context .len * (6 + (w + w)))))) n o
+                ∙ (ap (λ (t : ℕ). p .at + (cond R 0 (1 + pairsSize w (length (bindings N ++ bindings E))) + (fixed w 6 + (3 + t * (6 + (w + w)))))) xe
+                ∙ ap (λ (t : ℕ). p .at + (cond R 0 (1 + pairsSize w (length (bindings N ++ bindings E))) + (fixed w 6 + t))) (same-tail (length E * (6 + (w + w)))))));
             count = a .count ∙ ap (λ (t : Bool). p .count + cond t 1 2) q;
             maxId = a .maxId;
           };
@@ -128,10 +126,10 @@ create-opens {w} {record′} var ty env clauses {maskClauses} {maskNext} {W} {p}
 
 pub create-steps : {w : ℕ} {record′ : Record} (var : Identifier) (ty : Ty) (env : Option Context) (clauses : ℕ) {maskClauses maskNext : ℕ} {W : Work} {n : ℕ} {out mid out′ lengths middle lengths′ : List ℕ} {p q written : Progress} {place : ℕ} {o : Opened} {r : Stepped}
     {new ren : Held} {c x : TypingContext} {clashes : IdSet} {f : Freshened}
-    → record′ ≡ create var ty env clauses → OpensAs w record′ maskClauses maskNext W p o → HoldsWork new (keptByMask maskNext W)
+    → record′ ≡ create var ty env clauses → OpenedAs record′ maskClauses maskNext W o → HoldsWork new (keptByMask maskNext W)
     → Holds c (bindings (workOf new)) → Holds x (bindings (workOf (o .context))) → SetHolds clashes (ids (bindings (workOf (o .context))))
     → Freshens f (freshenUnless (o .right) (contextOf c) (setOf clashes) (p .«max_id»))
-    → Arranges w out mid lengths middle p q (arranged (o .right) (contextOf (f .context) ++ contextOf x) (contextOf c ++ contextOf x))
+    → Arranges w out mid lengths middle p q (arranged (o .right) (contextOf (f .context) ++ bindings (workOf (o .context))) (contextOf c ++ bindings (workOf (o .context))))
     → Puts mid out′ (q .at) place (recordBytes w (create var ty (some (contextOf x)) clauses)) → Noted written q place middle lengths′
     → HoldsWork ren (respelledUnless (o .right) (workOf new) (contextOf (f .context))) → HoldsWork (r .context) (workOf ren ++ (own n (bind var Cns ty) ∷ [])) → r .«in_scope» ≡ n + 1
     → r .progress ≡ drawnTo written (f .«max_id» .0) → StepsAs w record′ maskClauses maskNext W n out out′ lengths lengths′ p r
@@ -139,19 +137,20 @@ unfolding stepCreate rightOf wanted
 create-steps {w} {record′} var ty env clauses {maskClauses} {maskNext} {W} {n} {out} {mid} {out′} {lengths} {middle} {lengths′} {p} {q} {written} {place} {o} {r} {new} {ren} {c} {x} {clashes} {f} e k h d z s v a u m j t y i =
     rw e record {
       steps = λ fc fn sc sn.
-          let opened = subst (λ (b : Record). OpensAs w b maskClauses maskNext W p o) e k .opens fc fn sc sn in
+          let opened = subst (λ (b : Record). OpenedAs b maskClauses maskNext W o) e k in
           let N = kept fn W in
           let E = environment fc fn W in
           let g : workOf new ≡ N = h .list ∙ kept-says sn in
           let A : contextOf c ≡ bindings N = d .list ∙ ap bindings g in
-          let B : contextOf x ≡ bindings E = z .list ∙ ap bindings (opened .context .list) in
-          let C : setOf clashes ≡ ids (bindings E) = s .list ∙ ap (λ (b : Work). ids (bindings b)) (opened .context .list) in
+          let B : workOf (o .context) ≡ E = opened .context fc fn sc sn .list in
+          let X : contextOf x ≡ bindings E = z .list ∙ ap bindings B in
+          let C : setOf clashes ≡ ids (bindings E) = s .list ∙ ap (λ (b : Work). ids (bindings b)) B in
           let R = sameContext (bindings W) (bindings N ++ bindings E) in
-          let right : o .right ≡ R = opened .right in
+          let right : o .right ≡ R = opened .right fc fn sc sn in
           let F = freshenUnless R (bindings N) (ids (bindings E)) (p .«max_id») in
           let fl : contextOf (f .context) ≡ F .0 = cc (v .holds .list, right, A, C) in
-          let front : arranged (o .right) (contextOf (f .context) ++ contextOf x) (contextOf c ++ contextOf x) ++ (create var ty (some (contextOf x)) clauses ∷ [])
-          ≡ arranged R (F .0 ++ bindings E) (bindings N ++ bindings E) ++ (create var ty (some (bindings E)) clauses ∷ []) = cc (right, fl, A, B) in
+          let front : arranged (o .right) (contextOf (f .context) ++ bindings (workOf (o .context))) (contextOf c ++ bindings (workOf (o .context))) ++ (create var ty (some (contextOf x)) clauses ∷ [])
+          ≡ arranged R (F .0 ++ bindings E) (bindings N ++ bindings E) ++ (create var ty (some (bindings E)) clauses ∷ []) = cc (right, fl, A, B, X) in
           let ctx : workOf ren ≡ respelledUnless R N (F .0) = cc (j .list, right, g, fl) in
           let max : f .«max_id» .0 ≡ F .1 = cc (v .max, right, A, C) in
           record {

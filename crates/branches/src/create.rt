@@ -4,7 +4,7 @@ use emit::progress::Progress;
 use emit::progress::note;
 use held::Held;
 use records::kinds::Kind;
-use stepping::arrange::arrange;
+use stepping::arrange::arrange_before;
 use stepping::fresh::freshen_unless;
 use stepping::fresh::with_max_id;
 use stepping::reserve::reserve;
@@ -23,7 +23,7 @@ ghost use Rattle.checking.specs.Nodes.{recordAt};
 ghost use Rattle.work.specs.Work.{movedBehind, respelledUnless};
 ghost use Rattle.held.specs.Holding.{workOf, HoldsWork};
 ghost use Rattle.held.specs.Masks.{keptByMask};
-ghost use Rattle.stepping.specs.Stepping.{RoomAt, SourceAt, Workable, OpensAs, StepsAs};
+ghost use Rattle.stepping.specs.Stepping.{RoomAt, SourceAt, Workable, OpensAs, OpenedAs, StepsAs};
 
 // The environment: what the clauses need, from the context with the first bindings, as many as the next context has, moved behind the rest.
 fn environment(context: Held, next: usize, free_vars_clauses: u64) -> Held
@@ -49,12 +49,15 @@ pub fn open(
 {
     let context_next = context.filter(free_vars_next);
     let closure_environment = environment(context, context_next.len, free_vars_clauses);
-    let next = context_next.context();
-    let kept = closure_environment.context();
-    let right = context.same(next, kept);
+    let kept = context_next.len + closure_environment.len;
+    let right = if context.len == kept {
+        context.same(context_next.context(), closure_environment.context())
+    } else {
+        false
+    };
     let w = g.id;
-    let own = Kind::fixed(6, w) + (3 + kept.len * (6 + (w + w)));
-    let progress = reserve(right, next.len + kept.len, own, w, p);
+    let own = Kind::fixed(6, w) + (3 + closure_environment.len * (6 + (w + w)));
+    let progress = reserve(right, kept, own, w, p);
     Opened {
         context: closure_environment,
         right,
@@ -82,26 +85,33 @@ pub fn linearize(
     free_vars_next: u64,
     context: Held,
     in_scope: u8,
+    opened: Opened,
     out: &mut [u8],
     lengths: &mut [usize],
     p: Progress,
 ) -> Stepped
-    requires { ⌜ SourceAt g (now s) i 6 × (Workable context «in_scope» 1 × RoomAt p) ⌝ }
+    requires { ⌜ SourceAt g (now s) i 6 × (Workable context «in_scope» 1 × (OpenedAs (recordAt g (now s) i) «free_vars_clauses» «free_vars_next» (workOf context) opened × RoomAt p)) ⌝ }
     ensures { λ r. ⌜ StepsAs (g .id) (recordAt g (now (s .entry)) i) «free_vars_clauses» «free_vars_next» (workOf context) «in_scope» (now (out .entry)) (now (out .exit)) (now (lengths .entry)) (now (lengths .exit)) p r ⌝ }
 {
     let statement = create(s, g, i);
-    let opened = open(s, g, i, free_vars_clauses, free_vars_next, context, p);
     let captured = opened.context;
     let right = opened.right;
     let context_next = context.filter(free_vars_next);
     let next = context_next.context();
-    let kept = captured.context();
     let freshened = freshen_unless(right, next, captured.ids(), p.max_id);
     let fresh = freshened.context;
-    let q = arrange(right, fresh, next, kept, kept, g.id, out, lengths, p);
+    let q = arrange_before(right, fresh, next, captured, g.id, out, lengths, p);
     let var = statement.var;
     let ty = statement.ty;
-    let place = put_create(out, q.at, g.id, var, ty, kept, statement.clauses);
+    let place = put_create(
+        out,
+        q.at,
+        g.id,
+        var,
+        ty,
+        captured.context(),
+        statement.clauses,
+    );
     let noted = note(lengths, q, place);
     let chi = Chirality::Cns;
     let binding = ContextBinding { var, chi, ty };

@@ -4,10 +4,10 @@ use emit::progress::Progress;
 use emit::progress::note;
 use held::Held;
 use records::kinds::Kind;
-use stepping::arrange::arrange;
+use stepping::arrange::arrange_one;
+use stepping::fresh::with_max_id;
 use stepping::reserve::reserve;
 use stepping::stepped::Opened;
-use stepping::stepped::Stepped;
 use syntax::context::Chirality;
 use syntax::context::ContextBinding;
 use syntax::context::TypingContext;
@@ -17,28 +17,27 @@ use syntax::sets::IdSet;
 use syntax::types::Ty;
 use unpack::switch;
 use write::records::put_switch;
-ghost use mathlib.Core.List.{_∷_, []};
+ghost use mathlib.Core.Path.{_≡_};
 ghost use Prim.Native.Nat.{_+_, _<_, _≤_, _^_};
-ghost use Rattle.syntax.specs.Arrays.{setOf, Holds};
+ghost use Rattle.syntax.specs.Arrays.{setOf};
 ghost use Rattle.syntax.specs.declared.context.Chirality.the-variants.{Prd};
 ghost use Rattle.model.specs.Rules.{bind, freshVarUnless};
 ghost use Rattle.checking.specs.Nodes.{recordAt};
 ghost use Rattle.work.specs.Work.{used};
 ghost use Rattle.held.specs.Holding.{workOf};
-ghost use Rattle.stepping.specs.Stepping.{RoomAt, SourceAt, Workable, OpensAs, StepsAs};
+ghost use Rattle.stepping.specs.Stepping.{RoomAt, SourceAt, Workable, OpensAs, OpenedAs, LeavesAs};
 ghost use Rattle.branches.specs.Drawing.{FreshVarIs};
 
 // The variable that is matched on, as the last of the wanted list.
-fn matched(context: Held, var: Identifier, ty: Ty) -> TypingContext
+fn matched(context: Held, var: Identifier, ty: Ty) -> ContextBinding
     requires { ⌜ context .len ≤ 64 ⌝ }
-    ensures { λ r. ⌜ Holds r (bind (used (workOf context) var) Prd ty ∷ []) ⌝ }
+    ensures { λ r. ⌜ r ≡ bind (used (workOf context) var) Prd ty ⌝ }
 {
-    let binding = ContextBinding {
+    ContextBinding {
         var: context.used(var),
         chi: Chirality::Prd,
         ty,
-    };
-    TypingContext::empty().push(binding)
+    }
 }
 
 // The clauses have what they need, without the variable that is matched on.
@@ -55,13 +54,15 @@ pub fn open(
 {
     let statement = switch(s, g, i);
     let new_context = context.filter(free_vars_clauses);
-    let kept = new_context.context();
     let ty = statement.ty;
     let xtor = matched(context, statement.var, ty);
-    let right = context.same(kept, xtor);
+    let right = if context.len == new_context.len + 1 {
+        context.same(new_context.context(), TypingContext::empty().push(xtor))
+    } else {
+        false
+    };
     let w = g.id;
-    let own = Kind::fixed(5, w) + 1;
-    let progress = reserve(right, kept.len + 1, own, w, p);
+    let progress = reserve(right, new_context.len + 1, Kind::fixed(5, w) + 1, w, p);
     Opened {
         context: new_context,
         right,
@@ -104,34 +105,23 @@ pub fn linearize(
     free_vars_clauses: u64,
     context: Held,
     in_scope: u8,
+    opened: Opened,
     out: &mut [u8],
     lengths: &mut [usize],
     p: Progress,
-) -> Stepped
-    requires { ⌜ SourceAt g (now s) i 5 × (Workable context «in_scope» 0 × RoomAt p) ⌝ }
-    ensures { λ r. ⌜ StepsAs (g .id) (recordAt g (now (s .entry)) i) «free_vars_clauses» 0 (workOf context) «in_scope» (now (out .entry)) (now (out .exit)) (now (lengths .entry)) (now (lengths .exit)) p r ⌝ }
+) -> Progress
+    requires { ⌜ SourceAt g (now s) i 5 × (Workable context «in_scope» 0 × (OpenedAs (recordAt g (now s) i) «free_vars_clauses» 0 (workOf context) opened × RoomAt p)) ⌝ }
+    ensures { λ r. ⌜ LeavesAs (g .id) (recordAt g (now (s .entry)) i) «free_vars_clauses» 0 (workOf context) «in_scope» (now (out .entry)) (now (out .exit)) (now (lengths .entry)) (now (lengths .exit)) p r ⌝ }
 {
     let statement = switch(s, g, i);
-    let opened = open(s, g, i, free_vars_clauses, context, p);
     let new_context = opened.context;
     let right = opened.right;
-    let kept = new_context.context();
     let ty = statement.ty;
     let xtor = matched(context, statement.var, ty);
-    let fresh = fresh_var(right, xtor.bindings[0], new_context.ids(), p.max_id);
+    let fresh = fresh_var(right, xtor, new_context.ids(), p.max_id);
     let binding = fresh.binding;
-    let target = TypingContext::empty().push(binding);
-    let q = arrange(right, kept, kept, target, xtor, g.id, out, lengths, p);
+    let q = arrange_one(right, new_context, binding, xtor, g.id, out, lengths, p);
     let next = put_switch(out, q.at, g.id, binding.var, ty, statement.clauses);
-    let written = note(lengths, q, next);
-    let progress = Progress {
-        at: written.at,
-        count: written.count,
-        max_id: fresh.max_id,
-    };
-    Stepped {
-        context,
-        in_scope,
-        progress,
-    }
+    let noted = note(lengths, q, next);
+    with_max_id(noted, VarId(fresh.max_id))
 }

@@ -1,5 +1,5 @@
--- The steps over definitions: what is left of them in a loop (`DefsLeft`), with whatever the loop says of them: P; how deep they are, and
--- what the walk finds. Assumes nothing.
+-- The steps over definitions: what is left of them in a loop (`DefsLeft`), with whatever the loop says of them: P; and how deep they are.
+-- (The walk over them: DefWalks.antt.) Assumes nothing.
 use Prim.Native.Nat.{ℕ, _+_, _-_, _≤_, _<_, max}
 use mathlib.Core.Path.{_≡_, refl, sym, ap, _∙_, subst}
 use mathlib.Core.Bool.{Bool, true, false}
@@ -8,8 +8,7 @@ use native.Mathlib.Omega.{arith}
 use borrow.Author.Tests.{le-leb, lt-leb, leb-true, leb-false}
 use lib.Dec.{leb}
 use lib.ListN.{length, drop, length-append, length-drop}
-use Rattle.syntax.specs.Arrays.{setOf}
-use Rattle.syntax.specs.Context.{Context, ids}
+use Rattle.syntax.specs.Context.{Context}
 use Rattle.syntax.specs.declared.names.Identifier.{Identifier}
 use Rattle.model.specs.Syntax.{Stmt, Def}
 use Rattle.model.specs.Sizes.{depth, depthDefs}
@@ -25,14 +24,7 @@ use Rattle.parts.specs.Standing.{headOf}
 use Rattle.trees.specs.Places.{stmtAt, Begins, StmtStands}
 use Rattle.trees.proofs.ViewLaws.{flatten-view}
 use Rattle.trees.proofs.PlaceLaws.{stmt-is, begins-left, begins-right, begins-head, head-within}
-use Rattle.scope.specs.declared.Verdict.{Verdict}
-use Rattle.scope.specs.Walk.{Scoped, enterAll, walkStmt, walkDefs}
-use Rattle.parts.specs.Parts.{listOf}
-use Rattle.checking.specs.Scoping.{scopedOf, Entered}
-use Rattle.checking.specs.Walks.{WalkedTo}
 use Rattle.checking.specs.Definitions.{DefsStand}
-use Rattle.checking.specs.declared.scoping.Entering.{Entering}
-use Rattle.checking.specs.declared.walk.Walked.{Walked}
 
 -- ── the first definition, and the others ──
 
@@ -181,24 +173,3 @@ module _ {rs : List Record} {whole : Bool} {left at : ℕ} (n : DefNext 128 rs l
 
 pub depth-end : {rs : List Record} {whole : Bool} {left at : ℕ} → DefsLeft 128 rs left at (Shallow whole) → left ≡ 0 → whole ≡ true
 depth-end l h = defs-end l h .same
-
--- ── the walk of what is left ──
-
-pub record WalksDefs (M : ℕ) (whole : Verdict) (here : Walked) (ds : List Def) : Type 0 where
-  pub same : whole ≡ walkDefs ds M (here .verdict)
-
-module _ {rs : List Record} {M : ℕ} {whole : Verdict} {left : ℕ} {here : Walked} where
-  pub def-walked : DefNext 64 rs left (here .next) (WalksDefs M whole here) → (e : Entering) (w : Walked)
-      → Entered e (enterAll M (ids (listOf (headOf (drop (here .next) rs)))) (record { scope = []; verdict = here .verdict }))
-      → WalkedTo w (here .next + 1 + length (flatten (stmtAt 64 rs (here .next + 1)))) (walkStmt (stmtAt 64 rs (here .next + 1)) M (setOf (e .scope)) (e .verdict))
-      → DefsLeft 64 rs (left - 1) (w .next) (WalksDefs M whole w)
-  unfolding walkDefs
-  def-walked n e w a b =
-      let body = stmtAt 64 rs (here .next + 1) in
-      let f : scopedOf e ≡ enterAll M (ids (n .context)) (record { scope = []; verdict = here .verdict }) =
-      a .is ∙ ap (λ (l : List Record). enterAll M (ids (listOf (headOf l))) (record { scope = []; verdict = here .verdict })) (n .head) in
-      def-turn n (b .next) (record { same = n .holds .same ∙ ap (walkDefs (n .rest) M) (sym (b .verdict ∙ ap (λ (z : Scoped). walkStmt body M (z .scope) (z .verdict)) f)) })
-
-  pub walked-defs : DefsLeft 64 rs left (here .next) (WalksDefs M whole here) → left ≡ 0 → whole ≡ here .verdict
-  unfolding walkDefs
-  walked-defs l h = defs-end l h .same

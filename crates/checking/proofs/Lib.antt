@@ -3,7 +3,14 @@ pub mod TailLaws
 pub mod NodeLaws
 pub mod ListLaws
 pub mod EnterLaws
+pub mod UseLaws
 pub mod StepLaws
+pub mod MaskLaws
+pub mod SourceLaws
+pub mod MaskSteps
+pub mod WalkSteps
 pub mod DefLaws
 pub mod CheckLaws
+pub mod DefWalks
 pub mod ReplyLaws
+pub mod MaskExamples

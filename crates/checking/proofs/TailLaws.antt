@@ -9,7 +9,7 @@ use native.Mathlib.Numerals.{add-one}
 use lib.Dec.{leb, eqb}
 use lib.ListN.{length, drop, getD, length-drop}
 use lib.Seq.{drop-drop, drop-cons}
-use Rattle.format.specs.Records.{Record, definition, substitute, call, let', switch, create, invoke, literal, op, ifc, clause', recordBytes}
+use Rattle.format.specs.Records.{Record, definition, substitute, call, let', switch, create, invoke, literal, op, ifc, clause', recordBytes, RecordOk}
 use Rattle.format.specs.Kinds.{kindOf, clausesOf, fixed, tailBytes}
 use Rattle.format.proofs.KindLaws.{tail-at}
 use Rattle.directory.specs.Slots.{Ready, recordsIn}
@@ -18,7 +18,8 @@ use Rattle.directory.proofs.Places.{records-length}
 use Rattle.shape.specs.Nodes.{nodeOf}
 use Rattle.shape.specs.declared.Node.the-variants.{Is, End}
 use Rattle.shape.proofs.Heads.{place, kind-small}
-use Rattle.parts.specs.Standing.{ReadsAs, RoomIn, headOf}
+use Rattle.parts.specs.Standing.{Stands, ReadsAs, RoomIn, headOf}
+use Rattle.parts.proofs.StandingLaws.{part-room, part-reads, byte-reads, kind-stands}
 use Rattle.scope.specs.Flat.{allRecords, plainRecord, smallRecord}
 use Rattle.checking.specs.Nodes.{recordAt, At, smallEnvironment}
 
@@ -42,14 +43,7 @@ module _ (g : Frame) (s : List ℕ) (i : ℕ) where
   pub of-kind : {k m : ℕ} → At g s i k → k ≡ m → At g s i m
   of-kind a e = record { ready = a .ready; inside = a .inside; kind = a .kind ∙ e }
 
-  -- where there is none
-  pub nowhere : {A : Type 0} (f : Record → A) → nodeOf (drop i (recordsIn g s)) ≡ End → f (recordAt g s i) ≡ f (headOf [])
-  nowhere f e = go (drop i (recordsIn g s)) e
-    where
-      go : (l : List Record) → nodeOf l ≡ End → f (headOf l) ≡ f (headOf [])
-      go [] e = refl
-      go (r ∷ l) e = let z : _≡_ {A = ℕ} 0 1 = cc (e) in absurd (omega arith)
-
+  -- there is one
   pub not-nowhere : Ready g s → i < g .count → nodeOf (drop i (recordsIn g s)) ≡ End → ⊥
   not-nowhere h t e = go (drop i (recordsIn g s)) (length-drop i (recordsIn g s)) e
     where
@@ -77,6 +71,20 @@ tail-room g s i k j p a q h =
     let r = recordAt g s i in
     let e : length (recordBytes w r) - fixed w k ≡ length (tailBytes w r) = sym (length-drop (fixed w k) (recordBytes w r)) ∙ ap length (tail-from w k r (a .kind)) in
     record { inside = omega arith }
+
+-- the first byte of the tail of the record at index i stands at this place of the image
+pub record TailAt (g : Frame) (s : List ℕ) (i place : ℕ) : Type 0 where
+  pub inside : place < length s
+  pub byte : getD s place 0 ≡ getD (tailBytes (g .id) (recordAt g s i)) 0 0
+
+module _ (g : Frame) (s : List ℕ) (i : ℕ) {o : ℕ} (t : Stands (recordBytes (g .id)) (RecordOk (g .id)) s o (recordAt g s i)) where
+  pub kind-there : Ready g s → i < g .count → At g s i (getD s o 0)
+  kind-there h n = record { ready = h; inside = n; kind = sym (kind-stands (g .id) t .0) }
+
+  pub tail-there : (k p : ℕ) → At g s i k → p ≡ fixed (g .id) k → 0 < length (tailBytes (g .id) (recordAt g s i)) → TailAt g s i (o + p)
+  tail-there k p a q h =
+      let m = tail-room g s i k 0 p a (q ∙ omega arith) h in
+      record { inside = omega (arith, part-room (a .ready .id .1) t m .inside); byte = tail-byte (g .id) k (recordAt g s i) 0 p (a .kind) (q ∙ omega arith) h (part-reads t m byte-reads) }
 
 -- every kind but Literal and Op has a tail
 pub tail-some : (w : ℕ) (r : Record) → (kindOf r ≡ 8 → ⊥) → (kindOf r ≡ 9 → ⊥) → 0 < length (tailBytes w r)

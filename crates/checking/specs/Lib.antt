@@ -2,5 +2,6 @@
 pub mod Nodes
 pub mod Scoping
 pub mod Walks
+pub mod Masks
 pub mod Definitions
 pub mod Deciding

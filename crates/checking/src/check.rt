@@ -14,14 +14,17 @@ ghost use mathlib.Core.Path.{_≡_};
 ghost use mathlib.Core.Bool.{_&&_};
 ghost use lib.Dec.{leb};
 ghost use lib.ListN.{length};
+ghost use lib.Seq.{sets};
 ghost use Rattle.model.specs.Sizes.{depthDefs};
 ghost use Rattle.format.specs.Reading.{answerOf};
 ghost use Rattle.directory.specs.Slots.{Ready, recordsIn};
 ghost use Rattle.reading.specs.Opening.{Known};
 ghost use Rattle.scope.specs.Flat.{allRecords, smallRecord};
+ghost use Rattle.scope.specs.FreeRows.{rowsDefs};
 ghost use Rattle.scope.specs.Calls.{checking, checkOf};
 ghost use Rattle.checking.specs.Definitions.{defsIn, Defined};
 ghost use Rattle.checking.specs.Deciding.{decided, programIn};
+ghost use Rattle.checking.specs.Masks.{Passed};
 
 // The records of a source (question 7).
 pub const MAX_RECORDS: usize = 2000;
@@ -60,14 +63,15 @@ fn decide(v: Verdict, max_id: u32) -> Answer
     Answer::Refused(Refusal::Limits)
 }
 
-// Questions 6 to 10 of an image that is opened, with d definitions.
-pub fn check_image(s: &[u8], g: Frame, d: usize, max_id: u32) -> Answer
+// Questions 6 to 10 of an image that is opened, with d definitions. If 6, 7 and 8 have a yes, the rows have two masks for each record then. (A
+// mask past the end of the rows is left out.)
+pub fn check_image(s: &[u8], g: Frame, d: usize, max_id: u32, rows: &mut [u64]) -> Answer
     requires { ⌜ Ready g (now s) × Defined d (recordsIn g (now s)) ⌝ }
-    ensures { λ r. ⌜ r ≡ answerOf (checking (programIn d (recordsIn g (now (s .entry))) «max_id»)) ⌝ }
+    ensures { λ r. ⌜ (r ≡ answerOf (checking (programIn d (recordsIn g (now (s .entry))) «max_id»))) × (Passed (programIn d (recordsIn g (now (s .entry))) 0) → now (rows .exit) ≡ sets (now (rows .entry)) 0 (rowsDefs (defsIn d (recordsIn g (now (s .entry)))))) ⌝ }
 {
     if all_plain(s, g) {
         if within_limits(s, g, d) {
-            return decide(walk_definitions(s, g, d, max_id), max_id);
+            return decide(walk_definitions(s, g, d, max_id, rows), max_id);
         }
         return Answer::Refused(Refusal::Limits);
     }
@@ -84,7 +88,10 @@ pub fn check(s: &[u8], l: Layout) -> Answer
             frame,
             definitions,
             max_id,
-        } => check_image(s, frame, definitions, max_id),
+        } => {
+            let mut none = [0u64; 1];
+            check_image(s, frame, definitions, max_id, &mut none)
+        }
         Opened::Closed(question) => Answer::Refused(question),
     }
 }

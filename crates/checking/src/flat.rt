@@ -1,16 +1,17 @@
 // The questions that are asked of each record alone: question 6, and the counts of question 7.
 use directory::Frame;
 use parts::byte;
+use parts::offset;
 use records::kinds::Kind;
 use shape::Node;
 use shape::look;
 ghost use mathlib.Core.Path.{_≡_};
+ghost use mathlib.Core.Bool.{_&&_};
 ghost use Prim.Native.Nat.{_<_};
-ghost use lib.ListN.{drop};
-ghost use Rattle.format.specs.Kinds.{kindOf};
+ghost use lib.Dec.{leb};
+ghost use Rattle.format.specs.Kinds.{clausesOf};
 ghost use Rattle.scope.specs.Flat.{allRecords, plainRecord, smallRecord};
 ghost use Rattle.directory.specs.Slots.{Ready, recordsIn};
-ghost use Rattle.parts.specs.Standing.{headOf};
 ghost use Rattle.checking.specs.Nodes.{recordAt, At, smallEnvironment};
 
 // The largest count in a record of a source (question 7).
@@ -18,22 +19,19 @@ pub const MAX_COUNT: u8 = 32;
 
 // Question 6 of the record at index i.
 fn plain_record(s: &[u8], g: Frame, i: usize) -> bool
-    requires { ⌜ Ready g (now s) ⌝ }
+    requires { ⌜ Ready g (now s) × (i < g .count) ⌝ }
     ensures { λ r. ⌜ r ≡ plainRecord (recordAt g (now (s .entry)) i) ⌝ }
 {
-    match look(s, g, i) {
-        Node::Is { kind, clauses: _ } => {
-            if kind == 2 {
-                return false;
-            }
-            if kind == 6 {
-                let w = g.id;
-                return byte(s, g, i, Kind::fixed(6, w)) == 0;
-            }
-            true
-        }
-        Node::End => true,
+    let at = offset(s, g, i);
+    let kind = s[at];
+    if kind == 2 {
+        return false;
     }
+    if kind == 6 {
+        let w = g.id;
+        return s[at + Kind::fixed(6, w)] == 0;
+    }
+    true
 }
 
 // Question 6: is the image free of Substitute and of environments?
@@ -66,33 +64,43 @@ fn small_environment(s: &[u8], g: Frame, i: usize) -> bool
     byte(s, g, i, mark + 1) <= MAX_COUNT
 }
 
-// The counts in the record at index i (question 7).
-fn small_record(s: &[u8], g: Frame, i: usize) -> bool
-    requires { ⌜ Ready g (now s) ⌝ }
-    ensures { λ r. ⌜ r ≡ smallRecord (recordAt g (now (s .entry)) i) ⌝ }
+// The counts in the Create at index i.
+fn small_create(s: &[u8], g: Frame, i: usize) -> bool
+    requires { ⌜ At g (now s) i 6 ⌝ }
+    ensures { λ r. ⌜ r ≡ (smallEnvironment (recordAt g (now (s .entry)) i) && leb (clausesOf (recordAt g (now (s .entry)) i)) 32) ⌝ }
 {
     match look(s, g, i) {
-        Node::Is { kind, clauses } => {
-            if kind == 8 {
-                return true;
+        Node::Is { kind: _, clauses } => {
+            if small_environment(s, g, i) {
+                return clauses <= MAX_COUNT;
             }
-            if kind == 9 {
-                return true;
-            }
-            if kind == 10 {
-                return true;
-            }
-            if kind == 6 {
-                if small_environment(s, g, i) {
-                    return clauses <= MAX_COUNT;
-                }
-                return false;
-            }
-            let w = g.id;
-            byte(s, g, i, Kind::fixed(kind, w)) <= MAX_COUNT
+            false
         }
-        Node::End => true,
+        Node::End => false,
     }
+}
+
+// The counts in the record at index i (question 7).
+fn small_record(s: &[u8], g: Frame, i: usize) -> bool
+    requires { ⌜ Ready g (now s) × (i < g .count) ⌝ }
+    ensures { λ r. ⌜ r ≡ smallRecord (recordAt g (now (s .entry)) i) ⌝ }
+{
+    let at = offset(s, g, i);
+    let kind = s[at];
+    if kind == 8 {
+        return true;
+    }
+    if kind == 9 {
+        return true;
+    }
+    if kind == 10 {
+        return true;
+    }
+    if kind == 6 {
+        return small_create(s, g, i);
+    }
+    let w = g.id;
+    s[at + Kind::fixed(kind, w)] <= MAX_COUNT
 }
 
 // Is every count in the image at most 32?

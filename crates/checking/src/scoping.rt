@@ -1,17 +1,25 @@
 // Scopes, and what the walk finds at a use and at a binder (questions 8, 9, 10, and the room of question 7).
+// A scope is the first n numbers of a lent array.
+use crate::mask::mask_one;
 use scope::Verdict;
 use syntax::context::TypingContext;
 use syntax::names::VarId;
-use syntax::sets::IdSet;
 ghost use mathlib.Core.Path.{_≡_};
 ghost use mathlib.Core.Bool.{not, _&&_};
-ghost use Rattle.syntax.specs.Arrays.{setOf};
-ghost use Rattle.scope.specs.Walk.{useOne, enterOne};
-ghost use Rattle.checking.specs.Scoping.{Scope, scopedOf, Entered};
+ghost use mathlib.Core.List.{_∷_, []};
+ghost use Rattle.syntax.specs.Sets.{elem};
+ghost use Rattle.scope.specs.Walk.{enterOne};
+ghost use Rattle.checking.specs.Scoping.{scopeIn, ScopeAt, usedAll, scopedOf, Entered};
 
-// A scope, and the verdict with which it was reached.
+// What was used, as a mask over the places in scope, and the verdict.
+pub struct Using {
+    pub mask: u64,
+    pub verdict: Verdict,
+}
+
+// How many are in scope, and the verdict with which the scope was reached.
 pub struct Entering {
-    pub scope: IdSet,
+    pub n: usize,
     pub verdict: Verdict,
 }
 
@@ -27,29 +35,51 @@ fn negated(a: bool) -> bool
     if a { false } else { true }
 }
 
-// A variable is used.
-pub fn use_one(scope: IdSet, id: VarId, v: Verdict) -> Verdict
-    requires { ⌜ Scope scope ⌝ }
-    ensures { λ r. ⌜ r ≡ useOne (setOf scope) id v ⌝ }
+// Is the ID in scope?
+fn contains(scope: &[u32], n: usize, id: VarId) -> bool
+    requires { ⌜ ScopeAt (now scope) n ⌝ }
+    ensures { λ r. ⌜ r ≡ elem id (scopeIn n (now (scope .entry))) ⌝ }
 {
-    let uses = both(v.uses, scope.contains(id));
-    Verdict {
+    let x = id.0;
+    let mut i = 0;
+    while i < n {
+        if x == scope[i] {
+            return true;
+        }
+        i += 1;
+    }
+    false
+}
+
+// A variable is used.
+pub fn use_one(scope: &[u32], n: usize, id: VarId, u: Using) -> Using
+    requires { ⌜ ScopeAt (now scope) n ⌝ }
+    ensures { λ r. ⌜ r ≡ usedAll (scopeIn n (now (scope .entry))) (id ∷ []) u ⌝ }
+{
+    let one = mask_one(scope, n, id);
+    let v = u.verdict;
+    let uses = both(v.uses, one != 0);
+    let verdict = Verdict {
         room: v.room,
         binders: v.binders,
         uses,
         ids: v.ids,
+    };
+    Using {
+        mask: u.mask | one,
+        verdict,
     }
 }
 
 // A binder's ID comes into a scope that has room for it.
-pub fn enter_one(e: Entering, id: VarId, max_id: u32) -> Entering
-    requires { ⌜ Scope (e .scope) ⌝ }
-    ensures { λ r. ⌜ Entered r (enterOne «max_id» id (scopedOf e)) ⌝ }
+pub fn enter_one(scope: &mut [u32], e: Entering, id: VarId, max_id: u32) -> Entering
+    requires { ⌜ ScopeAt (now scope) (e .n) ⌝ }
+    ensures { λ r. ⌜ Entered (e .n) (now (scope .entry)) (now (scope .exit)) r (enterOne «max_id» id (scopedOf (now (scope .entry)) e)) ⌝ }
 {
-    let scope = e.scope;
+    let n = e.n;
     let v = e.verdict;
-    if scope.len < TypingContext::MAX {
-        let binders = both(v.binders, negated(scope.contains(id)));
+    if n < TypingContext::MAX {
+        let binders = both(v.binders, negated(contains(scope, n, id)));
         let ids = both(v.ids, id.0 <= max_id);
         let verdict = Verdict {
             room: v.room,
@@ -57,10 +87,8 @@ pub fn enter_one(e: Entering, id: VarId, max_id: u32) -> Entering
             uses: v.uses,
             ids,
         };
-        return Entering {
-            scope: scope.add(id),
-            verdict,
-        };
+        scope[n] = id.0;
+        return Entering { n: n + 1, verdict };
     }
     let verdict = Verdict {
         room: false,
@@ -68,5 +96,5 @@ pub fn enter_one(e: Entering, id: VarId, max_id: u32) -> Entering
         uses: v.uses,
         ids: v.ids,
     };
-    Entering { scope, verdict }
+    Entering { n, verdict }
 }

@@ -1,26 +1,25 @@
--- The choice by kind: how much a statement of a kind binds, and which of the two sets its step looks at. A step that does not look at a set is
+-- The choice by kind: the last kind of a choice, and which of the two sets a step looks at. A step that does not look at a set is
 -- the same for every set, so its contract with the empty mask does for every mask. Assumes nothing.
-use Prim.Native.Nat.{ℕ, _≤_}
-use mathlib.Core.Path.{_≡_, refl, sym, _∙_, subst}
-use mathlib.Core.Bool.{Bool, true, false, cond}
+use Prim.Native.Nat.{ℕ}
+use mathlib.Core.Path.{_≡_, refl, sym, ap, _∙_, subst}
+use mathlib.Core.Bool.{Bool, true, false, _||_, cond}
 use mathlib.Core.List.{List, [], _∷_}
 use native.Mathlib.Omega.{arith}
-use lib.ListN.{length, getD}
+use borrow.Author.Tests.{eqb-true, ne-eqb}
+use lib.Dec.{eqb}
+use lib.ListN.{getD}
 use Rattle.syntax.specs.declared.names.VarId.{VarId}
 use Rattle.directory.specs.declared.Frame.{Frame}
 use Rattle.format.specs.Records.{Record, definition, substitute, call, let', switch, create, invoke, literal, op, ifc, clause'}
 use Rattle.format.specs.Kinds.{kindOf}
 use Rattle.emit.specs.declared.progress.Progress.{Progress}
-use Rattle.trees.specs.Views.{binders}
 use Rattle.checking.specs.Nodes.{recordAt}
-use Rattle.unpack.proofs.MadeLaws.{made, partsOf}
 use Rattle.unpack.proofs.ListPlaces.{at-made}
 use Rattle.work.specs.Work.{Work}
-use Rattle.held.specs.declared.Held.{Held}
 use Rattle.held.proofs.MaskLaws.{marked-past}
 use Rattle.steps.specs.Steps.{Step, stepOf}
 use Rattle.steps.specs.Fronts.{wanted, rightOf, frontRecords, frontBytes, tailSize}
-use Rattle.stepping.specs.Stepping.{Says, RoomAt, SourceAt, Workable, Steps, StepsAs, OpensAs}
+use Rattle.stepping.specs.Stepping.{Says, SourceAt, Steps, StepsAs, Leaves, LeavesAs, OpensAs}
 use Rattle.stepping.specs.declared.stepped.Stepped.{Stepped}
 use Rattle.stepping.specs.declared.stepped.Opened.{Opened}
 
@@ -29,13 +28,9 @@ use Rattle.stepping.specs.declared.stepped.Opened.{Opened}
 pub source-as : {g : Frame} {s : List ℕ} {i kind : ℕ} (k : ℕ) → kind ≡ k → SourceAt g s i kind → SourceAt g s i k
 source-as {g} {s} {i} k e a = subst (λ (z : ℕ). SourceAt g s i z) e a
 
--- the room for what the record binds, by its kind
-pub step-ready : {g : Frame} {s : List ℕ} {i kind : ℕ} {held : Held} {n : ℕ} {p : Progress} (k : ℕ) → kind ≡ k
-    → SourceAt g s i kind × ((3 ≤ kind) × ((kind ≤ 10) × (Workable held n (length (binders (recordAt g s i))) × RoomAt p)))
-    → SourceAt g s i k × (Workable held n (length (binders (made (recordAt g s i) (partsOf (recordAt g s i)) k))) × RoomAt p)
-step-ready {g} {s} {i} {kind} {held} {n} {p} k e h =
-    let a = source-as k e (h .0) in
-    (a, (subst (λ (r : Record). Workable held n (length (binders r))) (at-made k (a .at)) (h .1 .1 .1 .0), h .1 .1 .1 .1))
+-- one of three kinds, and neither of the first two
+pub last-of : {kind : ℕ} (a b k : ℕ) → (eqb kind a || (eqb kind b || eqb kind k)) ≡ true → (kind ≡ a → ⊥) → (kind ≡ b → ⊥) → kind ≡ k
+last-of {kind} a b k e x y = eqb-true kind k (sym (ap (λ (t : Bool). t || (eqb kind b || eqb kind k)) (ne-eqb kind a x) ∙ ap (λ (t : Bool). t || eqb kind k) (ne-eqb kind b y)) ∙ e)
 
 -- ── which sets are looked at ──
 
@@ -72,17 +67,24 @@ says-seen : (b : Bool) {mask : ℕ} {s : List VarId} {W : Work} → Says mask s 
 says-seen true h = h
 says-seen false {W = W} h = says-none W
 
-pub steps-as : {g : Frame} {s : List ℕ} {i kind w clauses next : ℕ} {W : Work} {n : ℕ} {out out′ lengths lengths′ : List ℕ} {p : Progress} {r : Stepped} (k : ℕ) → kind ≡ k → SourceAt g s i kind
-    → StepsAs w (recordAt g s i) (cond (seesClauses k) clauses 0) (cond (seesNext k) next 0) W n out out′ lengths lengths′ p r
-    → StepsAs w (recordAt g s i) clauses next W n out out′ lengths lengths′ p r
-steps-as {g} {s} {i} {kind} {w} {clauses} {next} {W} {n} {out} {out′} {lengths} {lengths′} {p} {r} k e a h =
-    let same : (fc fn : List VarId) → stepOf (recordAt g s i) (seen (seesClauses k) fc) (seen (seesNext k) fn) ≡ stepOf (recordAt g s i) fc fn =
-    λ fc fn. subst (λ (z : ℕ). stepOf (recordAt g s i) (seen (seesClauses z) fc) (seen (seesNext z) fn) ≡ stepOf (recordAt g s i) fc fn) (a .at .kind ∙ e) (step-sees (recordAt g s i) fc fn) in
-    record {
-      steps = λ fc fn x y.
-          subst (λ (f : Work → (n m : ℕ) → Step). Steps w out out′ lengths lengths′ p r (f W n (p .«max_id»))) (same fc fn)
-          (h .steps (seen (seesClauses k) fc) (seen (seesNext k) fn) (says-seen (seesClauses k) x) (says-seen (seesNext k) y));
-    }
+-- what holds of the step for whatever sets the masks say that are looked at, holds for whatever sets all masks say
+module _ {g : Frame} {s : List ℕ} {i kind clauses next : ℕ} {W : Work} (k : ℕ) (e : kind ≡ k) (a : SourceAt g s i kind) where
+  as-seen : (P : (Work → (n m : ℕ) → Step) → Type 0)
+      → ((fc fn : List VarId) → Says (cond (seesClauses k) clauses 0) fc W → Says (cond (seesNext k) next 0) fn W → P (stepOf (recordAt g s i) fc fn))
+      → (fc fn : List VarId) → Says clauses fc W → Says next fn W → P (stepOf (recordAt g s i) fc fn)
+  as-seen P h fc fn x y =
+      let same : stepOf (recordAt g s i) (seen (seesClauses k) fc) (seen (seesNext k) fn) ≡ stepOf (recordAt g s i) fc fn =
+      subst (λ (z : ℕ). stepOf (recordAt g s i) (seen (seesClauses z) fc) (seen (seesNext z) fn) ≡ stepOf (recordAt g s i) fc fn) (a .at .kind ∙ e) (step-sees (recordAt g s i) fc fn) in
+      subst P same (h (seen (seesClauses k) fc) (seen (seesNext k) fn) (says-seen (seesClauses k) x) (says-seen (seesNext k) y))
+
+  module _ {w n : ℕ} {out out′ lengths lengths′ : List ℕ} {p : Progress} where
+    pub steps-as : {r : Stepped} → StepsAs w (recordAt g s i) (cond (seesClauses k) clauses 0) (cond (seesNext k) next 0) W n out out′ lengths lengths′ p r
+        → StepsAs w (recordAt g s i) clauses next W n out out′ lengths lengths′ p r
+    steps-as {r} h = record { steps = as-seen (λ f. Steps w out out′ lengths lengths′ p r (f W n (p .«max_id»))) (h .steps) }
+
+    pub leaves-as : {r : Progress} → LeavesAs w (recordAt g s i) (cond (seesClauses k) clauses 0) (cond (seesNext k) next 0) W n out out′ lengths lengths′ p r
+        → LeavesAs w (recordAt g s i) clauses next W n out out′ lengths lengths′ p r
+    leaves-as {r} h = record { leaves = as-seen (λ f. Leaves w out out′ lengths lengths′ p r (f W n (p .«max_id»))) (h .leaves) }
 
 -- what comes before the clauses of a Switch does not look at the set of the bodies
 switch-sees : {v t n w clauses next W p r : _} → OpensAs w (switch v t n) clauses 0 W p r → OpensAs w (switch v t n) clauses next W p r

@@ -1,51 +1,54 @@
--- What stands before a body: the record written as it is, and its parameters in the context. Assumes nothing.
-use Prim.Native.Nat.{ℕ, _+_, _≤_}
-use mathlib.Core.Path.{_≡_, sym, ap, _∙_, subst}
-use mathlib.Core.Bool.{Bool, true, cond}
-use mathlib.Core.List.{List, [], _++_}
+-- What stands before a body: the record read and written as it is, and its parameters in the context. Assumes nothing.
+use Prim.Native.Nat.{ℕ, _+_}
+use mathlib.Core.Path.{_≡_, refl, sym, ap, _∙_, subst}
+use mathlib.Core.Bool.{Bool, cond}
+use mathlib.Core.List.{List, _∷_, _++_}
+use mathlib.Core.Logic.{inl, inr}
 use native.Mathlib.Omega.{arith}
-use borrow.Author.Tests.{leb-true}
-use lib.Dec.{leb}
-use lib.ListN.{length}
 use Rattle.syntax.specs.Arrays.{contextOf}
-use Rattle.syntax.specs.declared.context.TypingContext.{TypingContext}
+use Rattle.syntax.specs.Context.{Context}
+use Rattle.format.specs.Fields.{identifierBytes, listBytes}
 use Rattle.format.specs.Records.{Record, recordBytes}
+use Rattle.format.specs.Kinds.{kindOf}
+use Rattle.directory.specs.declared.Frame.{Frame}
 use Rattle.put.specs.Puts.{Puts}
+use Rattle.put.proofs.Putting.{puts-as}
 use Rattle.emit.specs.Emitting.{Noted}
 use Rattle.emit.specs.declared.progress.Progress.{Progress}
 use Rattle.emit.proofs.EmitLaws.{emits-one}
-use Rattle.scope.specs.Flat.{smallRecord}
 use Rattle.parts.specs.Parts.{listOf}
-use Rattle.unpack.specs.Unpacked.{Unpacked}
+use Rattle.checking.specs.Nodes.{firstOf}
+use Rattle.unpack.specs.Unpacked.{NamedAt, NamedIs}
+use Rattle.unpack.specs.declared.NameAndList.{NameAndList}
+use Rattle.unpack.proofs.MadeLaws.{made-of}
+use Rattle.unpack.proofs.ListPlaces.{named-at}
 use Rattle.work.specs.Work.{Work, owns}
-use Rattle.work.proofs.Lengths.{owns-length}
-use Rattle.held.specs.Holding.{workOf, HoldsWork}
-use Rattle.held.specs.declared.Held.{Held}
-use Rattle.stepping.specs.Stepping.{Steps}
+use Rattle.held.specs.Holding.{HoldsWork}
+use Rattle.stepping.specs.Stepping.{SourceAt, Steps}
 use Rattle.stepping.specs.declared.stepped.Stepped.{Stepped}
-use Rattle.dispatch.specs.Entering.{entering}
+use Rattle.dispatch.specs.Entering.{Enters, entering}
+use Rattle.dispatch.proofs.DispatchLaws.{source-as}
 
--- as many parameters as the record's list has
-pub params-count : {r meant : Record} {params : TypingContext} → Unpacked r meant params → listOf meant ≡ contextOf params → params .len ≡ length (listOf r)
-params-count {r} {meant} {params} u e = u .count ∙ ap length (sym e) ∙ ap (λ (x : Record). length (listOf x)) (sym (u .is))
+-- it is an identifier and a list that an array has room for
+pub enters-named : {g : Frame} {s : List ℕ} {i kind : ℕ} → Enters kind → SourceAt g s i kind → NamedAt g s i
+enters-named (inl e) a = let b = source-as 1 e a in named-at 1 (b .at) refl refl (omega arith) refl (b .small)
+enters-named (inr e) a = let b = source-as 11 e a in named-at 11 (b .at) refl refl (omega arith) refl (b .small)
 
--- question 7: 32 at most
-pub params-few : {r meant : Record} {params : TypingContext} → Unpacked r meant params → smallRecord meant ≡ leb (length (contextOf params)) 32 → smallRecord r ≡ true → params .len ≤ 32
-params-few {r} {meant} {params} u e h = omega (arith, u .count, leb-true (length (contextOf params)) 32 (sym e ∙ (ap smallRecord (sym (u .is)) ∙ h)))
+-- it is written as its kind, its identifier and its list
+pub enters-bytes : {kind : ℕ} (w : ℕ) (r : Record) → Enters kind → kindOf r ≡ kind → recordBytes w r ≡ kind ∷ (identifierBytes w (firstOf r) ++ listBytes w (listOf r))
+unfolding recordBytes
+enters-bytes w r (inl e) k = ap (recordBytes w) (made-of r 1 (k ∙ e)) ∙ ap (λ (z : ℕ). z ∷ (identifierBytes w (firstOf r) ++ listBytes w (listOf r))) (sym e)
+enters-bytes w r (inr e) k = ap (recordBytes w) (made-of r 11 (k ∙ e)) ∙ ap (λ (z : ℕ). z ∷ (identifierBytes w (firstOf r) ++ listBytes w (listOf r))) (sym e)
 
--- owned by themselves, then put before others
-pub owned-alone : {none alone : Held} {O : Work} → HoldsWork none [] → HoldsWork alone (workOf none ++ O) → HoldsWork alone O
-owned-alone {none} {alone} {O} n h = subst (λ (W : Work). HoldsWork alone (W ++ O)) (n .list) h
-
-pub owned-count : {none alone : Held} (n : ℕ) (params : TypingContext) → HoldsWork none [] → HoldsWork alone (workOf none ++ owns n (contextOf params)) → params .len ≡ length (contextOf params) → alone .len ≡ params .len
-owned-count n params e h k = owned-alone e h .count ∙ (owns-length n (contextOf params) ∙ sym k)
-
-pub owned-before : {alone all : Held} {O : Work} (W : Work) → HoldsWork alone O → HoldsWork all (workOf alone ++ W) → HoldsWork all (O ++ W)
-owned-before {alone} {all} {O} W a h = subst (λ (z : Work). HoldsWork all (z ++ W)) (a .list) h
-
-pub enters : {w : ℕ} {r : Record} (meant : Record) {before : Bool} (b : Bool) (W : Work) (n : ℕ) {out out′ lengths lengths′ : List ℕ} {p : Progress} {next : ℕ} {x : Stepped}
-    → r ≡ meant → before ≡ b → Puts out out′ (p .at) next (recordBytes w meant) → Noted (x .progress) p next lengths lengths′
-    → HoldsWork (x .context) (cond b (owns n (listOf meant) ++ W) (W ++ owns n (listOf meant))) → x .«in_scope» ≡ n + length (listOf meant)
+pub enters : {w kind : ℕ} {r : Record} {before : Bool} (b : Bool) (W : Work) (n : ℕ) {out out′ lengths lengths′ : List ℕ} {p : Progress} {next : ℕ} {a : NameAndList} {x : Stepped}
+    → Enters kind → kindOf r ≡ kind → NamedIs a r → before ≡ b
+    → Puts out out′ (p .at) next (kind ∷ (identifierBytes w (a .name) ++ listBytes w (contextOf (a .list)))) → Noted (x .progress) p next lengths lengths′
+    → HoldsWork (x .context) (cond b (owns n (contextOf (a .list)) ++ W) (W ++ owns n (contextOf (a .list)))) → x .«in_scope» ≡ n + a .list .len
     → Steps w out out′ lengths lengths′ p x (entering r before W n (p .«max_id»))
 unfolding entering
-enters meant b W n e t u m h s = rw (e, t) record { emits = emits-one meant u m; context = h; inScope = s; maxId = m .maxId }
+enters {w} {kind} {r} b W n {x = x} k e a t u m h s = rw t record {
+  emits = emits-one r (puts-as ((λ i. kind ∷ (identifierBytes w (a .name i) ++ listBytes w (a .list .list i))) ∙ sym (enters-bytes w r k e)) u) m;
+  context = subst (λ (Γ : Context). HoldsWork (x .context) (cond b (owns n Γ ++ W) (W ++ owns n Γ))) (a .list .list) h;
+  inScope = s ∙ ap (λ (l : ℕ). n + l) (a .list .count);
+  maxId = m .maxId;
+}

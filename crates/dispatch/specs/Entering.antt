@@ -1,12 +1,18 @@
 -- What stands before the body of a clause or of a definition.
 use Prim.Native.Nat.{ℕ, _+_}
+use mathlib.Core.Path.{_≡_}
 use mathlib.Core.Bool.{Bool, cond}
+use mathlib.Core.Logic.{_⊎_}
 use mathlib.Core.List.{[], _∷_, _++_}
 use lib.ListN.{length}
 use Rattle.format.specs.Records.{Record}
 use Rattle.parts.specs.Parts.{listOf}
 use Rattle.work.specs.Work.{Work, owns}
 use Rattle.steps.specs.Steps.{Step}
+
+-- document 01, "The image": 1 definition, 11 clause
+abbrev pub Enters : (kind : ℕ) → Type 0
+Enters kind = (kind ≡ 1) ⊎ (kind ≡ 11)
 
 -- document 01, "The Rust": the record stays as it is, and its parameters join the context, before it or behind it
 unfoldable pub entering : Record → (before : Bool) → Work → (n m : ℕ) → Step

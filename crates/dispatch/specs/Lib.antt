@@ -1,2 +1,3 @@
--- What stands before a body.
+-- What stands before a body, and which statements a step is for.
 pub mod Entering
+pub mod Choices

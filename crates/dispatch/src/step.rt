@@ -13,11 +13,10 @@ use statements::op;
 use stepping::stepped::Opened;
 use stepping::stepped::Stepped;
 ghost use Prim.Native.Nat.{_≤_};
-ghost use lib.ListN.{length};
-ghost use Rattle.trees.specs.Views.{binders};
 ghost use Rattle.checking.specs.Nodes.{recordAt};
 ghost use Rattle.held.specs.Holding.{workOf};
-ghost use Rattle.stepping.specs.Stepping.{RoomAt, SourceAt, Workable, OpensAs, StepsAs};
+ghost use Rattle.stepping.specs.Stepping.{RoomAt, SourceAt, Workable, OpensAs, StepsAs, LeavesAs};
+ghost use Rattle.dispatch.specs.Choices.{Binds, Settles};
 
 // What comes before the clauses of a Switch or a Create.
 pub fn open(
@@ -39,8 +38,8 @@ pub fn open(
     create::open(s, g, i, free_vars_clauses, free_vars_next, context, p)
 }
 
-// The step of a statement, once its clauses are done if it has any.
-pub fn step(
+// The step of a statement that binds, and has no clauses: Let, Literal or Op.
+pub fn bind(
     s: &[u8],
     g: Frame,
     i: usize,
@@ -53,19 +52,37 @@ pub fn step(
     lengths: &mut [usize],
     p: Progress,
 ) -> Stepped
-    requires { ⌜ SourceAt g (now s) i kind × ((3 ≤ kind) × ((kind ≤ 10) × (Workable context «in_scope» (length (binders (recordAt g (now s) i))) × RoomAt p))) ⌝ }
+    requires { ⌜ SourceAt g (now s) i kind × (Binds kind × (Workable context «in_scope» 1 × RoomAt p)) ⌝ }
     ensures { λ r. ⌜ StepsAs (g .id) (recordAt g (now (s .entry)) i) «free_vars_clauses» «free_vars_next» (workOf context) «in_scope» (now (out .entry)) (now (out .exit)) (now (lengths .entry)) (now (lengths .exit)) p r ⌝ }
 {
-    let clauses = free_vars_clauses;
     let next = free_vars_next;
     match kind {
-        3 => call::linearize(s, g, i, context, in_scope, out, lengths, p),
         4 => let_::linearize(s, g, i, next, context, in_scope, out, lengths, p),
-        5 => switch::linearize(s, g, i, clauses, context, in_scope, out, lengths, p),
-        6 => create::linearize(s, g, i, clauses, next, context, in_scope, out, lengths, p),
-        7 => invoke::linearize(s, g, i, context, in_scope, out, lengths, p),
         8 => literal::linearize(s, g, i, next, context, in_scope, out, lengths, p),
-        9 => op::linearize(s, g, i, next, context, in_scope, out, lengths, p),
+        _ => op::linearize(s, g, i, next, context, in_scope, out, lengths, p),
+    }
+}
+
+// The step of a statement that binds nothing, and has no clauses: Call, Invoke or IfC. The context stays.
+pub fn settle(
+    s: &[u8],
+    g: Frame,
+    i: usize,
+    kind: u8,
+    free_vars_clauses: u64,
+    free_vars_next: u64,
+    context: Held,
+    in_scope: u8,
+    out: &mut [u8],
+    lengths: &mut [usize],
+    p: Progress,
+) -> Progress
+    requires { ⌜ SourceAt g (now s) i kind × (Settles kind × (Workable context «in_scope» 0 × RoomAt p)) ⌝ }
+    ensures { λ r. ⌜ LeavesAs (g .id) (recordAt g (now (s .entry)) i) «free_vars_clauses» «free_vars_next» (workOf context) «in_scope» (now (out .entry)) (now (out .exit)) (now (lengths .entry)) (now (lengths .exit)) p r ⌝ }
+{
+    match kind {
+        3 => call::linearize(s, g, i, context, in_scope, out, lengths, p),
+        7 => invoke::linearize(s, g, i, context, in_scope, out, lengths, p),
         _ => ifc::linearize(s, g, i, context, in_scope, out, lengths, p),
     }
 }

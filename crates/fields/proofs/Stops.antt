@@ -105,6 +105,9 @@ stop-number s b w at = go (leb (at + w) (length s)) refl (leb at (length s)) ref
 read-ok : {A : Type 0} {e : A → List ℕ} {P : A → Type 0} {l : List ℕ} {a : A} {m : List ℕ} → Sound e P l (got a m) → P a
 read-ok (one-read pa ea) = pa
 
+read-bytes : {A : Type 0} {e : A → List ℕ} {P : A → Type 0} {l : List ℕ} {a : A} {m : List ℕ} → Sound e P l (got a m) → l ≡ e a ++ m
+read-bytes (one-read pa ea) = ea
+
 -- a number of at most three bytes
 pub number-small : (k : ℕ) (l : List ℕ) (n : ℕ) (m : List ℕ) → k ≤ 3 → number k l ≡ got n m → n < 16777216
 number-small k l n m h e =
@@ -116,6 +119,13 @@ number-small k l n m h e =
 pub number-step : (s : List ℕ) → ((i : ℕ) → getD s i 0 ≤ 255) → (k at n v : ℕ) (m : List ℕ) → at < length s → v ≡ getD s at 0 + 256 * n
     → number k (drop (suc at) s) ≡ got n m → number (suc k) (drop at s) ≡ got v m
 number-step s b k at n v m h q e = rw (drop-cons s at 0 h, le-leb _ _ (b at), e, q)
+
+-- a number of two bytes
+pub number-pair : (s : List ℕ) → ((i : ℕ) → getD s i 0 ≤ 255) → (at : ℕ) → at + 2 ≤ length s
+    → number 2 (drop at s) ≡ got (getD s at 0 + 256 * getD s (at + 1) 0) (drop (at + 2) s)
+number-pair s b at h =
+    let p : at + 2 ≡ suc (suc at) = omega arith in
+    rw (p, add-one) (number-step s b 1 at (getD s (suc at) 0) _ _ (omega arith) refl (number-step s b 0 (suc at) 0 _ _ (omega arith) (omega arith) refl))
 
 found-within : {X A : Type 0} (n : ℕ) (r : Parsed X A) → Within n (foundIn n r)
 found-within n refused = tt
@@ -159,6 +169,18 @@ stop-past p s at h e = rw (drop-of-length-le s h, e) (go (leb at (length s)))
 
 pub stop-zeros : (n : ℕ) (s : List ℕ) (f : Found) → stop (zeros (suc n)) s f ≡ stop (zeros n) s (stop (code 0) s f)
 stop-zeros n s f = stop-then (zeros n) (code-exact 0) s f
+
+zero-pair : (l m : List ℕ) → number 2 l ≡ got 0 m → l ≡ 0 ∷ 0 ∷ m
+zero-pair l m e = read-bytes (subst (Sound (field 2) (λ n. n < 256 ^ 2) l) e (number-exact 2 .right l))
+
+-- two numbers that are 0
+pub zero-pairs : (s : List ℕ) (at : ℕ) → at + 2 + 2 ≤ length s → number 2 (drop at s) ≡ got 0 (drop (at + 2) s)
+    → number 2 (drop (at + 2) s) ≡ got 0 (drop (at + 2 + 2) s) → stop (zeros 4) s (At at) ≡ At (at + 2 + 2)
+unfolding stop
+zero-pairs s at h p q =
+    let i : at ≤ length s = omega arith in
+    let e : length s - (length s - (at + 2 + 2)) ≡ at + 2 + 2 = omega arith in
+    rw (le-leb _ _ i, zero-pair (drop at s) _ p, zero-pair (drop (at + 2) s) _ q, length-drop, e)
 
 -- a parser that reads nothing
 pub stop-none : {X A : Type 0} (a : A) (s : List X) (f : Found) → Within (length s) f → stop (λ l. got a l) s f ≡ f

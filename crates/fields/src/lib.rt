@@ -1,12 +1,14 @@
 // The fields of an image: reading a number, and going past each part of a record.
 use format::Layout;
 ghost use mathlib.Core.Path.{_≡_};
+ghost use mathlib.Core.Bool.{true};
 ghost use Prim.Native.Nat.{_+_, _≤_, _<_};
 ghost use lib.Dec.{leb};
 ghost use lib.ListN.{length, drop};
 ghost use Rattle.format.specs.Parse.{got, number, code, zeros, times, counted, marked};
 ghost use Rattle.format.specs.Fields.{maxCount, identifier, type, binding, pair, list};
 ghost use Rattle.fields.specs.Found.{stop, Within};
+ghost use Rattle.fields.specs.declared.Found.the-variants.{At};
 
 // A position in a slice, or nothing where what was looked for is not there.
 pub enum Found {
@@ -31,6 +33,9 @@ pub fn number(s: &[u8], at: usize, w: usize) -> u32
     requires { ⌜ (at + w ≤ length (now s)) × (w ≤ 4) ⌝ }
     ensures { λ r. ⌜ «number» w (drop at (now (s .entry))) ≡ got r (drop (at + w) (now (s .entry))) ⌝ }
 {
+    if w == 2 {
+        return wide(s[at]) + 256 * wide(s[at + 1]);
+    }
     let mut n: u32 = 0;
     let mut i = w;
     while 0 < i {
@@ -130,12 +135,49 @@ pub fn skip_type(s: &[u8], w: usize, f: Found) -> Found
     }
 }
 
+// Are IDs of two bytes, and the ten bytes from at a binding? A no decides nothing.
+fn short_binding(s: &[u8], w: usize, at: usize) -> bool
+    ensures { λ r. ⌜ (r ≡ true → (at + 10 ≤ length (now (s .entry))) × (stop (binding w) (now (s .entry)) (At at) ≡ At (at + 10))) ⌝ }
+{
+    if w != 2 {
+        return false;
+    }
+    if s.len() < at {
+        return false;
+    }
+    if s.len() - at < 10 {
+        return false;
+    }
+    if 2 < s[at + 4] {
+        return false;
+    }
+    let tag = s[at + 5];
+    if tag == 1 {
+        return true;
+    }
+    if tag != 0 {
+        return false;
+    }
+    if number(s, at + 6, 2) != 0 {
+        return false;
+    }
+    number(s, at + 8, 2) == 0
+}
+
 // Past a binding: an identifier, a chirality and a type.
 pub fn skip_binding(s: &[u8], w: usize, f: Found) -> Found
     requires { ⌜ w ≤ 8 ⌝ }
     ensures { λ r. ⌜ r ≡ stop (binding w) (now (s .entry)) f ⌝ }
 {
-    skip_type(s, w, skip_code(s, 2, skip_identifier(s, w, f)))
+    match f {
+        Found::At(at) => {
+            if short_binding(s, w, at) {
+                return Found::At(at + 10);
+            }
+            skip_type(s, w, skip_code(s, 2, skip_identifier(s, w, Found::At(at))))
+        }
+        Found::Nothing => Found::Nothing,
+    }
 }
 
 // Past n bindings.

@@ -5,12 +5,13 @@ use mathlib.Core.List.{[], _∷_, _++_}
 use Prim.Native.Nat.{ℕ, zero, suc, _+_, _-_, _≤_, _<_}
 use native.Mathlib.Omega.{arith}
 use native.Mathlib.Nat.{add-comm}
-use lib.ListN.{length, take, drop, getD, length-map, length-drop, List·getD-map}
+use lib.ListN.{length, take, drop, getD, length-map, length-drop, length-append, List·getD-map}
 use lib.Seq.{getD-take, getD-drop, length-take-le}
 use Rattle.syntax.specs.Context.{Context, idOf, ids, emptyBinding}
 use Rattle.syntax.specs.declared.context.ContextBinding.{ContextBinding}
 use Rattle.work.specs.declared.Entry.{Entry}
 use Rattle.work.specs.Work.{Work, bindings, own, owns, movedBehind, respell, respelled}
+use Rattle.work.proofs.Lengths.{owns-length}
 use Rattle.held.specs.Holding.{emptyEntry}
 use Rattle.held.proofs.Stores.{mapped-at, mapped-count, joined-left, joined-right, joined-behind}
 
@@ -31,6 +32,31 @@ pub owns-at : (n : ℕ) (Γ : Context) (i place : ℕ) (d : Entry) (z : ContextB
 owns-at n [] i place d z h e = absurd (omega arith)
 owns-at n (b ∷ Γ) zero place d z h e = let q : place ≡ n = omega arith in ap (λ (k : ℕ). own k b) q
 owns-at n (b ∷ Γ) (suc i) place d z h e = owns-at (n + 1) Γ i place d z (omega arith) (omega arith)
+
+-- of an array's first n
+binder-at : (bs : Context) (n i from place : ℕ) → i < n → n ≤ length bs → place ≡ from + i → own place (getD bs i emptyBinding) ≡ getD (owns from (take n bs)) i emptyEntry
+binder-at bs n i from place k r e =
+    ap (own place) (sym (getD-take n bs i emptyBinding k))
+    ∙ owns-at from (take n bs) i place emptyEntry emptyBinding (rw (length-take-le n bs r) k) e
+
+-- behind `start` entries
+pub owned-behind : (p : Work) (bs : Context) (n start from i at place : ℕ) → length p ≡ start → i < n → n ≤ length bs → at ≡ start + i → place ≡ from + i →
+    own place (getD bs i emptyBinding) ≡ getD (p ++ owns from (take n bs)) at emptyEntry
+owned-behind p bs n start from i at place h k r q e = rw q (binder-at bs n i from place k r e ∙ sym (joined-behind p (owns from (take n bs)) start emptyEntry h i))
+
+-- before the first n of an array
+module _ (bs : Context) (k from : ℕ) (es : Work) (n : ℕ) (h : k ≤ length bs) where
+  binders-count : length (owns from (take k bs)) ≡ k
+  binders-count = owns-length from (take k bs) ∙ length-take-le k bs h
+
+  pub under-count : n ≤ length es → length (owns from (take k bs) ++ take n es) ≡ k + n
+  under-count r = omega (arith, length-append (owns from (take k bs)) (take n es), binders-count, length-take-le n es r)
+
+  pub under-left : (i : ℕ) → i < k → own (from + i) (getD bs i emptyBinding) ≡ getD (owns from (take k bs) ++ take n es) i emptyEntry
+  under-left i r = binder-at bs k i from (from + i) r h refl ∙ sym (joined-left (owns from (take k bs)) (take n es) k emptyEntry binders-count i r)
+
+  pub under-right : (i : ℕ) → k ≤ i → i < k + n → getD es (i - k) emptyEntry ≡ getD (owns from (take k bs) ++ take n es) i emptyEntry
+  under-right i r q = sym (joined-right (owns from (take k bs)) (take n es) k emptyEntry binders-count i r ∙ getD-take n es (i - k) emptyEntry (omega arith))
 
 -- ── moved ──
 
@@ -65,15 +91,3 @@ pub respelled-count : (W : Work) (T : Context) → length T ≡ length W → len
 respelled-count [] T q = refl
 respelled-count (e ∷ W) [] q = absurd (omega arith)
 respelled-count (e ∷ W) (b ∷ T) q = ap suc (respelled-count W T (omega arith))
-
--- ── behind the first of an array ──
-
-module _ (p : Work) (n start i at : ℕ) (h : length p ≡ start) (k : i < n) (q : at ≡ start + i) where
-  pub appended-at : (es : Work) → getD es i emptyEntry ≡ getD (p ++ take n es) at emptyEntry
-  appended-at es = rw q (sym (joined-behind p (take n es) start emptyEntry h i ∙ getD-take n es i emptyEntry k))
-
-  pub owned-at : (bs : Context) (from place : ℕ) → n ≤ length bs → place ≡ from + i → own place (getD bs i emptyBinding) ≡ getD (p ++ owns from (take n bs)) at emptyEntry
-  owned-at bs from place r e = rw q (
-      ap (own place) (sym (getD-take n bs i emptyBinding k))
-      ∙ owns-at from (take n bs) i place emptyEntry emptyBinding (rw (length-take-le n bs r) k) e
-      ∙ sym (joined-behind p (owns from (take n bs)) start emptyEntry h i))

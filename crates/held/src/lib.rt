@@ -251,21 +251,28 @@ impl Held {
         out
     }
 
-    pub fn append(self, other: Held) -> Self
-        requires { ⌜ self .len + other .len ≤ 64 ⌝ }
-        ensures { λ r. ⌜ HoldsWork r (workOf self ++ workOf other) ⌝ }
+    // Binders before the entries, the first at the n-th place in scope.
+    pub fn under(self, n: u8, params: TypingContext) -> Self
+        requires { ⌜ (self .len + params .len ≤ 64) × (n + params .len < 256) ⌝ }
+        ensures { λ r. ⌜ HoldsWork r (owns n (contextOf params) ++ workOf self) ⌝ }
     {
-        let count = other.len;
+        let k = params.len;
+        let count = k + self.len;
         let mut out = self;
-        let mut at = self.len;
         let mut i = 0;
         while i < count {
-            let e = other.entries[i];
-            out.entries[at] = e;
-            at += 1;
-            i += 1;
+            if i < k {
+                let b = params.bindings[i];
+                let place = n + (i as u8);
+                out.entries[i] = owned(place, b);
+                i += 1;
+            } else {
+                let e = self.entries[i - k];
+                out.entries[i] = e;
+                i += 1;
+            }
         }
-        out.len = at;
+        out.len = count;
         out
     }
 

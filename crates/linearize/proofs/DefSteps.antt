@@ -6,7 +6,6 @@ use mathlib.Core.List.{List, [], _∷_, _++_}
 use native.Mathlib.Omega.{arith}
 use lib.ListN.{length}
 use Rattle.syntax.specs.Context.{ids}
-use Rattle.syntax.specs.declared.names.VarId.{VarId}
 use Rattle.model.specs.Syntax.{Stmt, Def}
 use Rattle.model.specs.FreeVars.{freeVars}
 use Rattle.format.specs.Records.{Record, definition}
@@ -17,18 +16,21 @@ use Rattle.directory.proofs.Places.{records-length}
 use Rattle.emit.specs.Emitting.{Emits}
 use Rattle.emit.specs.declared.progress.Progress.{Progress}
 use Rattle.parts.specs.Standing.{headOf}
+use Rattle.parts.specs.Parts.{listOf}
 use Rattle.trees.specs.Places.{stmtAt, Begins}
 use Rattle.trees.proofs.PlaceLaws.{begins-left, begins-right}
 use Rattle.scope.specs.FreeRows.{maskOf, rowUnder, rowsStmt, rowsDefs}
 use Rattle.scope.proofs.FreeViews.{rows-length}
 use Rattle.checking.specs.Nodes.{recordAt}
 use Rattle.checking.proofs.DefLaws.{DefsLeft, DefNext, defOf, def-turn, def-kind, defs-end}
-use Rattle.work.specs.Work.{owns, workStmt, workDefs}
-use Rattle.work.specs.Placed.{AllFit, AllFitDefs}
-use Rattle.held.specs.Holding.{workOf}
+use Rattle.work.specs.Work.{Work, owns, workStmt, workDefs}
+use Rattle.work.specs.Placed.{AllFitDefs}
+use Rattle.work.proofs.Rooms.{here-fits}
+use Rattle.held.specs.Holding.{workOf, HoldsWork}
+use Rattle.held.specs.declared.Held.{Held}
 use Rattle.steps.proofs.WorkViews.{defDone, defsDone, defs-view}
 use Rattle.steps.proofs.StepBounds.{defs-rise}
-use Rattle.stepping.specs.Stepping.{RoomAt, SourceAt, Steps}
+use Rattle.stepping.specs.Stepping.{RoomAt, SourceAt, Workable, Steps}
 use Rattle.stepping.specs.declared.stepped.Stepped.{Stepped}
 use Rattle.dispatch.specs.Entering.{entering}
 use Rattle.linearize.specs.Walking.{Sources, StmtAhead, DefsAhead, Writes, LinearizedTo}
@@ -81,9 +83,18 @@ module _ {g : Frame} {s rows : List ℕ} (q : Sources g s) {d : ℕ} {all : List
   pub def-room : RoomAt (z .progress)
   def-room = room-here (x .holds .writing .room) (defs-rise (this ∷ x .rest) m)
 
-  module _ {out₁ lengths₁ : List ℕ} {st : Stepped} (y : Steps (g .id) out′ out₁ lengths′ lengths₁ (z .progress) st (entering (recordAt g s (z .next)) false [] 0 m)) where
+  pub def-workable : {none : Held} → HoldsWork none [] → Workable none 0 (length (listOf (recordAt g s (z .next))))
+  def-workable o =
+      let b = here-fits t _ _ _ (x .holds .fits .0) .room in
+      let e = ap (λ (r : Record). length (listOf r)) isDefinition in
+      record { count = o .count ∙ sym (ap length (o .list)); room = omega (arith, o .count, b, e); places = omega (arith, b, e) }
+
+  module _ {none : Held} (o : HoldsWork none []) {out₁ lengths₁ : List ℕ} {st : Stepped}
+      (y : Steps (g .id) out′ out₁ lengths′ lengths₁ (z .progress) st (entering (recordAt g s (z .next)) false (workOf none) 0 m)) where
     here : Entered (g .id) out′ out₁ lengths′ lengths₁ (z .progress) st (definition (x .name) (x .context)) (owns 0 (x .context)) (length (x .context))
-    here = let e = entered false [] 0 isDefinition y in record { emits = e .emits; context = e .context; inScope = e .inScope ∙ omega arith; maxId = e .maxId }
+    here =
+        let e = entered false (workOf none) 0 isDefinition y in
+        record { emits = e .emits; context = subst (λ (W : Work). HoldsWork (st .context) (W ++ owns 0 (x .context))) (o .list) (e .context); inScope = e .inScope ∙ omega arith; maxId = e .maxId }
 
     behind : Writing (g .id) all top out out₁ lengths lengths₁ p (st .progress) (flatten (bodyIs .0) ++ flattenDefs (restIs .0)) (restIs .1)
     behind = writing-on (definition (x .name) (x .context) ∷ []) (flatten (bodyIs .0) ++ flattenDefs (restIs .0)) ahead refl (here .emits)

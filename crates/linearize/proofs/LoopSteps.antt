@@ -1,13 +1,13 @@
 -- What is left of clauses and of bodies in the walk that linearizes: the first of them, and what is written once it is done. Assumes nothing.
-use Prim.Native.Nat.{ℕ, _+_, _-_, _*_, _≤_, _<_}
+use Prim.Native.Nat.{ℕ, _+_, _-_, _*_}
 use mathlib.Core.Path.{_≡_, refl, sym, ap, _∙_, subst}
 use mathlib.Core.Bool.{Bool, cond}
 use mathlib.Core.List.{List, [], _∷_, _++_}
 use native.Mathlib.Omega.{arith}
-use lib.ListN.{length, drop}
-use Rattle.syntax.specs.Context.{Context, ids}
+use lib.ListN.{length}
+use Rattle.syntax.specs.Context.{ids}
 use Rattle.syntax.specs.declared.names.VarId.{VarId}
-use Rattle.model.specs.Syntax.{Stmt, Clauses, end, clause}
+use Rattle.model.specs.Syntax.{Stmt, Clauses, clause}
 use Rattle.model.specs.FreeVars.{freeVars}
 use Rattle.format.specs.Parse.{each, All}
 use Rattle.format.specs.Records.{Record, clause'}
@@ -21,28 +21,27 @@ use Rattle.parts.specs.Standing.{headOf}
 use Rattle.parts.specs.Parts.{listOf}
 use Rattle.trees.specs.Places.{stmtAt, StmtStands, Begins}
 use Rattle.trees.proofs.PlaceLaws.{begins-left, begins-right}
-use Rattle.trees.proofs.Steps.{ClausesLeft, ClauseNext, clause-turn, clauses-end, BodiesLeft, BodyNext, body-turn, bodies-end}
+use Rattle.trees.proofs.Steps.{ClausesLeft, ClauseNext, clause-turn, clauses-end, BodiesLeft, BodyNext, body-next, body-turn, bodies-end}
 use Rattle.scope.specs.FreeRows.{maskOf, rowUnder, rowsStmt, rowsClauses, rowsBodies}
 use Rattle.scope.proofs.FreeViews.{rows-length}
-use Rattle.checking.specs.Nodes.{recordAt, At}
+use Rattle.checking.specs.Nodes.{recordAt}
 use Rattle.checking.proofs.StepLaws.{clause-kind}
 use Rattle.work.specs.Work.{Work, owns, workStmt, workClauses}
 use Rattle.work.specs.Placed.{AllFit, AllFitClauses}
 use Rattle.work.proofs.Rooms.{here-fits, clauses-fit}
-use Rattle.work.proofs.Bounds.{work-rises, work-risesClauses}
+use Rattle.work.proofs.Bounds.{work-risesClauses}
 use Rattle.held.specs.Holding.{workOf, HoldsWork}
 use Rattle.held.specs.declared.Held.{Held}
 use Rattle.steps.specs.Steps.{workBodies}
-use Rattle.steps.proofs.WorkViews.{bodyDone, restDone, ClauseView, clause-view, BodiesView, bodies-view}
+use Rattle.steps.proofs.WorkViews.{bodyDone, restDone, clause-view, bodies-view}
 use Rattle.steps.proofs.StepBounds.{bodies-rise}
 use Rattle.stepping.specs.Stepping.{RoomAt, SourceAt, Workable, Steps}
 use Rattle.stepping.specs.declared.stepped.Stepped.{Stepped}
 use Rattle.dispatch.specs.Entering.{entering}
-use Rattle.linearize.specs.Walking.{Sources, RoomTo, StmtAhead, BodiesAhead, Writes, LinearizedTo}
+use Rattle.linearize.specs.Walking.{Sources, RoomTo, StmtAhead, ClausesAhead, BodiesAhead, LinearizedTo}
 use Rattle.linearize.specs.declared.walk.Linearized.{Linearized}
 use Rattle.linearize.proofs.RoomLaws.{room-here, room-first, Writing, writing-begun, writing-on, writing-as, writing-done}
 use Rattle.linearize.proofs.SourceLaws.{source-at}
-use Rattle.linearize.proofs.WalkSteps.{ClausesAhead}
 
 -- ── a body under its parameters ──
 
@@ -222,3 +221,20 @@ pub bodies-done : {w : ℕ} {rows : List ℕ} {d : ℕ} {rs : List Record} {held
     → BodiesLeft d rs place left (z .next) (BodiesWriting w rows held n all top out out′ lengths lengths′ p z) → left ≡ 0 → LinearizedTo w out out′ lengths lengths′ p z place all top
 unfolding workBodies
 bodies-done l h = let e = bodies-end l h in record { nextIs = e .0; writes = writing-done (e .1 .writing) }
+
+-- ── one body is its statement ──
+
+module _ {g : Frame} {s rows : List ℕ} {d k i : ℕ} {held : Held} {n : ℕ} {p : Progress} {ts : List Stmt} (one : k ≡ 1) (h : BodiesAhead g s rows d k i held n p ts) where
+  abbrev bodiesAre : List Stmt × ℕ
+  bodiesAre = workBodies ts (workOf held) n (p .«max_id»)
+
+  only : (out lengths : List ℕ) → BodyNext d (recordsIn g s) (i + length (each flatten ts)) k i (BodiesWriting (g .id) rows held n (each flatten (bodiesAre .0)) (bodiesAre .1) out out lengths lengths p (record { next = i; progress = p }))
+  only out lengths = body-next (record { rest = ts; stand = h .stand; size = refl; holds = bodies-begun out lengths h }) (omega (arith, one))
+
+  pub one-body : StmtAhead g s rows d i held n p (stmtAt d (recordsIn g s) i)
+  one-body = first-body (h .sources) (only [] []) (h .count)
+
+  pub one-body-done : {out out′ lengths lengths′ : List ℕ} {v : Linearized}
+      → (let t = stmtAt d (recordsIn g s) i in let b = workStmt t (workOf held) n (p .«max_id») in LinearizedTo (g .id) out out′ lengths lengths′ p v (i + length (flatten t)) (flatten (b .0)) (b .1))
+      → LinearizedTo (g .id) out out′ lengths lengths′ p v (i + length (each flatten ts)) (each flatten (bodiesAre .0)) (bodiesAre .1)
+  one-body-done {out} {lengths = lengths} w = bodies-done (body-done (h .sources) (only out lengths) w) (omega (arith, one))

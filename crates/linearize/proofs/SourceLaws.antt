@@ -1,19 +1,19 @@
 -- What a source gives the walk: records that have passed questions 6 and 7 (`source-at`), statements by their kinds, room for what a record
 -- binds (`binders-fit`), and masks that say what is free (`row-says`). Assumes nothing.
 use Prim.Native.Nat.{ℕ, _+_, _≤_, _<_}
-use mathlib.Core.Path.{_≡_, refl, sym, ap, _∙_}
-use mathlib.Core.Bool.{Bool, true, false, _&&_, false≢true, true≢false}
-use mathlib.Core.List.{List, [], _∷_, _++_}
+use mathlib.Core.Path.{_≡_, refl, ap, _∙_}
+use mathlib.Core.Bool.{Bool, true, false, _&&_, _||_, false≢true, true≢false}
+use mathlib.Core.List.{List, [], _++_}
 use native.Mathlib.Omega.{arith}
 use lib.Dec.{leb, eqb}
 use lib.ListN.{length, getD, length-append, List·getD-append}
 use Rattle.syntax.specs.Sets.{elem}
 use Rattle.syntax.specs.declared.names.VarId.{VarId}
 use Rattle.syntax.proofs.Bools.{both-true}
-use Rattle.model.specs.Syntax.{Stmt, Substitute, Call, Let, Switch, Create, Invoke, Literal, Op, IfC, Clauses, end}
+use Rattle.model.specs.Syntax.{Stmt, Substitute, Call, Let, Switch, Create, Invoke, Literal, Op, IfC, end}
 use Rattle.model.proofs.Widths.{leb-says}
 use Rattle.format.specs.Records.{Record, definition, substitute, call, let', switch, create, invoke, literal, op, ifc, clause'}
-use Rattle.format.specs.Kinds.{kindOf}
+use Rattle.format.specs.Kinds.{kindOf, bodies}
 use Rattle.directory.specs.Slots.{recordsIn}
 use Rattle.directory.specs.declared.Frame.{Frame}
 use Rattle.directory.proofs.Places.{records-length}
@@ -22,15 +22,15 @@ use Rattle.scope.specs.Flat.{plainRecord, smallRecord}
 use Rattle.scope.specs.FreeRows.{bit, maskOf}
 use Rattle.scope.proofs.FreeViews.{Plain}
 use Rattle.scope.proofs.RowLaws.{mask-at}
-use Rattle.checking.specs.Nodes.{recordAt, At}
+use Rattle.checking.specs.Nodes.{At}
 use Rattle.uses.proofs.CountLaws.{record-at}
-use Rattle.work.specs.declared.Entry.{Entry}
 use Rattle.work.specs.Work.{Work}
-use Rattle.work.specs.Placed.{PlacedAt, Placed, AllFit}
+use Rattle.work.specs.Placed.{Placed, AllFit}
 use Rattle.work.proofs.Rooms.{here-fits}
 use Rattle.held.specs.Masks.{marked}
 use Rattle.steps.specs.Steps.{paramsFirst}
 use Rattle.stepping.specs.Stepping.{Says, SourceAt}
+use Rattle.dispatch.specs.Choices.{Binds, Settles}
 use Rattle.linearize.specs.Walking.{Sources}
 
 pub source-at : {g : Frame} {s : List ℕ} {i kind : ℕ} → Sources g s → At g s i kind → SourceAt g s i kind
@@ -40,22 +40,17 @@ source-at {g} {s} {i} q a =
 
 -- ── kinds ──
 
--- a statement of a source, by its record
-pub record SourceKind (t : Stmt) : Type 0 where
-  pub plain : Plain t
-  pub least : 3 ≤ kindOf (recordOf t)
-  pub most : kindOf (recordOf t) ≤ 10
-
-pub source-kind : (t : Stmt) → plainRecord (recordOf t) ≡ true → SourceKind t
-source-kind (Substitute ps next) e = absurd (false≢true e)
-source-kind (Call label args) e = record { plain = tt; least = omega arith; most = omega arith }
-source-kind (Let var ty tag args next) e = record { plain = tt; least = omega arith; most = omega arith }
-source-kind (Switch var ty cs) e = record { plain = tt; least = omega arith; most = omega arith }
-source-kind (Create var ty env cs next) e = record { plain = tt; least = omega arith; most = omega arith }
-source-kind (Invoke var tag ty args) e = record { plain = tt; least = omega arith; most = omega arith }
-source-kind (Literal lit var next) e = record { plain = tt; least = omega arith; most = omega arith }
-source-kind (Op fst o snd var next) e = record { plain = tt; least = omega arith; most = omega arith }
-source-kind (IfC sort fst snd thenc elsec) e = record { plain = tt; least = omega arith; most = omega arith }
+-- a statement of a source is none that only the output has
+pub plain-source : (t : Stmt) → plainRecord (recordOf t) ≡ true → Plain t
+plain-source (Substitute ps next) e = absurd (false≢true e)
+plain-source (Call label args) e = tt
+plain-source (Let var ty tag args next) e = tt
+plain-source (Switch var ty cs) e = tt
+plain-source (Create var ty env cs next) e = tt
+plain-source (Invoke var tag ty args) e = tt
+plain-source (Literal lit var next) e = tt
+plain-source (Op fst o snd var next) e = tt
+plain-source (IfC sort fst snd thenc elsec) e = tt
 
 -- a Switch or a Create
 pub has-clauses : (k : ℕ) → (leb 5 k && leb k 6) ≡ true → (5 ≤ k) × (k ≤ 6)
@@ -71,6 +66,39 @@ no-clauses (Invoke var tag ty args) e = refl
 no-clauses (Literal lit var next) e = refl
 no-clauses (Op fst o snd var next) e = refl
 no-clauses (IfC sort fst snd thenc elsec) e = refl
+
+-- a Let, a Literal or an Op binds one variable, for its one body
+pub record Binding (r : Record) : Type 0 where
+  pub one : length (binders r) ≡ 1
+  pub body : bodies (kindOf r) ≡ 1
+
+pub binding : (t : Stmt) → Binds (kindOf (recordOf t)) → Binding (recordOf t)
+binding (Substitute ps next) e = absurd (false≢true e)
+binding (Call label args) e = absurd (false≢true e)
+binding (Let var ty tag args next) e = record { one = refl; body = refl }
+binding (Switch var ty cs) e = absurd (false≢true e)
+binding (Create var ty env cs next) e = absurd (false≢true e)
+binding (Invoke var tag ty args) e = absurd (false≢true e)
+binding (Literal lit var next) e = record { one = refl; body = refl }
+binding (Op fst o snd var next) e = record { one = refl; body = refl }
+binding (IfC sort fst snd thenc elsec) e = absurd (false≢true e)
+
+-- any other without clauses binds nothing: a Call, an Invoke or an IfC
+pub record Settling (r : Record) : Type 0 where
+  pub settles : Settles (kindOf r)
+  pub none : binders r ≡ []
+
+pub settling : (t : Stmt) → Plain t → (leb 5 (kindOf (recordOf t)) && leb (kindOf (recordOf t)) 6) ≡ false
+    → (eqb (kindOf (recordOf t)) 4 || (eqb (kindOf (recordOf t)) 8 || eqb (kindOf (recordOf t)) 9)) ≡ false → Settling (recordOf t)
+settling (Substitute ps next) p c b = absurd p
+settling (Call label args) p c b = record { settles = refl; none = refl }
+settling (Let var ty tag args next) p c b = absurd (true≢false b)
+settling (Switch var ty cs) p c b = absurd (true≢false c)
+settling (Create var ty env cs next) p c b = absurd (true≢false c)
+settling (Invoke var tag ty args) p c b = record { settles = refl; none = refl }
+settling (Literal lit var next) p c b = absurd (true≢false b)
+settling (Op fst o snd var next) p c b = absurd (true≢false b)
+settling (IfC sort fst snd thenc elsec) p c b = record { settles = refl; none = refl }
 
 pub params-first : (r : Record) → eqb (kindOf r) 6 ≡ paramsFirst r
 params-first (definition x Γ) = refl

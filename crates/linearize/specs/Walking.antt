@@ -1,24 +1,24 @@
 -- What the walk that linearizes needs and does.
 use Prim.Native.Nat.{ℕ, _+_, _*_, _<_, _^_}
 use mathlib.Core.Path.{_≡_}
-use mathlib.Core.Bool.{true}
+use mathlib.Core.Bool.{Bool, true}
 use mathlib.Core.List.{List}
 use lib.ListN.{length}
 use Rattle.syntax.specs.declared.names.VarId.{VarId}
-use Rattle.model.specs.Syntax.{Stmt, Def}
+use Rattle.model.specs.Syntax.{Stmt, Clauses, Def}
 use Rattle.format.specs.Parse.{each, All}
 use Rattle.format.specs.Records.{Record, recordBytes}
-use Rattle.format.specs.Shape.{flatten, flattenDefs}
+use Rattle.format.specs.Shape.{flatten, flattenClauses, flattenDefs}
 use Rattle.directory.specs.Slots.{Ready, recordsIn}
 use Rattle.directory.specs.declared.Frame.{Frame}
 use Rattle.emit.specs.Emitting.{Emits}
 use Rattle.emit.specs.declared.progress.Progress.{Progress}
-use Rattle.trees.specs.Places.{Begins, StmtStands, BodiesStand}
+use Rattle.trees.specs.Places.{Begins, StmtStands, ClausesStand, BodiesStand}
 use Rattle.scope.specs.Flat.{allRecords, smallRecord, plainRecord}
-use Rattle.scope.specs.FreeRows.{rowsStmt, rowsBodies, rowsDefs}
+use Rattle.scope.specs.FreeRows.{rowsStmt, rowsClauses, rowsBodies, rowsDefs}
 use Rattle.checking.specs.Definitions.{DefsStand}
-use Rattle.work.specs.Work.{workStmt, workDefs}
-use Rattle.work.specs.Placed.{AllFit, AllFitDefs}
+use Rattle.work.specs.Work.{workStmt, workClauses, workDefs}
+use Rattle.work.specs.Placed.{AllFit, AllFitClauses, AllFitDefs}
 use Rattle.steps.specs.Steps.{workBodies}
 use Rattle.held.specs.Holding.{workOf}
 use Rattle.held.specs.declared.Held.{Held}
@@ -46,6 +46,15 @@ pub record StmtAhead (g : Frame) (s rows : List ℕ) (d i : ℕ) (held : Held) (
   pub rowsAre : Begins rows (2 * i) (rowsStmt t scope)
   pub fits : AllFit t scope (workOf held) n
   pub room : RoomTo (g .id) p (flatten (workStmt t (workOf held) n (p .«max_id») .0)) (workStmt t (workOf held) n (p .«max_id») .1)
+
+pub record ClausesAhead (g : Frame) (s rows : List ℕ) (d k i : ℕ) (before : Bool) (held : Held) (n : ℕ) (p : Progress) (cs : Clauses) : Type 0 where
+  pub sources : Sources g s
+  pub stand : ClausesStand d k (recordsIn g s) i cs
+  pub count : held .len ≡ length (workOf held)
+  pub scope : List VarId
+  pub rowsAre : Begins rows (2 * i) (rowsClauses cs scope)
+  pub fits : AllFitClauses cs before scope (workOf held) n
+  pub room : RoomTo (g .id) p (flattenClauses (workClauses cs before (workOf held) n (p .«max_id») .0)) (workClauses cs before (workOf held) n (p .«max_id») .1)
 
 pub record BodiesAhead (g : Frame) (s rows : List ℕ) (d k i : ℕ) (held : Held) (n : ℕ) (p : Progress) (ts : List Stmt) : Type 0 where
   pub sources : Sources g s

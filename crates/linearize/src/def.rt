@@ -3,8 +3,9 @@ use crate::walk::Linearized;
 use crate::walk::statement;
 use checking::definitions::MAX_DEPTH;
 use directory::Frame;
-use dispatch::clause::enter_definition;
+use dispatch::clause::enter;
 use emit::progress::Progress;
+use held::Held;
 ghost use Rattle.format.specs.Shape.{flattenDefs};
 ghost use Rattle.directory.specs.Slots.{recordsIn};
 ghost use Rattle.checking.specs.Definitions.{defsIn};
@@ -30,7 +31,18 @@ pub fn definitions(
     };
     let mut left = d;
     while 0 < left {
-        let e = enter_definition(s, g, here.next, out, lengths, here.progress);
+        let e = enter(
+            s,
+            g,
+            here.next,
+            1,
+            false,
+            Held::empty(),
+            0,
+            out,
+            lengths,
+            here.progress,
+        );
         here = statement(
             s,
             g,

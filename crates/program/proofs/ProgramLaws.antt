@@ -1,19 +1,19 @@
 -- Linearization of a whole image: what a checked image gives the walk over its definitions (`defs-ahead`) and the end (`finishable`), and that
 -- the answer is that of questions 11 and 12 (`closed`), of 6 to 12 (`checked-yes`, `replied`, `checked-no`). Assumes nothing.
-use Prim.Native.Nat.{ℕ, _+_, _*_, _≤_, _<_, _^_}
+use Prim.Native.Nat.{ℕ, _+_, _*_, _≤_}
 use mathlib.Core.Path.{_≡_, refl, sym, ap, _∙_, subst}
 use mathlib.Core.Bool.{Bool, true, false}
-use mathlib.Core.List.{List, [], _∷_, _++_}
+use mathlib.Core.List.{List, [], _∷_}
 use native.Mathlib.Omega.{arith}
 use lib.Dec.{leb}
-use lib.ListN.{length, drop, replicate, length-append, length-replicate}
-use lib.Seq.{sets, sets-eq, length-sets}
+use lib.ListN.{length, drop, length-append}
+use lib.Seq.{sets, sets-eq}
 use Rattle.syntax.specs.Context.{ids}
 use Rattle.syntax.proofs.Bools.{both-true}
 use Rattle.model.specs.Syntax.{Def, Prog}
 use Rattle.model.specs.Sizes.{recordsDefs}
 use Rattle.model.specs.Pass.{linearizeDefs, linearize}
-use Rattle.model.specs.Questions.{question6, question7, question8, question9, question10, question11}
+use Rattle.model.specs.Questions.{question6, question7, question8, question9, question10}
 use Rattle.model.proofs.Widths.{leb-says}
 use Rattle.format.specs.declared.Layout.{Layout}
 use Rattle.format.specs.declared.Answer.{Answer}
@@ -24,7 +24,7 @@ use Rattle.format.specs.Layout.{bodyAt}
 use Rattle.format.specs.Parse.{each}
 use Rattle.format.specs.Records.{recordBytes}
 use Rattle.format.specs.Shape.{flatten, flattenDefs}
-use Rattle.format.specs.Reading.{Reading, accept, asked, answerOf}
+use Rattle.format.specs.Reading.{accept, asked, answerOf}
 use Rattle.format.proofs.FlatLengths.{flattenDefs-length}
 use Rattle.directory.specs.Slots.{recordsIn}
 use Rattle.directory.specs.declared.Frame.{Frame}
@@ -34,23 +34,21 @@ use Rattle.emit.specs.declared.progress.Progress.{Progress}
 use Rattle.reading.specs.Opening.{Known}
 use Rattle.reading.proofs.OpenedLaws.{IsOpened}
 use Rattle.trees.specs.Places.{Begins}
-use Rattle.scope.specs.Flat.{allRecords, plainRecord}
 use Rattle.scope.specs.FreeRows.{rowUnder, rowsStmt, rowsDefs}
-use Rattle.scope.specs.Calls.{Reply, refuses, askedOf, afterRefusal, checking, Replies}
-use Rattle.scope.proofs.FlatLaws.{question6-flat}
+use Rattle.scope.specs.Calls.{Reply, askedOf, checking, Replies}
 use Rattle.scope.proofs.FreeViews.{rows-length}
 use Rattle.scope.proofs.IdsFit.{two-bytes}
 use Rattle.checking.specs.Definitions.{defsIn}
 use Rattle.checking.specs.Deciding.{programIn}
 use Rattle.checking.proofs.CheckLaws.{opened-defined}
-use Rattle.masks.specs.Masks.{Passed}
-use Rattle.masks.proofs.DefMasks.{passed-small, passed-stand}
+use Rattle.checking.specs.Masks.{Passed}
+use Rattle.checking.proofs.DefWalks.{passed-plain, passed-small, passed-stand}
 use Rattle.work.specs.Work.{workDefs}
 use Rattle.work.proofs.Rooms.{works-fit}
 use Rattle.work.proofs.Bounds.{work-near}
 use Rattle.work.proofs.SamePass.{work-defs}
 use Rattle.steps.proofs.SizeBounds.{defs-bytes, defs-fewer, defs-more, defs-same-count}
-use Rattle.linearize.specs.Walking.{Sources, RoomTo, DefsAhead, Writes}
+use Rattle.linearize.specs.Walking.{Sources, DefsAhead, Writes}
 use Rattle.linearize.proofs.RoomLaws.{emits-at, emits-count}
 use Rattle.output.specs.Calls.{linearizing}
 use Rattle.finish.specs.Finishing.{closing, Finishable, Finishes}
@@ -95,21 +93,21 @@ module _ {L : Layout} {g : Frame} {s : List ℕ} {d m : ℕ} (c : Checked L g s 
   count : length (flattenDefs (P .defs)) ≡ g .count
   count = ap length (sym (c .read .defined .is)) ∙ records-length g s (c .read .ready)
 
-  few : g .count ≤ 2000
+  pub few : g .count ≤ 2000
   few = omega (arith, leb-says (recordsDefs (P .defs)) 2000 (both-true (leb (recordsDefs (P .defs)) 2000) _ (c .seven) .0), flattenDefs-length (P .defs), count)
 
   sources : Sources g s
   sources = record {
     ready = c .read .ready;
     small = passed-small (c .read .defined) passed;
-    plain = ap (allRecords plainRecord) (c .read .defined .is) ∙ (sym (question6-flat P) ∙ c .six);
+    plain = passed-plain (c .read .defined) passed;
   }
 
   bytes : length (each (recordBytes (g .id)) (flattenDefs (R .0))) ≤ 8192 * 2000
   bytes = omega (arith, defs-bytes (g .id) (omega (arith, c .read .ready .id .1)) P (c .six) (c .seven), count, few)
 
-  records : length (flattenDefs (R .0)) ≤ 4000
-  records = omega (arith, defs-fewer P (c .six), count, few)
+  records : length (flattenDefs (R .0)) ≤ 2 * g .count
+  records = omega (arith, defs-fewer P (c .six), count)
 
   start-small : g .start ≤ 524292
   start-small = omega (arith, c .read .start, body-small L (g .count) (c .read .known) (omega (arith, few)))
@@ -117,16 +115,19 @@ module _ {L : Layout} {g : Frame} {s : List ℕ} {d m : ℕ} (c : Checked L g s 
   abbrev begin : Progress
   begin = record { at = g .start; count = 0; «max_id» = m }
 
-  pub defs-ahead : {rows : List ℕ} → rows ≡ sets (replicate 4000 0) 0 (rowsDefs (defsIn d (recordsIn g s))) → DefsAhead g s rows d begin (defsIn d (recordsIn g s))
-  defs-ahead {rows} e = record {
+  -- the rows that the check stored
+  pub rows-begin : (rows : List ℕ) {rows′ : List ℕ} → 2 * g .count ≤ length rows → rows′ ≡ sets rows 0 (rowsDefs (defsIn d (recordsIn g s))) → Begins rows′ 0 (rowsDefs (defsIn d (recordsIn g s)))
+  rows-begin rows k e = subst (λ (z : List ℕ). Begins z 0 (rowsDefs (P .defs))) (sym e) (stored rows (rowsDefs (P .defs)) (omega (arith, rows-defs-length (P .defs), count, k)))
+
+  pub defs-ahead : {rows : List ℕ} → Begins rows 0 (rowsDefs (defsIn d (recordsIn g s))) → DefsAhead g s rows d begin (defsIn d (recordsIn g s))
+  defs-ahead b = record {
     sources = sources;
     stand = passed-stand (c .read .defined) passed;
-    rowsAre = subst (λ (z : List ℕ). Begins z 0 (rowsDefs (P .defs))) (sym e)
-        (stored (replicate 4000 0) (rowsDefs (P .defs)) (omega (arith, rows-defs-length (P .defs), count, few, length-replicate {A = ℕ} 4000 0)));
+    rowsAre = b;
     fits = works-fit P (c .seven);
     room = record {
       at = omega (arith, bytes, start-small);
-      count = omega (arith, records);
+      count = omega (arith, records, few);
       maxId = omega (arith, work-near P (c .seven), c .read .narrow);
     };
   }
@@ -137,12 +138,12 @@ module _ {L : Layout} {g : Frame} {s : List ℕ} {d m : ℕ} (c : Checked L g s 
     emits = subst (λ (z : ℕ). Emits z out out′ lengths lengths′ (record { at = bodyAt L (g .count); count = 0; «max_id» = m }) q (flattenDefs (R .0))) (c .read .id)
         (subst (λ (z : ℕ). Emits (g .id) out out′ lengths lengths′ (record { at = z; count = 0; «max_id» = m }) q (flattenDefs (R .0))) (c .read .start) (w .emits))
 
-    pub finishable : length lengths′ ≡ 4000 → Finishable L lengths′ d (g .start) q
+    pub finishable : 2 * g .count ≤ length lengths′ → Finishable L lengths′ d (g .start) q
     finishable k =
         let n = emits-count (w .emits) in
         subst (λ (z : ℕ). Finishable L lengths′ d z q) (sym (c .read .start))
         (emits-finishable L (g .count) (c .read .known) (omega (arith, defs-few (P .defs), c .read .defined .count, count, few)) (omega (arith, n, defs-more P (c .six), count))
-        (omega (arith, n, records)) (omega (arith, n, records, k)) (omega (arith, emits-at (w .emits), bytes, start-small)) emits)
+        (omega (arith, n, records, few)) (omega (arith, n, records, k)) (omega (arith, emits-at (w .emits), bytes, start-small)) emits)
 
     -- what the pass over contexts at work gives is the linearized program
     same : R ≡ linearizeDefs (P .defs) m

@@ -6,37 +6,72 @@ use finish::finish;
 use format::Answer;
 use format::Layout;
 use linearize::def::definitions;
-use masks::definitions::free_rows;
 use reading::Opened;
 use reading::open;
-ghost use Prim.Native.Nat.{_≤_};
+ghost use Prim.Native.Nat.{_*_, _≤_};
 ghost use lib.ListN.{length};
 ghost use Rattle.model.specs.Pass.{linearize};
 ghost use Rattle.directory.specs.Slots.{recordsIn};
 ghost use Rattle.reading.specs.Opening.{Known};
+ghost use Rattle.trees.specs.Places.{Begins};
+ghost use Rattle.scope.specs.FreeRows.{rowsDefs};
 ghost use Rattle.scope.specs.Calls.{Replies};
+ghost use Rattle.checking.specs.Definitions.{defsIn};
 ghost use Rattle.checking.specs.Deciding.{programIn};
 ghost use Rattle.output.specs.Calls.{linearizing, linearizeOf};
 ghost use Rattle.finish.specs.Finishing.{closing};
 ghost use Rattle.program.specs.Programs.{Read, Checked};
 
+// How many records a small image has at the most. What is worked with is cleared in each call, so a small image gets less of it.
+const FEW: usize = 64;
+
 // Questions 11 and 12, of an image that has passed 1 to 10. The records are written behind the place of a directory for as many records as the
-// source has; there may be up to twice as many.
-fn linearize_program(s: &[u8], l: Layout, g: Frame, d: usize, max_id: u32, out: &mut [u8]) -> Answer
-    requires { ⌜ Checked l g (now s) d «max_id» ⌝ }
+// source has; there may be up to twice as many. `rows` has two masks of each record of the source, `lengths` has room for the length of each that
+// is written.
+fn linearize_program(
+    s: &[u8],
+    l: Layout,
+    g: Frame,
+    d: usize,
+    max_id: u32,
+    rows: &[u64],
+    lengths: &mut [usize],
+    out: &mut [u8],
+) -> Answer
+    requires { ⌜ Checked l g (now s) d «max_id» × (Begins (now rows) 0 (rowsDefs (defsIn d (recordsIn g (now s)))) × (2 * g .count ≤ length (now lengths))) ⌝ }
     ensures { λ r. ⌜ Replies (closing l (linearize (programIn d (recordsIn g (now (s .entry))) «max_id»)) (length (now (out .entry)))) r (now (out .entry)) (now (out .exit)) ⌝ }
 {
-    let mut rows = [0u64; 4000];
-    free_rows(s, g, d, &mut rows);
-    let mut lengths = [0usize; 4000];
     let start = g.start;
     let p = Progress {
         at: start,
         count: 0,
         max_id,
     };
-    let q = definitions(s, g, &rows, d, out, &mut lengths, p);
-    finish(out, &lengths, l, d, start, q)
+    let q = definitions(s, g, rows, d, out, lengths, p);
+    finish(out, lengths, l, d, start, q)
+}
+
+// Questions 6 to 12, with what is worked with: room in `rows` and `lengths` for two of each record, if there are not more than question 7 allows.
+fn linearize_lent(
+    s: &[u8],
+    l: Layout,
+    g: Frame,
+    d: usize,
+    max_id: u32,
+    rows: &mut [u64],
+    lengths: &mut [usize],
+    out: &mut [u8],
+) -> Answer
+    requires { ⌜ Read l g (now s) d «max_id» × (g .count ≤ 2000 → (2 * g .count ≤ length (now rows)) × (2 * g .count ≤ length (now lengths))) ⌝ }
+    ensures { λ r. ⌜ Replies (linearizing l (programIn d (recordsIn g (now (s .entry))) «max_id») (length (now (out .entry)))) r (now (out .entry)) (now (out .exit)) ⌝ }
+{
+    match check_image(s, g, d, max_id, rows) {
+        Answer::Accepted {
+            length: _,
+            max_id: _,
+        } => linearize_program(s, l, g, d, max_id, rows, lengths, out),
+        Answer::Refused(question) => Answer::Refused(question),
+    }
 }
 
 // Questions 6 to 12.
@@ -44,13 +79,14 @@ fn linearize_image(s: &[u8], l: Layout, g: Frame, d: usize, max_id: u32, out: &m
     requires { ⌜ Read l g (now s) d «max_id» ⌝ }
     ensures { λ r. ⌜ Replies (linearizing l (programIn d (recordsIn g (now (s .entry))) «max_id») (length (now (out .entry)))) r (now (out .entry)) (now (out .exit)) ⌝ }
 {
-    match check_image(s, g, d, max_id) {
-        Answer::Accepted {
-            length: _,
-            max_id: _,
-        } => linearize_program(s, l, g, d, max_id, out),
-        Answer::Refused(question) => Answer::Refused(question),
+    if g.count <= FEW {
+        let mut rows = [0u64; 128];
+        let mut lengths = [0usize; 128];
+        return linearize_lent(s, l, g, d, max_id, &mut rows, &mut lengths, out);
     }
+    let mut rows = [0u64; 4000];
+    let mut lengths = [0usize; 4000];
+    linearize_lent(s, l, g, d, max_id, &mut rows, &mut lengths, out)
 }
 
 // Linearizes an image of a layout whose IDs have at most two bytes.

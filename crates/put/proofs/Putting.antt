@@ -1,4 +1,4 @@
--- Laws of bytes put into a buffer: one run after another, a run whose place was reserved, a byte past the end, the bytes of a number.
+-- Laws of bytes put into a buffer: stored bytes, one run after another, a run whose place was reserved, a byte past the end, the bytes of a number.
 -- Assumes nothing.
 use Prim.Native.Nat.{ℕ, zero, suc, _+_, _-_, _*_, _/_, _%_, _^_, _≤_, _<_}
 use mathlib.Core.List.{List, [], _∷_, _++_}
@@ -28,6 +28,13 @@ puts-none l at = record { holds = refl; ends = sym (add-zero at) }
 -- the buffer keeps its length
 pub puts-same : {before after : List ℕ} {at next : ℕ} {bytes : List ℕ} → Puts before after at next bytes → length after ≡ length before
 puts-same {before} {at = at} {bytes = bytes} p = ap length (p .holds) ∙ length-sets before at bytes
+
+-- bytes that are stored
+pub puts-byte : (l : List ℕ) (at b : ℕ) → Puts l (set l at b) at (at + 1) (b ∷ [])
+puts-byte l at b = record { holds = refl; ends = refl }
+
+pub puts-pair : (l : List ℕ) (at n : ℕ) → Puts l (set (set l at (n % 256)) (at + 1) (n / 256 % 256)) at (at + 2) (field 2 n)
+puts-pair l at n = record { holds = rw (add-one at); ends = refl }
 
 -- equal bytes
 pub puts-as : {before after : List ℕ} {at next : ℕ} {xs ys : List ℕ} → xs ≡ ys → Puts before after at next xs → Puts before after at next ys

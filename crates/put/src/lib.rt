@@ -8,7 +8,9 @@ use syntax::op::BinOp;
 use syntax::types::Ty;
 ghost use mathlib.Core.Path.{_≡_};
 ghost use mathlib.Core.List.{_∷_, []};
+ghost use mathlib.Core.Bool.{true};
 ghost use Prim.Native.Nat.{_+_, _/_, _%_, _≤_, _<_, _^_};
+ghost use lib.ListN.{length};
 ghost use Rattle.format.specs.Parse.{field};
 ghost use Rattle.format.specs.Fields.{chiralityCode, operatorCode, sortCode, integerBytes, identifierBytes, typeBytes, bindingBytes};
 ghost use Rattle.put.specs.Puts.{Puts};
@@ -30,11 +32,74 @@ pub fn put_byte(out: &mut [u8], at: usize, b: u8) -> usize
     at + 1
 }
 
+// Are IDs of two bytes, and has a buffer of len bytes n bytes from at? Then the stores below need no test for each byte.
+fn short(len: usize, at: usize, n: usize, w: usize) -> bool
+    ensures { λ r. ⌜ (r ≡ true → (w ≡ 2) × (at + n ≤ len)) ⌝ }
+{
+    if w == 2 {
+        if at <= len {
+            return n <= len - at;
+        }
+    }
+    false
+}
+
+fn store_pair(out: &mut [u8], at: usize, n: u32) -> usize
+    requires { ⌜ at + 2 ≤ length (now out) ⌝ }
+    ensures { λ r. ⌜ Puts (now (out .entry)) (now (out .exit)) at r (field 2 n) ⌝ }
+{
+    out[at] = low(n);
+    out[at + 1] = low(n / 256);
+    at + 2
+}
+
+fn store_identifier(out: &mut [u8], at: usize, x: Identifier) -> usize
+    requires { ⌜ at + 4 ≤ length (now out) ⌝ }
+    ensures { λ r. ⌜ Puts (now (out .entry)) (now (out .exit)) at r (identifierBytes 2 x) ⌝ }
+{
+    let name = x.name;
+    let id = x.id;
+    let next = store_pair(out, at, wide(name.0));
+    store_pair(out, next, id.0)
+}
+
+fn store_type(out: &mut [u8], at: usize, t: Ty) -> usize
+    requires { ⌜ at + 5 ≤ length (now out) ⌝ }
+    ensures { λ r. ⌜ Puts (now (out .entry)) (now (out .exit)) at r (typeBytes 2 t) ⌝ }
+{
+    match t {
+        Ty::I64 => {
+            out[at] = 0;
+            let next = store_pair(out, at + 1, 0);
+            store_pair(out, next, 0)
+        }
+        Ty::Decl(x) => {
+            out[at] = 1;
+            store_identifier(out, at + 1, x)
+        }
+    }
+}
+
+fn store_binding(out: &mut [u8], at: usize, b: ContextBinding) -> usize
+    requires { ⌜ at + 10 ≤ length (now out) ⌝ }
+    ensures { λ r. ⌜ Puts (now (out .entry)) (now (out .exit)) at r (bindingBytes 2 b) ⌝ }
+{
+    let var = b.var;
+    let chi = b.chi;
+    let ty = b.ty;
+    let next = store_identifier(out, at, var);
+    out[next] = chirality_code(chi);
+    store_type(out, next + 1, ty)
+}
+
 // The w bytes of n, the lowest first.
 pub fn put_number(out: &mut [u8], at: usize, w: usize, n: u32) -> usize
     requires { ⌜ at + w < 2 ^ 64 ⌝ }
     ensures { λ r. ⌜ Puts (now (out .entry)) (now (out .exit)) at r (field w n) ⌝ }
 {
+    if short(out.len(), at, 2, w) {
+        return store_pair(out, at, n);
+    }
     let mut rest = n;
     let mut here = at;
     let mut left = w;
@@ -73,6 +138,9 @@ pub fn put_identifier(out: &mut [u8], at: usize, w: usize, x: Identifier) -> usi
     requires { ⌜ (at + (2 + w) < 2 ^ 64) × (w ≤ 8) ⌝ }
     ensures { λ r. ⌜ Puts (now (out .entry)) (now (out .exit)) at r (identifierBytes w x) ⌝ }
 {
+    if short(out.len(), at, 4, w) {
+        return store_identifier(out, at, x);
+    }
     let name = x.name;
     let id = x.id;
     let next = put_number(out, at, 2, wide(name.0));
@@ -90,6 +158,9 @@ pub fn put_type(out: &mut [u8], at: usize, w: usize, t: Ty) -> usize
     requires { ⌜ (at + (3 + w) < 2 ^ 64) × (w ≤ 8) ⌝ }
     ensures { λ r. ⌜ Puts (now (out .entry)) (now (out .exit)) at r (typeBytes w t) ⌝ }
 {
+    if short(out.len(), at, 5, w) {
+        return store_type(out, at, t);
+    }
     match t {
         Ty::I64 => put_number(out, at, 3 + w, 0),
         Ty::Decl(x) => {
@@ -139,6 +210,9 @@ pub fn put_binding(out: &mut [u8], at: usize, w: usize, b: ContextBinding) -> us
     requires { ⌜ (at + (6 + (w + w)) < 2 ^ 64) × (w ≤ 8) ⌝ }
     ensures { λ r. ⌜ Puts (now (out .entry)) (now (out .exit)) at r (bindingBytes w b) ⌝ }
 {
+    if short(out.len(), at, 10, w) {
+        return store_binding(out, at, b);
+    }
     let var = b.var;
     let chi = b.chi;
     let ty = b.ty;

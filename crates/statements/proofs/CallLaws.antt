@@ -9,8 +9,7 @@ use Rattle.format.specs.Records.{Record, call}
 use Rattle.emit.specs.declared.progress.Progress.{Progress}
 use Rattle.work.specs.Work.{Work, bindings, usedAll}
 use Rattle.steps.specs.Steps.{stepCall}
-use Rattle.stepping.specs.Stepping.{Steps, StepsAs}
-use Rattle.stepping.specs.declared.stepped.Stepped.{Stepped}
+use Rattle.stepping.specs.Stepping.{Leaves, LeavesAs}
 use Rattle.statements.proofs.EndLaws.{endStep}
 
 -- nothing is wanted behind the arguments
@@ -18,6 +17,6 @@ call-ends : (label : Identifier) (Γ : Context) (W : Work) (n m : ℕ) → endSt
 unfolding stepCall
 call-ends label Γ W n m = cc (append-nil (usedAll W Γ), append-nil ((freshenUnless (sameContext (bindings W) (usedAll W Γ)) (usedAll W Γ) [] m) .0))
 
-pub call-steps : {w : ℕ} {record′ : Record} (label : Identifier) (Γ : Context) {clauses mask : ℕ} (W : Work) (n : ℕ) {out out′ lengths lengths′ : List ℕ} {p : Progress} {r : Stepped}
-    → record′ ≡ call label Γ → Steps w out out′ lengths lengths′ p r (endStep W (usedAll W Γ) [] [] (call label []) n (p .«max_id»)) → StepsAs w record′ clauses mask W n out out′ lengths lengths′ p r
-call-steps {w} label Γ W n {out} {out′} {lengths} {lengths′} {p} {r} e s = rw e record { steps = λ fc fn _ _. subst (Steps w out out′ lengths lengths′ p r) (call-ends label Γ W n (p .«max_id»)) s }
+pub call-leaves : {w : ℕ} {record′ : Record} (label : Identifier) (Γ : Context) {clauses mask : ℕ} (W : Work) (n : ℕ) {out out′ lengths lengths′ : List ℕ} {p r : Progress}
+    → record′ ≡ call label Γ → Leaves w out out′ lengths lengths′ p r (endStep W (usedAll W Γ) [] [] (call label []) n (p .«max_id»)) → LeavesAs w record′ clauses mask W n out out′ lengths lengths′ p r
+call-leaves {w} label Γ W n {out} {out′} {lengths} {lengths′} {p} {r} e s = rw e record { leaves = λ fc fn _ _. subst (Leaves w out out′ lengths lengths′ p r) (call-ends label Γ W n (p .«max_id»)) s }

@@ -4,16 +4,13 @@ use mathlib.Core.Path.{_≡_, refl, ap, _∙_, subst}
 use mathlib.Core.Bool.{Bool, true, false, _||_}
 use mathlib.Core.List.{List, [], _∷_, _++_}
 use native.Mathlib.Omega.{arith}
-use lib.ListN.{length, length-map}
 use Rattle.syntax.specs.Names.{sameVarId}
 use Rattle.syntax.specs.Sets.{elem}
-use Rattle.syntax.specs.Context.{Context, sameContext}
-use Rattle.syntax.specs.Arrays.{contextOf, Holds}
+use Rattle.syntax.specs.Context.{sameContext}
 use Rattle.syntax.specs.declared.names.VarId.{VarId}
 use Rattle.syntax.specs.declared.names.Identifier.{Identifier}
 use Rattle.syntax.specs.declared.context.Chirality.the-variants.{Ext}
 use Rattle.syntax.specs.declared.context.ContextBinding.{ContextBinding}
-use Rattle.syntax.specs.declared.context.TypingContext.{TypingContext}
 use Rattle.syntax.specs.declared.types.Ty.the-variants.{I64}
 use Rattle.syntax.specs.declared.op.BinOp.{BinOp}
 use Rattle.syntax.proofs.Filters.{filtered-fewer}
@@ -31,7 +28,7 @@ use Rattle.steps.specs.Steps.{Step, arranged, stepOp}
 use Rattle.statements.specs.Inputs.{inputOrMarked, keptWithInputs}
 use Rattle.stepping.specs.Stepping.{Says, Workable, Arranges, Steps, StepsAs}
 use Rattle.stepping.specs.declared.stepped.Stepped.{Stepped}
-use Rattle.stepping.proofs.StepLaws.{arranged-then, kept-list}
+use Rattle.stepping.proofs.StepLaws.{arranged-then}
 
 -- ── what is retained ──
 
@@ -49,12 +46,8 @@ inputs-kept fst snd {mask} {s} {W} a =
     (λ e h. ap (λ (t : Bool). sameVarId (e .source) fst || (sameVarId (e .source) snd || t)) (a .says e h))
 
 -- it has room for what is bound
-module _ {held : Held} {n k : ℕ} (a : Workable held n k) (fst snd : VarId) (mask : ℕ) {new : Held} (h : HoldsWork new (keptWithInputs fst snd mask (workOf held))) where
-  pub inputs-room : new .len + k ≤ 64
-  inputs-room = omega (arith, h .count, filtered-fewer (inputOrMarked fst snd mask) (workOf held), a .count, a .room)
-
-  pub inputs-count : {c : TypingContext} → Holds c (bindings (workOf new)) → c .len + k ≤ 64
-  inputs-count b = omega (arith, b .count, length-map (workOf new) (λ (e : Entry). e .binding), ap length (h .list), h .count, inputs-room)
+pub inputs-room : {held : Held} {n k : ℕ} → Workable held n k → (fst snd : VarId) (mask : ℕ) {new : Held} → HoldsWork new (keptWithInputs fst snd mask (workOf held)) → new .len + k ≤ 64
+inputs-room {held} a fst snd mask h = omega (arith, h .count, filtered-fewer (inputOrMarked fst snd mask) (workOf held), a .count, a .room)
 
 -- ── the step ──
 
@@ -62,19 +55,17 @@ module _ {held : Held} {n k : ℕ} (a : Workable held n k) (fst snd : VarId) (ma
 unfoldable pub bindsBehind : (N W : Work) (own-record : Record) (b : ContextBinding) (n m : ℕ) → Step
 bindsBehind N W z b n m = record { front = arranged (sameContext (bindings W) (bindings N)) (bindings N) (bindings N) ++ (z ∷ []); context = N ++ (own n b ∷ []); inScope = n + 1; maxId = m }
 
-pub binds-steps : {w : ℕ} (z : Record) (b : ContextBinding) (W : Work) (n : ℕ) {N : Work} {out mid out′ lengths middle lengths′ : List ℕ} {p q : Progress} {next : ℕ} {r : Stepped}
-    {new : Held} {c nothing : TypingContext} {right : Bool}
-    → HoldsWork new N → Holds c (bindings (workOf new)) → Holds nothing [] → right ≡ sameContext (bindings W) (contextOf c ++ contextOf nothing)
-    → Arranges w out mid lengths middle p q (arranged right (contextOf c ++ contextOf nothing) (contextOf c ++ contextOf nothing))
+pub binds-steps : {w : ℕ} (z : Record) (b : ContextBinding) (W : Work) (n : ℕ) {N : Work} {out mid out′ lengths middle lengths′ : List ℕ} {p q : Progress} {next : ℕ} {r : Stepped} {new : Held} {right : Bool}
+    → HoldsWork new N → right ≡ sameContext (bindings W) (bindings N) → Arranges w out mid lengths middle p q (arranged right (bindings (workOf new)) (bindings (workOf new)))
     → Puts mid out′ (q .at) next (recordBytes w z) → Noted (r .progress) q next middle lengths′
     → HoldsWork (r .context) (workOf new ++ (own n b ∷ [])) → r .«in_scope» ≡ n + 1
     → Steps w out out′ lengths lengths′ p r (bindsBehind N W z b n (p .«max_id»))
 unfolding bindsBehind
-binds-steps {w} z b W n {N} {out} {mid} {out′} {lengths} {middle} {lengths′} {p} {q} {next} {r} {new} {c} {nothing} {right} h k e t a u m x y =
+binds-steps {w} z b W n {N} {out} {mid} {out′} {lengths} {middle} {lengths′} {p} {q} {next} {r} {new} {right} h t a u m x y =
     record {
       emits = subst (Emits w out out′ lengths lengths′ p (r .progress))
-          (ap (λ (v : Bool). arranged v (contextOf c ++ contextOf nothing) (contextOf c ++ contextOf nothing) ++ (z ∷ [])) t
-          ∙ ap (λ (v : Context). arranged (sameContext (bindings W) v) v v ++ (z ∷ [])) (kept-list h k e))
+          (ap (λ (v : Work). arranged right (bindings v) (bindings v) ++ (z ∷ [])) (h .list)
+          ∙ ap (λ (v : Bool). arranged v (bindings N) (bindings N) ++ (z ∷ [])) t)
           (arranged-then z a u m);
       context = subst (λ (v : Work). HoldsWork (r .context) (v ++ (own n b ∷ []))) (h .list) x;
       inScope = y;

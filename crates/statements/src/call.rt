@@ -3,17 +3,16 @@ use directory::Frame;
 use emit::progress::Progress;
 use emit::progress::note;
 use held::Held;
-use stepping::arrange::arrange;
+use stepping::arrange::arrange_args;
 use stepping::fresh::freshen_unless;
 use stepping::fresh::with_max_id;
-use stepping::stepped::Stepped;
 use syntax::context::TypingContext;
 use syntax::sets::IdSet;
 use unpack::call;
 use write::records::put_call;
 ghost use Rattle.checking.specs.Nodes.{recordAt};
 ghost use Rattle.held.specs.Holding.{workOf};
-ghost use Rattle.stepping.specs.Stepping.{RoomAt, SourceAt, Workable, StepsAs};
+ghost use Rattle.stepping.specs.Stepping.{RoomAt, SourceAt, Workable, LeavesAs};
 
 // A Call wants its arguments for the context. Written it has none: they are the context then.
 pub fn linearize(
@@ -25,26 +24,24 @@ pub fn linearize(
     out: &mut [u8],
     lengths: &mut [usize],
     p: Progress,
-) -> Stepped
+) -> Progress
     requires { ⌜ SourceAt g (now s) i 3 × (Workable context «in_scope» 0 × RoomAt p) ⌝ }
-    ensures { λ r. ⌜ StepsAs (g .id) (recordAt g (now (s .entry)) i) 0 0 (workOf context) «in_scope» (now (out .entry)) (now (out .exit)) (now (lengths .entry)) (now (lengths .exit)) p r ⌝ }
+    ensures { λ r. ⌜ LeavesAs (g .id) (recordAt g (now (s .entry)) i) 0 0 (workOf context) «in_scope» (now (out .entry)) (now (out .exit)) (now (lengths .entry)) (now (lengths .exit)) p r ⌝ }
 {
     let statement = call(s, g, i);
     let args = context.used_all(statement.args);
     // the context must consist of the arguments for the top-level function
-    let nothing = TypingContext::empty();
-    let right = context.same(args, nothing);
+    let right = if context.len == args.len {
+        context.same(args, TypingContext::empty())
+    } else {
+        false
+    };
     // where it does not, duplicated variables get fresh names
     let clashes = IdSet::empty();
     let freshened = freshen_unless(right, args, clashes, p.max_id);
     let fresh = freshened.context;
-    let q = arrange(right, fresh, args, nothing, nothing, g.id, out, lengths, p);
+    let q = arrange_args(right, fresh, args, g.id, out, lengths, p);
     let next = put_call(out, q.at, g.id, statement.label);
     let noted = note(lengths, q, next);
-    let progress = with_max_id(noted, freshened.max_id);
-    Stepped {
-        context,
-        in_scope,
-        progress,
-    }
+    with_max_id(noted, freshened.max_id)
 }

@@ -3,7 +3,6 @@ use directory::Frame;
 use emit::progress::Progress;
 use emit::progress::note;
 use held::Held;
-use stepping::stepped::Stepped;
 use syntax::names::Identifier;
 use syntax::names::Name;
 use syntax::names::VarId;
@@ -17,7 +16,7 @@ ghost use Rattle.unpack.specs.Unpacked.{secondIs};
 ghost use Rattle.write.specs.Marks.{ifMarked};
 ghost use Rattle.work.specs.Work.{usedOption};
 ghost use Rattle.held.specs.Holding.{workOf};
-ghost use Rattle.stepping.specs.Stepping.{RoomAt, SourceAt, Workable, StepsAs};
+ghost use Rattle.stepping.specs.Stepping.{RoomAt, SourceAt, Workable, LeavesAs};
 
 // The second operand as it is written. It counts only if it is marked.
 pub struct Operand {
@@ -54,9 +53,9 @@ pub fn linearize(
     out: &mut [u8],
     lengths: &mut [usize],
     p: Progress,
-) -> Stepped
+) -> Progress
     requires { ⌜ SourceAt g (now s) i 10 × (Workable context «in_scope» 0 × RoomAt p) ⌝ }
-    ensures { λ r. ⌜ StepsAs (g .id) (recordAt g (now (s .entry)) i) 0 0 (workOf context) «in_scope» (now (out .entry)) (now (out .exit)) (now (lengths .entry)) (now (lengths .exit)) p r ⌝ }
+    ensures { λ r. ⌜ LeavesAs (g .id) (recordAt g (now (s .entry)) i) 0 0 (workOf context) «in_scope» (now (out .entry)) (now (out .exit)) (now (lengths .entry)) (now (lengths .exit)) p r ⌝ }
 {
     let statement = ifc(s, g, i);
     let fst = context.used(statement.fst);
@@ -64,10 +63,5 @@ pub fn linearize(
     let snd = second(context, operand);
     let sort = statement.sort;
     let next = put_ifc(out, p.at, g.id, sort, fst, snd.marked, snd.var);
-    let progress = note(lengths, p, next);
-    Stepped {
-        context,
-        in_scope,
-        progress,
-    }
+    note(lengths, p, next)
 }

@@ -3,10 +3,9 @@ use directory::Frame;
 use emit::progress::Progress;
 use emit::progress::note;
 use held::Held;
-use stepping::arrange::arrange;
+use stepping::arrange::arrange_closure;
 use stepping::fresh::freshen_unless;
 use stepping::fresh::with_max_id;
-use stepping::stepped::Stepped;
 use syntax::context::Chirality;
 use syntax::context::ContextBinding;
 use syntax::context::TypingContext;
@@ -15,7 +14,7 @@ use unpack::invoke;
 use write::records::put_invoke;
 ghost use Rattle.checking.specs.Nodes.{recordAt};
 ghost use Rattle.held.specs.Holding.{workOf};
-ghost use Rattle.stepping.specs.Stepping.{RoomAt, SourceAt, Workable, StepsAs};
+ghost use Rattle.stepping.specs.Stepping.{RoomAt, SourceAt, Workable, LeavesAs};
 
 // An Invoke wants its arguments for the context, followed by its closure. Written it has no arguments: they are the context then.
 pub fn linearize(
@@ -27,9 +26,9 @@ pub fn linearize(
     out: &mut [u8],
     lengths: &mut [usize],
     p: Progress,
-) -> Stepped
+) -> Progress
     requires { ⌜ SourceAt g (now s) i 7 × (Workable context «in_scope» 0 × RoomAt p) ⌝ }
-    ensures { λ r. ⌜ StepsAs (g .id) (recordAt g (now (s .entry)) i) 0 0 (workOf context) «in_scope» (now (out .entry)) (now (out .exit)) (now (lengths .entry)) (now (lengths .exit)) p r ⌝ }
+    ensures { λ r. ⌜ LeavesAs (g .id) (recordAt g (now (s .entry)) i) 0 0 (workOf context) «in_scope» (now (out .entry)) (now (out .exit)) (now (lengths .entry)) (now (lengths .exit)) p r ⌝ }
 {
     let statement = invoke(s, g, i);
     // the context must consist of the arguments for the method ...
@@ -37,23 +36,21 @@ pub fn linearize(
     // ... followed by the variable of the closure
     let var = context.used(statement.var);
     let ty = statement.ty;
-    let closure_binding = ContextBinding {
+    let closure = ContextBinding {
         var,
         chi: Chirality::Cns,
         ty,
     };
-    let closure = TypingContext::empty().push(closure_binding);
-    let right = context.same(args, closure);
+    let right = if context.len == args.len + 1 {
+        context.same(args, TypingContext::empty().push(closure))
+    } else {
+        false
+    };
     let clashes = IdSet::empty().add(var.id);
     let freshened = freshen_unless(right, args, clashes, p.max_id);
     let fresh = freshened.context;
-    let q = arrange(right, fresh, args, closure, closure, g.id, out, lengths, p);
+    let q = arrange_closure(right, fresh, args, closure, g.id, out, lengths, p);
     let next = put_invoke(out, q.at, g.id, var, statement.tag, ty);
     let noted = note(lengths, q, next);
-    let progress = with_max_id(noted, freshened.max_id);
-    Stepped {
-        context,
-        in_scope,
-        progress,
-    }
+    with_max_id(noted, freshened.max_id)
 }

@@ -3,7 +3,7 @@ use directory::Frame;
 use emit::progress::Progress;
 use emit::progress::note;
 use held::Held;
-use stepping::arrange::arrange;
+use stepping::arrange::arrange_behind;
 use stepping::fresh::freshen_unless;
 use stepping::fresh::with_max_id;
 use stepping::stepped::Stepped;
@@ -32,7 +32,6 @@ pub fn linearize(
 {
     let statement = let_record(s, g, i);
     let new_context = context.filter(free_vars_next);
-    let kept = new_context.context();
     let args = context.used_all(statement.args);
     let var = statement.var;
     let ty = statement.ty;
@@ -41,10 +40,14 @@ pub fn linearize(
         chi: Chirality::Prd,
         ty,
     };
-    let right = context.same(kept, args);
+    let right = if context.len == new_context.len + args.len {
+        context.same(new_context.context(), args)
+    } else {
+        false
+    };
     let fresh = freshen_unless(right, args, new_context.ids(), p.max_id);
     let freshened = fresh.context;
-    let q = arrange(right, kept, kept, freshened, args, g.id, out, lengths, p);
+    let q = arrange_behind(right, new_context, freshened, args, g.id, out, lengths, p);
     let next = put_let(out, q.at, g.id, var, ty, statement.tag, freshened);
     let noted = note(lengths, q, next);
     Stepped {

@@ -3,11 +3,10 @@ use directory::Frame;
 use emit::progress::Progress;
 use emit::progress::note;
 use held::Held;
-use stepping::arrange::arrange;
+use stepping::arrange::arrange_kept;
 use stepping::stepped::Stepped;
 use syntax::context::Chirality;
 use syntax::context::ContextBinding;
-use syntax::context::TypingContext;
 use syntax::types::Ty;
 use unpack::literal;
 use write::records::put_literal;
@@ -32,10 +31,9 @@ pub fn linearize(
 {
     let statement = literal(s, g, i);
     let new_context = context.filter(free_vars_next);
-    let kept = new_context.context();
-    let nothing = TypingContext::empty();
-    let right = context.same(kept, nothing);
-    let q = arrange(right, kept, kept, nothing, nothing, g.id, out, lengths, p);
+    // after a filter equal counts mean equal lists
+    let right = new_context.len == context.len;
+    let q = arrange_kept(right, new_context, g.id, out, lengths, p);
     let next = put_literal(out, q.at, g.id, statement.lit, statement.var);
     let progress = note(lengths, q, next);
     let var = statement.var;

@@ -4,11 +4,10 @@ use emit::progress::Progress;
 use emit::progress::note;
 use held::Held;
 use held::masks::bit;
-use stepping::arrange::arrange;
+use stepping::arrange::arrange_kept;
 use stepping::stepped::Stepped;
 use syntax::context::Chirality;
 use syntax::context::ContextBinding;
-use syntax::context::TypingContext;
 use syntax::names::VarId;
 use syntax::types::Ty;
 use unpack::op;
@@ -73,16 +72,15 @@ pub fn linearize(
 {
     let statement = op(s, g, i);
     let new_context = retain(context, statement.fst.id, statement.snd.id, free_vars_next);
-    let kept = new_context.context();
     let var = statement.var;
     let new_binding = ContextBinding {
         var,
         chi: Chirality::Ext,
         ty: Ty::I64,
     };
-    let nothing = TypingContext::empty();
-    let right = context.same(kept, nothing);
-    let q = arrange(right, kept, kept, nothing, nothing, g.id, out, lengths, p);
+    // after a filter equal counts mean equal lists
+    let right = new_context.len == context.len;
+    let q = arrange_kept(right, new_context, g.id, out, lengths, p);
     let fst = context.used(statement.fst);
     let snd = context.used(statement.snd);
     let operator = statement.op;

@@ -8,7 +8,7 @@ use native.Mathlib.Omega.{arith}
 use borrow.Author.Tests.{leb-true}
 use lib.Dec.{leb}
 use lib.ListN.{length, length-map}
-use Rattle.syntax.specs.Context.{Context, sameContext}
+use Rattle.syntax.specs.Context.{Context}
 use Rattle.syntax.specs.Arrays.{setOf, contextOf, Holds, SetHolds, Freshens}
 use Rattle.syntax.specs.Fresh.{freshen}
 use Rattle.syntax.specs.declared.names.VarId.{VarId}
@@ -21,7 +21,6 @@ use Rattle.format.specs.Records.{Record}
 use Rattle.scope.specs.Flat.{smallRecord}
 use Rattle.unpack.specs.Unpacked.{Unpacked}
 use Rattle.work.specs.Work.{Work, bindings, usedBinding, usedAll}
-use Rattle.steps.specs.Steps.{arranged}
 use Rattle.stepping.specs.Stepping.{Paired}
 
 -- ── what is drawn ──
@@ -53,20 +52,3 @@ pub paired-fresh : (right : Bool) (c : TypingContext) (C : List VarId) (m : ℕ)
 paired-fresh right c C m e k h =
     let same = unless-length right (contextOf c) C m in
     record { count = holds-count (h .holds); same = omega (arith, h .holds .count, same, e); wantedCount = e; few = omega (arith, h .holds .count, same, e, k) }
-
--- ── what is written ──
-
--- the fresh names come first: a wanted list A, whose duplicates and clashes with C take fresh names, and B behind it
-module _ (W : Work) (m : ℕ) {A B : Context} {C : List VarId} {c b : TypingContext} {clashes : IdSet} {right : Bool} {f : Freshened} (x : Holds c A) (y : Holds b B) (z : SetHolds clashes C)
-    (r : right ≡ sameContext (bindings W) (contextOf c ++ contextOf b)) (h : Freshens f (freshenUnless right (contextOf c) (setOf clashes) m)) where
-  abbrev isRight : Bool
-  isRight = sameContext (bindings W) (A ++ B)
-
-  abbrev fresh : Context × ℕ
-  fresh = freshenUnless isRight A C m
-
-  pub fresh-max : f .«max_id» .0 ≡ fresh .1
-  fresh-max = cc (h .max, r, x .list, y .list, z .list)
-
-  pub fresh-arranged : arranged right (contextOf (f .context) ++ contextOf b) (contextOf c ++ contextOf b) ≡ arranged isRight (fresh .0 ++ B) (A ++ B)
-  fresh-arranged = cc (h .holds .list, r, x .list, y .list, z .list)

@@ -1,11 +1,10 @@
 -- What the masks say, what structs hold, and the step of each statement from what its code did. Assumes nothing.
 use Prim.Native.Nat.{ℕ, _+_, _≤_}
 use mathlib.Core.Path.{_≡_, refl, sym, ap, _∙_, subst}
-use mathlib.Core.Bool.{Bool}
 use mathlib.Core.List.{List, [], _∷_, _++_, append-nil}
 use native.Mathlib.Omega.{arith}
 use lib.ListN.{length, length-map}
-use Rattle.syntax.specs.Context.{Context, sameContext}
+use Rattle.syntax.specs.Context.{Context}
 use Rattle.syntax.specs.Arrays.{contextOf, Holds}
 use Rattle.syntax.specs.Sets.{elem}
 use Rattle.syntax.specs.declared.names.VarId.{VarId}
@@ -24,7 +23,6 @@ use Rattle.held.specs.Holding.{workOf, HoldsWork}
 use Rattle.held.specs.Masks.{inMask, keptByMask}
 use Rattle.held.specs.declared.Held.{Held}
 use Rattle.held.proofs.MaskLaws.{mask-fewer}
-use Rattle.steps.specs.Steps.{arranged}
 use Rattle.stepping.specs.Stepping.{Says, Paired, Arranges, Workable}
 
 -- ── masks and structs ──
@@ -33,10 +31,6 @@ use Rattle.stepping.specs.Stepping.{Says, Paired, Arranges, Workable}
 pub kept-says : {mask : ℕ} {s : List VarId} {W : Work} → Says mask s W → keptByMask mask W ≡ kept s W
 kept-says {mask} {s} {W} a = filtered-same (inMask mask) (λ (e : Entry). elem (e .source) s) W (a .says)
 
--- a context that holds a list is paired with itself
-pub paired-self : {c : TypingContext} {Γ : Context} → Holds c Γ → length Γ ≤ 64 → Paired c c
-paired-self {c} h k = record { count = h .count ∙ ap length (sym (h .list)); same = refl; wantedCount = h .count ∙ ap length (sym (h .list)); few = omega (arith, h .count) }
-
 -- ── what is written ──
 
 -- a Substitute where the context is not right, and then the statement's own record
@@ -44,13 +38,9 @@ pub arranged-then : {w : ℕ} {out mid out′ lengths middle lengths′ : List �
     → Puts mid out′ (q .at) next (recordBytes w own) → Noted r q next middle lengths′ → Emits w out out′ lengths lengths′ p r (R ++ (own ∷ []))
 arranged-then own a b n = emits-then (a .emits) (emits-one own b n)
 
--- the context as it is beside a list that is all that is wanted
-pub kept-list : {new : Held} {N : Work} {c nothing : TypingContext} → HoldsWork new N → Holds c (bindings (workOf new)) → Holds nothing [] → contextOf c ++ contextOf nothing ≡ bindings N
-kept-list {N = N} {c = c} n h e = ap (λ (z : Context). contextOf c ++ z) (e .list) ∙ append-nil (contextOf c) ∙ h .list ∙ ap bindings (n .list)
-
--- an empty context is paired with itself
-pub paired-none : {c : TypingContext} → Holds c [] → Paired c c
-paired-none h = paired-self h (omega arith)
+-- a struct that holds a list is one to work with
+pub held-workable : {h : Held} {N : Work} → HoldsWork h N → h .len ≤ 64 → Workable h 0 0
+held-workable n k = record { count = n .count ∙ ap length (sym (n .list)); room = omega (arith, k); places = omega arith }
 
 -- what is retained has room for what is bound
 module _ {held : Held} {n k : ℕ} (a : Workable held n k) (mask : ℕ) {new : Held} (h : HoldsWork new (keptByMask mask (workOf held))) where

@@ -77,6 +77,15 @@ pub record Steps (w : ℕ) (out out′ lengths lengths′ : List ℕ) (p : Progr
 pub record StepsAs (w : ℕ) (record′ : Record) (clauses next : ℕ) (W : Work) (n : ℕ) (out out′ lengths lengths′ : List ℕ) (p : Progress) (r : Stepped) : Type 0 where
   pub steps : (freeClauses freeNext : List VarId) → Says clauses freeClauses W → Says next freeNext W → Steps w out out′ lengths lengths′ p r (stepOf record′ freeClauses freeNext W n (p .«max_id»))
 
+-- the step of a statement that leaves the context as it is was made: its records are written
+pub record Leaves (w : ℕ) (out out′ lengths lengths′ : List ℕ) (p r : Progress) (x : Step) : Type 0 where
+  pub emits : Emits w out out′ lengths lengths′ p r (x .front)
+  pub maxId : r .«max_id» ≡ x .maxId
+
+-- .. for the record, with whatever sets the masks of its clauses and of its bodies say
+pub record LeavesAs (w : ℕ) (record′ : Record) (clauses next : ℕ) (W : Work) (n : ℕ) (out out′ lengths lengths′ : List ℕ) (p r : Progress) : Type 0 where
+  pub leaves : (freeClauses freeNext : List VarId) → Says clauses freeClauses W → Says next freeNext W → Leaves w out out′ lengths lengths′ p r (stepOf record′ freeClauses freeNext W n (p .«max_id»))
+
 -- what stands before the clauses has its place, this is the context for the clauses, and this says whether the context is right already
 pub record Opens (w : ℕ) (record′ : Record) (freeClauses freeNext : List VarId) (W : Work) (p : Progress) (r : Opened) : Type 0 where
   pub context : HoldsWork (r .context) (clauseContext record′ freeClauses freeNext W)
@@ -89,3 +98,9 @@ pub record Opens (w : ℕ) (record′ : Record) (freeClauses freeNext : List Var
 pub record OpensAs (w : ℕ) (record′ : Record) (clauses next : ℕ) (W : Work) (p : Progress) (r : Opened) : Type 0 where
   pub workable : Workable (r .context) 0 0
   pub opens : (freeClauses freeNext : List VarId) → Says clauses freeClauses W → Says next freeNext W → Opens w record′ freeClauses freeNext W p r
+
+-- what was opened: the context for the clauses, and whether the context is right already, with whatever sets the masks say
+pub record OpenedAs (record′ : Record) (clauses next : ℕ) (W : Work) (r : Opened) : Type 0 where
+  pub workable : Workable (r .context) 0 0
+  pub context : (freeClauses freeNext : List VarId) → Says clauses freeClauses W → Says next freeNext W → HoldsWork (r .context) (clauseContext record′ freeClauses freeNext W)
+  pub right : (freeClauses freeNext : List VarId) → Says clauses freeClauses W → Says next freeNext W → r .right ≡ rightOf record′ freeClauses freeNext W

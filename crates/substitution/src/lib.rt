@@ -6,7 +6,7 @@ use syntax::names::Name;
 use syntax::names::VarId;
 ghost use mathlib.Core.Path.{_≡_};
 ghost use mathlib.Core.List.{_∷_, [], _++_};
-ghost use Prim.Native.Nat.{_+_, _≤_, _<_};
+ghost use Prim.Native.Nat.{_≤_, _<_};
 ghost use Rattle.syntax.specs.Context.{vars};
 ghost use Rattle.syntax.specs.Arrays.{contextOf};
 ghost use Rattle.model.specs.Lists.{zip};
@@ -63,24 +63,22 @@ impl Substitution {
         next
     }
 
-    // The pairs of each target with the variable wanted at its place, behind those that there are.
-    pub fn pair_up(self, targets: TypingContext, wanted: TypingContext) -> Self
-        requires { ⌜ (targets .len ≡ wanted .len) × ((targets .len ≤ 64) × (self .len + targets .len ≤ 128)) ⌝ }
-        ensures { λ r. ⌜ HoldsPairs r (pairsOf self ++ zip (contextOf targets) (vars (contextOf wanted))) ⌝ }
+    // Each target with the variable wanted at its place.
+    pub fn pairs_of(targets: TypingContext, wanted: TypingContext) -> Self
+        requires { ⌜ (targets .len ≡ wanted .len) × (targets .len ≤ 64) ⌝ }
+        ensures { λ r. ⌜ HoldsPairs r (zip (contextOf targets) (vars (contextOf wanted))) ⌝ }
     {
         let n = targets.len;
-        let mut out = self;
-        let mut at = self.len;
+        let mut all = Substitution::empty();
         let mut i = 0;
         while i < n {
             let target = targets.bindings[i];
             let b = wanted.bindings[i];
             let source = b.var;
-            out.pairs[at] = Pair { target, source };
-            at += 1;
+            all.pairs[i] = Pair { target, source };
             i += 1;
         }
-        out.len = at;
-        out
+        all.len = n;
+        all
     }
 }

@@ -180,9 +180,8 @@ module _ {whole : Context × ℕ} {seen : List VarId} {m : ℕ} {l : Context} {n
   freshening-fits e = omega (arith, s .closing, ap (λ (w : Context × ℕ). w .1) (left-clash e), freshen-grows (rest l n (i + 1)) seen (fresh m))
 
   -- the one at i takes a fresh ID
-  pub freshening-clash : (v : Identifier) → v ≡ freshIdentifier m (getD l i d .var .name) → elem (idOf (getD l i d)) seen ≡ true →
-      Freshening whole seen (v .id .0) (set l i (rebound (getD l i d) v)) n (i + 1)
-  freshening-clash v f e = record {
+  pub freshening-clash : (r : ContextBinding) → r ≡ drawn m (getD l i d) → elem (idOf (getD l i d)) seen ≡ true → Freshening whole seen (idOf r .0) (set l i r) n (i + 1)
+  freshening-clash r f e = record {
     within = rw length-set (s .within);
     below = omega arith;
     list = s .list ∙ rw (f, left-clash e, rest-set l n i (drawn m (getD l i d)) h, take-stored l i (drawn m (getD l i d)) (omega (arith, s .within)))

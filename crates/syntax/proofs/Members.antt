@@ -1,12 +1,13 @@
 -- Laws of sets of IDs: the tests `elem` and `distinct` answer for `_∈_` and `Distinct`; members of `++` and `without`;
--- membership a place at a time, for loops. Assumes nothing.
+-- a search a place at a time, for loops. Assumes nothing.
 use mathlib.Core.Path.{_≡_, refl, sym, _∙_, ap, subst}
 use mathlib.Core.Logic.{_⊎_, inl, inr}
 use mathlib.Core.Bool.{Bool, true, false, not, _&&_, _||_, cond}
 use mathlib.Core.List.{List, [], _∷_, _++_}
 use Prim.Native.Nat.{ℕ, _+_, _≤_, _<_}
+use native.Mathlib.Omega.{arith}
 use lib.Dec.{T, eqb→eq, eqb-refl}
-use lib.ListN.{length, getD}
+use lib.ListN.{length, take, getD}
 use Rattle.syntax.specs.Names.{sameVarId}
 use Rattle.syntax.specs.Sets.{elem, _∈_, without, distinct, Distinct}
 use Rattle.syntax.specs.declared.names.VarId.{VarId}
@@ -128,11 +129,25 @@ without-∈ x (y ∷ s) r h = go (λ m. without-∈ x s r m) (elem? y r)
     go ih (inl p) = let m = ih (rw (p .0) at h) in (inr (m .0), m .1)
     go ih (inr p) = both ih (p .1) (rw (p .0) at h)
 
--- ── membership a place at a time ──
+-- ── a search a place at a time ──
 
-pub elem-step : (x : VarId) (xs : List VarId) (n i : ℕ) (d : VarId) → i < n → n ≤ length xs →
-    elem x (rest xs n i) ≡ (sameVarId x (getD xs i d) || elem x (rest xs n (i + 1)))
-elem-step x xs n i d h k = rw (rest-cons xs n i d h k)
+-- the ID is among the first n of an array where it is among those from j on
+pub record Searching (x : VarId) (xs : List VarId) (n j : ℕ) : Type 0 where
+  pub below : j ≤ n
+  pub left : elem x (take n xs) ≡ elem x (rest xs n j)
 
-pub elem-end : (x : VarId) (xs : List VarId) (n i : ℕ) → n ≤ i → elem x (rest xs n i) ≡ false
-elem-end x xs n i h = rw (rest-end xs n i h)
+pub searching-start : (x : VarId) (xs : List VarId) (n : ℕ) → Searching x xs n 0
+searching-start x xs n = record { below = omega arith; left = refl }
+
+module _ {x : VarId} {xs : List VarId} {n j : ℕ} (s : Searching x xs n j) where
+  turn : (d : VarId) → j < n → n ≤ length xs → elem x (take n xs) ≡ (sameVarId x (getD xs j d) || elem x (rest xs n (j + 1)))
+  turn d h k = s .left ∙ rw (rest-cons xs n j d h k)
+
+  pub searching-found : (d : VarId) → j < n → n ≤ length xs → sameVarId x (getD xs j d) ≡ true → elem x (take n xs) ≡ true
+  searching-found d h k e = turn d h k ∙ rw e
+
+  pub searching-next : (d : VarId) → j < n → n ≤ length xs → sameVarId x (getD xs j d) ≡ false → Searching x xs n (j + 1)
+  searching-next d h k e = record { below = omega arith; left = turn d h k ∙ rw e }
+
+  pub searching-none : n ≤ j → elem x (take n xs) ≡ false
+  searching-none h = s .left ∙ rw (rest-end xs n j h)

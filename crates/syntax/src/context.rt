@@ -10,7 +10,7 @@ ghost use Prim.Native.Nat.{_≤_, _<_, _^_};
 ghost use Rattle.syntax.specs.Types.{sameChirality};
 ghost use Rattle.syntax.specs.Context.{sameBinding, sameContext, emptyBinding};
 ghost use Rattle.syntax.specs.Filter.{filterBySet};
-ghost use Rattle.syntax.specs.Fresh.{freshen};
+ghost use Rattle.syntax.specs.Fresh.{fresh, drawn, freshen};
 ghost use Rattle.syntax.specs.Arrays.{setOf, contextOf, Holds, Freshens};
 
 pub enum Chirality {
@@ -92,6 +92,17 @@ impl ContextBinding {
             false
         }
     }
+
+    // The binding under the ID that is drawn at a max_id.
+    fn drawn(self, max_id: VarId) -> Self
+        requires { ⌜ fresh («max_id» .0) < 2 ^ 32 ⌝ }
+        ensures { λ r. ⌜ r ≡ drawn («max_id» .0) self ⌝ }
+    {
+        let var = Identifier::fresh(max_id, self.var.name);
+        let chi = self.chi;
+        let ty = self.ty;
+        ContextBinding { var, chi, ty }
+    }
 }
 
 impl TypingContext {
@@ -164,7 +175,7 @@ impl TypingContext {
         out
     }
 
-    // Draws an ID for each binding whose own is among the clashes or came earlier.
+    // Draws an ID for each binding whose own is among the clashes or came earlier. For the i-th the IDs seen from j on are left to look at.
     pub fn freshen(self, clashes: IdSet, max_id: VarId) -> Freshened
         requires { ⌜ (self .len ≤ 64) × ((clashes .len ≤ 64) × ((freshen (contextOf self) (setOf clashes) («max_id» .0)) .1 < 2 ^ 32)) ⌝ }
         ensures { λ r. ⌜ Freshens r (freshen (contextOf self) (setOf clashes) («max_id» .0)) ⌝ }
@@ -174,19 +185,27 @@ impl TypingContext {
         let mut seen = clashes;
         let mut max = max_id;
         let mut i = 0;
+        let mut j = 0;
         while i < n {
             let b = out.bindings[i];
             let id = b.var.id;
-            if seen.contains(id) {
-                let var = Identifier::fresh(max, b.var.name);
-                max = var.id;
-                let chi = b.chi;
-                let ty = b.ty;
-                out.bindings[i] = ContextBinding { var, chi, ty };
-                i += 1;
+            let at = seen.len;
+            if j < at {
+                let one = seen.ids[j];
+                if id.same(one) {
+                    let renamed = b.drawn(max);
+                    max = renamed.var.id;
+                    out.bindings[i] = renamed;
+                    i += 1;
+                    j = 0;
+                } else {
+                    j += 1;
+                }
             } else {
-                seen = seen.add(id);
+                seen.ids[at] = id;
+                seen.len = at + 1;
                 i += 1;
+                j = 0;
             }
         }
         Freshened {

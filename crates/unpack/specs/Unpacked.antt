@@ -11,7 +11,7 @@ use Rattle.syntax.specs.declared.names.Identifier.{Identifier}
 use Rattle.syntax.specs.declared.context.TypingContext.{TypingContext}
 use Rattle.format.specs.Parse.{mark, Marked}
 use Rattle.format.specs.Fields.{identifierBytes, listBytes, IdentifierOk, ListOk}
-use Rattle.format.specs.Records.{Record, definition, call, let', switch, create, invoke, literal, op, ifc, clause'}
+use Rattle.format.specs.Records.{Record, call, let', switch, create, invoke, literal, op, ifc}
 use Rattle.format.specs.Kinds.{kindOf, fixed}
 use Rattle.directory.specs.Slots.{Ready}
 use Rattle.directory.specs.declared.Frame.{Frame}
@@ -19,8 +19,6 @@ use Rattle.parts.specs.Standing.{Stands}
 use Rattle.parts.specs.Parts.{listOf}
 use Rattle.checking.specs.Nodes.{recordAt, hasList, firstOf, firstAt}
 use Rattle.unpack.specs.declared.CallRecord.{CallRecord}
-use Rattle.unpack.specs.declared.ClauseRecord.{ClauseRecord}
-use Rattle.unpack.specs.declared.DefinitionRecord.{DefinitionRecord}
 use Rattle.unpack.specs.declared.LetRecord.{LetRecord}
 use Rattle.unpack.specs.declared.InvokeRecord.{InvokeRecord}
 use Rattle.unpack.specs.declared.SwitchRecord.{SwitchRecord}
@@ -33,10 +31,6 @@ use Rattle.unpack.specs.declared.Second.the-variants.{None, Some}
 use Rattle.unpack.specs.declared.NameAndList.{NameAndList}
 
 -- ── the record that a struct stands for (document 01, "The image": each kind and its parts) ──
-
--- 1 definition: name, list
-abbrev pub definitionOf : DefinitionRecord → Record
-definitionOf d = definition (d .name) (contextOf (d .context))
 
 -- 3 Call: label, list
 abbrev pub callOf : CallRecord → Record
@@ -73,10 +67,6 @@ secondIs (Some x) = some x
 
 abbrev pub ifcOf : IfCRecord → Record
 ifcOf c = ifc (c .sort) (c .fst) (secondIs (c .snd))
-
--- 11 clause: xtor, list
-abbrev pub clauseOf : ClauseRecord → Record
-clauseOf c = clause' (c .xtor) (contextOf (c .context))
 
 -- the record is the one that a struct stands for, and the list in the struct has as many bindings as it says
 pub record Unpacked (r meant : Record) (list : TypingContext) : Type 0 where

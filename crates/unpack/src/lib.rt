@@ -20,12 +20,7 @@ ghost use Rattle.format.specs.Fields.{identifierBytes, IdentifierOk};
 ghost use Rattle.scope.specs.Flat.{plainRecord, smallRecord};
 ghost use Rattle.parts.specs.Standing.{ReadsAs};
 ghost use Rattle.checking.specs.Nodes.{recordAt, At};
-ghost use Rattle.unpack.specs.Unpacked.{definitionOf, callOf, letOf, switchOf, createOf, invokeOf, literalOf, opOf, secondIs, ifcOf, clauseOf, Unpacked, ListAt, HoldsAt, SecondAt, NamedAt, NamedIs};
-
-pub struct DefinitionRecord {
-    pub name: Identifier,
-    pub context: TypingContext,
-}
+ghost use Rattle.unpack.specs.Unpacked.{callOf, letOf, switchOf, createOf, invokeOf, literalOf, opOf, secondIs, ifcOf, Unpacked, ListAt, HoldsAt, SecondAt, NamedAt, NamedIs};
 
 pub struct CallRecord {
     pub label: Identifier,
@@ -83,13 +78,8 @@ pub struct IfCRecord {
     pub snd: Second,
 }
 
-pub struct ClauseRecord {
-    pub xtor: Identifier,
-    pub context: TypingContext,
-}
-
 // An identifier and a list: what a definition, a Call and a clause are.
-struct NameAndList {
+pub struct NameAndList {
     pub name: Identifier,
     pub list: TypingContext,
 }
@@ -114,7 +104,8 @@ pub fn list(s: &[u8], w: usize, at: usize) -> TypingContext
     out
 }
 
-fn named(s: &[u8], g: Frame, i: usize) -> NameAndList
+// The definition, the Call or the clause at index i. (Here and below the counts have passed question 7.)
+pub fn named(s: &[u8], g: Frame, i: usize) -> NameAndList
     requires { ⌜ NamedAt g (now s) i ⌝ }
     ensures { λ r. ⌜ NamedIs r (recordAt g (now (s .entry)) i) ⌝ }
 {
@@ -126,17 +117,6 @@ fn named(s: &[u8], g: Frame, i: usize) -> NameAndList
         name,
         list: bindings,
     }
-}
-
-// The definition at index i. (Here and below the counts have passed question 7.)
-pub fn definition(s: &[u8], g: Frame, i: usize) -> DefinitionRecord
-    requires { ⌜ At g (now s) i 1 × (smallRecord (recordAt g (now s) i) ≡ true) ⌝ }
-    ensures { λ r. ⌜ Unpacked (recordAt g (now (s .entry)) i) (definitionOf r) (r .context) ⌝ }
-{
-    let all = named(s, g, i);
-    let name = all.name;
-    let context = all.list;
-    DefinitionRecord { name, context }
 }
 
 // The Call at index i.
@@ -252,15 +232,4 @@ pub fn ifc(s: &[u8], g: Frame, i: usize) -> IfCRecord
     let fst = identifier_at(s, w, start + 2);
     let snd = second_at(s, w, start + (4 + w));
     IfCRecord { sort, fst, snd }
-}
-
-// The clause at index i.
-pub fn clause(s: &[u8], g: Frame, i: usize) -> ClauseRecord
-    requires { ⌜ At g (now s) i 11 × (smallRecord (recordAt g (now s) i) ≡ true) ⌝ }
-    ensures { λ r. ⌜ Unpacked (recordAt g (now (s .entry)) i) (clauseOf r) (r .context) ⌝ }
-{
-    let all = named(s, g, i);
-    let xtor = all.name;
-    let context = all.list;
-    ClauseRecord { xtor, context }
 }

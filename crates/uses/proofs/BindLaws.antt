@@ -1,42 +1,35 @@
--- With room, the scope takes all that is bound (`bound-all`); and there is room for what a statement's record and a clause bind, where the
--- limit on the scope was asked. Assumes nothing.
-use Prim.Native.Nat.{ℕ, _+_, _≤_, _<_}
+-- A scope with what is bound; and there is room for what a statement's record and a clause bind, where the limit on the scope was asked.
+-- Assumes nothing.
+use Prim.Native.Nat.{ℕ, _+_, _≤_}
 use mathlib.Core.Path.{_≡_, sym, ap, _∙_, subst}
-use mathlib.Core.List.{List, [], _∷_, _++_, append-nil, append-assoc}
+use mathlib.Core.List.{List, _++_}
 use native.Mathlib.Omega.{arith}
-use borrow.Author.Tests.{lt-ltb}
 use lib.ListN.{length, drop, length-append}
-use Rattle.syntax.specs.Context.{ids}
+use Rattle.syntax.specs.Arrays.{setOf, SetHolds}
+use Rattle.syntax.specs.Context.{Context, ids}
 use Rattle.syntax.specs.declared.names.VarId.{VarId}
+use Rattle.syntax.specs.declared.sets.IdSet.{IdSet}
 use Rattle.model.specs.Syntax.{Clauses, clause}
 use Rattle.format.specs.Records.{Record}
 use Rattle.parts.specs.Standing.{headOf}
 use Rattle.trees.specs.Views.{binders}
 use Rattle.trees.specs.Places.{stmtAt, StmtStands}
 use Rattle.trees.proofs.Steps.{ClauseNext}
-use Rattle.scope.specs.declared.Verdict.{Verdict}
-use Rattle.scope.specs.Walk.{Scoped, judged, enterOne, enterAll}
 use Rattle.scope.specs.Rooms.{RoomFor, RoomForClauses}
 use Rattle.scope.proofs.RoomLaws.{room-here, room-clause, room-binders}
-use Rattle.checking.specs.Scoping.{Entered}
-use Rattle.checking.specs.declared.scoping.Entering.{Entering}
+use Rattle.checking.specs.Scoping.{Scope}
 use Rattle.checking.proofs.StepLaws.{head-is}
+use Rattle.uses.specs.Sets.{Room}
 use Rattle.uses.specs.Sources.{BoundBy}
+use Rattle.uses.proofs.CountLaws.{ids-length}
 
-enter-one : (M : ℕ) (x : VarId) (Δ : List VarId) (v : Verdict) → length Δ < 64
-    → enterOne M x (record { scope = Δ; verdict = v }) ≡ record { scope = Δ ++ (x ∷ []); verdict = judged M Δ x v }
-enter-one M x Δ v h = rw (lt-ltb (length Δ) 64 h)
+-- a set that holds the scope and what is bound
+pub bound-by : (B : List VarId) {x : IdSet} {xs ys : List VarId} → xs ≡ ys → length (B ++ xs) ≤ 64 → SetHolds x (B ++ ys) → BoundBy x (B ++ xs)
+bound-by B e h s = rw e (record { is = s .list; scope = record { count = s .count ∙ ap length (sym (s .list)); small = omega (arith, s .count, rw e at h) } })
 
-enter-room : (M : ℕ) (xs Δ : List VarId) (v : Verdict) → length (Δ ++ xs) ≤ 64 → enterAll M xs (record { scope = Δ; verdict = v }) .scope ≡ Δ ++ xs
-enter-room M [] Δ v h = sym (append-nil Δ)
-enter-room M (x ∷ xs) Δ v h =
-    let n : length Δ < 64 = omega (arith, length-append Δ (x ∷ xs)) in
-    ap (λ (s : Scoped). enterAll M xs s .scope) (enter-one M x Δ v n)
-    ∙ (enter-room M xs (Δ ++ (x ∷ [])) (judged M Δ x v) (rw (append-assoc Δ (x ∷ []) xs) h) ∙ append-assoc Δ (x ∷ []) xs)
-
-pub bound-all : (M : ℕ) (xs Δ : List VarId) (v : Verdict) {e : Entering} → length (Δ ++ xs) ≤ 64 → Entered e (enterAll M xs (record { scope = Δ; verdict = v }))
-    → BoundBy (e .scope) (Δ ++ xs)
-bound-all M xs Δ v h e = record { is = ap (λ (s : Scoped). s .scope) (e .is) ∙ enter-room M xs Δ v h; scope = e .scope }
+-- a scope has room for a list that it binds
+pub scope-room : {b : IdSet} {xs : List VarId} (Γ : Context) → xs ≡ ids Γ → Scope b → length (setOf b ++ xs) ≤ 64 → Room b (length Γ)
+scope-room {b} {xs} Γ e s h = record { count = s .count; small = omega (arith, s .count, length-append (setOf b) xs, ap length e, ids-length Γ) }
 
 -- ── room for what a record binds ──
 

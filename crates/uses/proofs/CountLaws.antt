@@ -20,7 +20,7 @@ record-at f [] i a h = absurd (omega arith)
 record-at f (r ∷ rs) zero a h = both-true (f r) _ a .0
 record-at f (r ∷ rs) (suc i) a h = record-at f rs i (both-true (f r) _ a .1) (omega arith)
 
-ids-length : (Γ : Context) → length (ids Γ) ≡ length Γ
+pub ids-length : (Γ : Context) → length (ids Γ) ≡ length Γ
 ids-length Γ = length-map Γ idOf
 
 pub uses-few : (r : Record) → smallRecord r ≡ true → length (usesOf r) ≤ 33

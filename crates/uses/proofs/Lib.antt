@@ -1,4 +1,6 @@
--- The laws of sets with room, of scopes and of counts.
+-- The laws of sets with room, of counts, of what a record uses and binds, and of scopes.
 pub mod SetLaws
-pub mod BindLaws
 pub mod CountLaws
+pub mod KindLaws
+pub mod SecondLaws
+pub mod BindLaws

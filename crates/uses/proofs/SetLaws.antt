@@ -5,10 +5,11 @@ use mathlib.Core.List.{List, [], _∷_, _++_, append-nil, append-assoc}
 use mathlib.Core.Bool.{true, false≢true}
 use native.Mathlib.Omega.{arith}
 use borrow.Author.Tests.{leb-true}
-use lib.ListN.{length, length-append}
+use lib.ListN.{length, set, length-append}
 use Rattle.syntax.specs.Arrays.{setOf, SetHolds}
 use Rattle.syntax.specs.declared.names.VarId.{VarId}
 use Rattle.syntax.specs.declared.sets.IdSet.{IdSet}
+use Rattle.syntax.proofs.Lists.{take-stored, stored-count}
 use Rattle.format.specs.Records.{Record, definition, substitute, call, let', switch, create, invoke, literal, op, ifc, clause'}
 use Rattle.format.specs.Kinds.{kindOf}
 use Rattle.directory.specs.declared.Frame.{Frame}
@@ -29,6 +30,10 @@ behind-step x xs s = sym (append-assoc s (x ∷ []) xs)
 
 pub behind-none : (s : List VarId) → behind [] s ≡ s
 behind-none s = append-nil s
+
+-- an ID is stored behind
+pub set-stored : (a : IdSet) (x : VarId) → a .len < length (a .ids) → SetHolds (record { ids = set (a .ids) (a .len) x; len = a .len + 1 }) (setOf a ++ (x ∷ []))
+set-stored a x h = record { count = stored-count (a .ids) (a .len) x h; list = take-stored (a .ids) (a .len) x h }
 
 pub room-more : {a b : IdSet} {n : ℕ} (x : VarId) → Room a n → 0 < n → SetHolds b (setOf a ++ (x ∷ [])) → Room b (n - 1)
 room-more {a} {b} {n} x r h e = record {

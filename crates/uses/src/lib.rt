@@ -1,16 +1,14 @@
 // The IDs that the record at an index uses, in their order, and the scope with what it binds.
-use checking::nodes::enter_node;
 use checking::nodes::first;
 use checking::nodes::list_at;
 use checking::nodes::operand;
-use checking::scoping::Entering;
+use checking::nodes::target;
 use directory::Frame;
 use fields::count;
 use parts::byte;
 use parts::identifier;
 use parts::identifier_at;
 use records::kinds::Kind;
-use scope::Verdict;
 use syntax::names::Identifier;
 use syntax::sets::IdSet;
 ghost use mathlib.Core.Path.{_≡_};
@@ -24,7 +22,7 @@ ghost use Rattle.model.specs.FreeVars.{optionalId};
 ghost use Rattle.trees.specs.Views.{binders, usesOf};
 ghost use Rattle.scope.specs.Flat.{smallRecord};
 ghost use Rattle.parts.specs.Parts.{listOf};
-ghost use Rattle.checking.specs.Nodes.{recordAt, At, hasList, firstOf, operandOf, secondOf};
+ghost use Rattle.checking.specs.Nodes.{recordAt, At, hasList, operandOf, secondOf};
 ghost use Rattle.checking.specs.Scoping.{Scope};
 ghost use Rattle.uses.specs.Sets.{Room};
 ghost use Rattle.uses.specs.Sources.{BoundBy};
@@ -42,7 +40,10 @@ fn add_list(s: &[u8], g: Frame, i: usize, kind: u8, set: IdSet) -> IdSet
     let mut all = set;
     while 0 < left {
         let x = identifier_at(s, g.id, at);
-        all = all.add(x.id);
+        let id = x.id;
+        let end = all.len;
+        all.ids[end] = id;
+        all.len = end + 1;
         at = at + size;
         left = left - 1;
     }
@@ -110,16 +111,27 @@ pub fn bind(s: &[u8], g: Frame, i: usize, kind: u8, bound: IdSet) -> IdSet
     requires { ⌜ At g (now s) i kind × (Scope bound × (length (setOf bound ++ binders (recordAt g (now s) i)) ≤ 64)) ⌝ }
     ensures { λ r. ⌜ BoundBy r (setOf bound ++ binders (recordAt g (now (s .entry)) i)) ⌝ }
 {
-    let verdict = Verdict {
-        room: true,
-        binders: true,
-        uses: true,
-        ids: true,
-    };
-    let e = Entering {
-        scope: bound,
-        verdict,
-    };
-    let inner = enter_node(s, g, i, kind, e, 0);
-    inner.scope
+    if kind == 4 {
+        let x = first(s, g, i, 4);
+        return bound.add(x.id);
+    }
+    if kind == 6 {
+        let x = first(s, g, i, 6);
+        return bound.add(x.id);
+    }
+    if kind == 8 {
+        let x = first(s, g, i, 8);
+        return bound.add(x.id);
+    }
+    if kind == 9 {
+        let x = target(s, g, i);
+        return bound.add(x.id);
+    }
+    if kind == 1 {
+        return add_list(s, g, i, 1, bound);
+    }
+    if kind == 11 {
+        return add_list(s, g, i, 11, bound);
+    }
+    bound
 }

@@ -11,6 +11,9 @@ pub fn copy(s: &[u8], from: usize, n: usize, out: &mut [u8], at: usize) -> usize
     requires { ⌜ (from + n ≤ length (now s)) × (at + n < 2 ^ 64) ⌝ }
     ensures { λ r. ⌜ Puts (now (out .entry)) (now (out .exit)) at r (take n (drop from (now (s .entry)))) ⌝ }
 {
+    if at + n <= out.len() {
+        return copy_inside(s, from, n, out, at);
+    }
     let mut here = at;
     let mut i = 0;
     while i < n {
@@ -18,6 +21,19 @@ pub fn copy(s: &[u8], from: usize, n: usize, out: &mut [u8], at: usize) -> usize
         i += 1;
     }
     here
+}
+
+// The same where the buffer has room for all of them.
+fn copy_inside(s: &[u8], from: usize, n: usize, out: &mut [u8], at: usize) -> usize
+    requires { ⌜ (from + n ≤ length (now s)) × (at + n ≤ length (now out)) ⌝ }
+    ensures { λ r. ⌜ Puts (now (out .entry)) (now (out .exit)) at r (take n (drop from (now (s .entry)))) ⌝ }
+{
+    let mut i = 0;
+    while i < n {
+        out[at + i] = s[from + i];
+        i += 1;
+    }
+    at + n
 }
 
 // Moves the n bytes that begin at `from` up by `by` places, from the last to the first.

@@ -17,7 +17,7 @@ ghost use Prim.Native.Nat.{_+_, _≤_, _<_, _^_};
 ghost use Rattle.syntax.specs.Arrays.{contextOf};
 ghost use Rattle.format.specs.Parse.{mark};
 ghost use Rattle.format.specs.Fields.{identifierBytes, typeBytes, listBytes};
-ghost use Rattle.format.specs.Records.{definition, call, let', switch, create, invoke, literal, op, ifc, clause', recordBytes};
+ghost use Rattle.format.specs.Records.{call, let', switch, create, invoke, literal, op, ifc, recordBytes};
 ghost use Rattle.put.specs.Puts.{Puts};
 ghost use Rattle.write.specs.Marks.{ifMarked};
 
@@ -39,8 +39,8 @@ fn put_typed(out: &mut [u8], at: usize, w: usize, kind: u8, var: Identifier, ty:
     put_type(out, next, w, ty)
 }
 
-// A kind, an identifier and a list.
-fn put_headed(
+// A kind, an identifier and a list: a definition or a clause.
+pub fn put_headed(
     out: &mut [u8],
     at: usize,
     w: usize,
@@ -53,32 +53,6 @@ fn put_headed(
 {
     let next = put_named(out, at, w, kind, x);
     put_list(out, next, w, context)
-}
-
-pub fn put_definition(
-    out: &mut [u8],
-    at: usize,
-    w: usize,
-    name: Identifier,
-    context: TypingContext,
-) -> usize
-    requires { ⌜ (at + 8192 < 2 ^ 64) × ((w ≤ 8) × (context .len ≤ 64)) ⌝ }
-    ensures { λ r. ⌜ Puts (now (out .entry)) (now (out .exit)) at r (recordBytes w (definition name (contextOf context))) ⌝ }
-{
-    put_headed(out, at, w, 1, name, context)
-}
-
-pub fn put_clause(
-    out: &mut [u8],
-    at: usize,
-    w: usize,
-    xtor: Identifier,
-    context: TypingContext,
-) -> usize
-    requires { ⌜ (at + 8192 < 2 ^ 64) × ((w ≤ 8) × (context .len ≤ 64)) ⌝ }
-    ensures { λ r. ⌜ Puts (now (out .entry)) (now (out .exit)) at r (recordBytes w (clause' xtor (contextOf context))) ⌝ }
-{
-    put_headed(out, at, w, 11, xtor, context)
 }
 
 pub fn put_call(out: &mut [u8], at: usize, w: usize, label: Identifier) -> usize

@@ -17,6 +17,18 @@ Inv-loop out₀ at w n rest₀ here₀ left₀ out rest here left =
 abbrev μ-loop : tie.MeasureT-loop
 μ-loop out₀ at w n rest₀ here₀ left₀ out rest here left = left
 
+short-requires : tie.Need-short-requires Inv-loop μ-loop
+short-requires c κs = search needs
+
+store-pair-requires : tie.Need-store-pair-requires Inv-loop μ-loop
+store-pair-requires c κs = c .before .before .short .ensures (c .before .if1 .taken) .1
+
+same-length : tie.Need-same-length Inv-loop μ-loop
+same-length c = search needs
+
+returns : tie.Need-returns Inv-loop μ-loop
+returns c = rw (c .before .before .before .before .before .short .ensures (c .before .before .before .before .if1 .taken) .0) (c .before .before .store-pair .ensures)
+
 loop-holds : tie.Need-loop-holds Inv-loop μ-loop
 loop-holds c = (refl, (refl, refl))
 
@@ -44,12 +56,12 @@ loop-again c =
       ),
     )
 
-same-length : tie.Need-same-length Inv-loop μ-loop
-same-length c = c .before .loop .inv .1 .0
+same-length-2 : tie.Need-same-length-2 Inv-loop μ-loop
+same-length-2 c = c .before .loop .inv .1 .0
 
-returns : tie.Need-returns Inv-loop μ-loop
-returns c =
-    let a = c .before .before .before .args in
+returns-2 : tie.Need-returns-2 Inv-loop μ-loop
+returns-2 c =
+    let a = c .before .before .before .before .before .args in
     let l = c .before .loop in
     let z : l .left ≡ 0 = omega (arith, c .loop-test .left) in
     record {
@@ -63,11 +75,15 @@ put-number-spec =
     (tie.spec
     Inv-loop
     μ-loop
+    short-requires
+    store-pair-requires
+    same-length
+    returns
     loop-holds
     low-requires
     put-byte-requires
     sub-left
     loop-less
     loop-again
-    same-length
-    returns)
+    same-length-2
+    returns-2)

@@ -1,74 +1,45 @@
-use Prim.Native.Nat.{ℕ, _+_}
 use mathlib.Core.Path.{sym, ap, _∙_, subst}
-use mathlib.Core.List.{List, [], _∷_, _++_, append-nil}
+use mathlib.Core.List.{List, _++_, append-nil}
 use native.Mathlib.Omega.{arith}
-use denote.Ref.{now}
-use Rattle.syntax.specs.Arrays.{setOf, SetHolds}
-use Rattle.syntax.specs.declared.names.Identifier.{Identifier}
-use Rattle.syntax.specs.declared.names.VarId.{VarId}
-use Rattle.format.specs.Fields.{identifierBytes, IdentifierOk}
-use Rattle.format.specs.Records.{recordBytes}
-use Rattle.parts.specs.Standing.{Stands}
-use Rattle.format.specs.Kinds.{fixed}
-use Rattle.checking.specs.Nodes.{recordAt}
-use Rattle.checking.proofs.TailLaws.{tail-byte, tail-room, tail-some}
-use Rattle.checking.proofs.NodeLaws.{record-ok, identifier-room, second-none, Second, second-some}
-use Rattle.uses.proofs.SetLaws.{room-holds}
 use borrow.Author.Needs.{needs}
+use Rattle.syntax.specs.Arrays.{setOf, SetHolds}
+use Rattle.syntax.specs.declared.names.VarId.{VarId}
+use Rattle.uses.proofs.SetLaws.{room-holds}
+use Rattle.uses.proofs.SecondLaws.{mark-room, unmarked-none, second-room, second-read}
 use Rattle.uses.proofs.add_second.Statement.{statement}
 use Rattle.uses.proofs.add_second.Tie as tie
-
--- the operand that the mark announces
-second : (c : tie.Else1) → Second (c .before .before .before .before .args .g .id) (recordAt (c .before .before .before .before .args .g) (now (c .before .before .before .before .args .s)) (c .before .before .before .before .args .i))
-second c =
-    let a = c .before .before .before .before .args in
-    let r = recordAt (a .g) (now (a .s)) (a .i) in
-    let h = c .before .before .before .before .pre .0 in
-    let b = tail-byte (a .g .id) 10 r 0 _ (h .kind) (c .before .before .fixed .ensures ∙ omega arith) (tail-some (a .g .id) r (λ q. omega (arith, h .kind)) (λ q. omega (arith, h .kind))) (c .before .byte .ensures) in
-    second-some (a .g .id) r (h .kind) (record-ok (a .g) (now (a .s)) (a .i) 10 h) (λ q. c .if1 .left (b ∙ q))
-
-there : (c : tie.Else1) → Stands (identifierBytes (c .before .before .before .before .args .g .id)) (IdentifierOk (c .before .before .before .before .args .g .id)) (recordBytes (c .before .before .before .before .args .g .id) (recordAt (c .before .before .before .before .args .g) (now (c .before .before .before .before .args .s)) (c .before .before .before .before .args .i)))
-    (c .before .before .fixed .result + 1) (second c .var)
-there c =
-    let a = c .before .before .before .before .args in
-    subst (λ (z : ℕ). Stands (identifierBytes (a .g .id)) (IdentifierOk (a .g .id)) (recordBytes (a .g .id) (recordAt (a .g) (now (a .s)) (a .i))) (z + 1) (second c .var)) (sym (c .before .before .fixed .ensures)) (second c .stands)
 
 fixed-requires : tie.Need-fixed-requires
 fixed-requires c κs = search needs
 
 byte-requires : tie.Need-byte-requires
 byte-requires c κs =
-    let a = c .before .before .args in
-    let r = recordAt (a .g) (now (a .s)) (a .i) in
     let h = c .before .before .pre .0 in
-    (h .ready, (h .inside, tail-room (a .g) (now (a .s)) (a .i) 10 0 _ h (c .fixed .ensures ∙ omega arith) (tail-some (a .g .id) r (λ q. omega (arith, h .kind)) (λ q. omega (arith, h .kind)))))
+    (h .ready, (h .inside, mark-room h (c .fixed .ensures)))
 
 returns : tie.Need-returns
 returns c =
-    let a = c .before .before .before .before .args in
-    let r = recordAt (a .g) (now (a .s)) (a .i) in
-    let h = c .before .before .before .before .pre .0 in
-    let b = tail-byte (a .g .id) 10 r 0 _ (h .kind) (c .before .before .fixed .ensures ∙ omega arith) (tail-some (a .g .id) r (λ q. omega (arith, h .kind)) (λ q. omega (arith, h .kind))) (c .before .byte .ensures) in
-    room-holds (c .before .before .before .before .pre .1) (ap (λ (xs : List VarId). setOf (a .set) ++ xs) (second-none (a .g .id) r (h .kind) (sym b ∙ c .if1 .taken)) ∙ append-nil (setOf (a .set)))
+    let start = c .before .before .before .before in
+    let set = setOf (start .args .set) in
+    let e = unmarked-none (start .pre .0) (c .before .before .fixed .ensures) (c .before .byte .ensures) (c .if1 .taken) in
+    room-holds (start .pre .1) (ap (λ (xs : List VarId). set ++ xs) e ∙ append-nil set)
 
 add-identifier : tie.Need-add-identifier
 add-identifier c = search needs
 
 identifier-requires : tie.Need-identifier-requires
 identifier-requires c κs =
-    let a = c .before .before .before .before .args in
     let h = c .before .before .before .before .pre .0 in
-    (h .ready, (h .inside, identifier-room (a .g) (now (a .s)) (a .i) _ (there c)))
+    (h .ready, (h .inside, second-room h (c .before .before .fixed .ensures) (c .before .byte .ensures) (c .if1 .left)))
 
 add-requires : tie.Need-add-requires
 add-requires c κs = omega (arith, c .before .before .before .before .before .pre .1 .small)
 
 returns-2 : tie.Need-returns-2
 returns-2 c =
-    let a = c .before .before .before .before .before .before .args in
-    let t = second (c .before .before) in
-    let e = c .before .identifier .ensures .is (t .var) (there (c .before .before)) in
-    subst (λ (xs : List VarId). SetHolds (c .add .result) (setOf (a .set) ++ xs)) (ap (λ (y : Identifier). y .id ∷ []) e ∙ sym (t .is)) (c .add .ensures)
+    let start = c .before .before .before .before .before .before in
+    let e = second-read (start .pre .0) (c .before .before .before .before .fixed .ensures) (c .before .before .before .byte .ensures) (c .before .before .if1 .left) (c .before .identifier .ensures) in
+    subst (λ (xs : List VarId). SetHolds (c .add .result) (setOf (start .args .set) ++ xs)) (sym e) (c .add .ensures)
 
 pub add-second-spec : {M : Type 1} → statement M
 add-second-spec =

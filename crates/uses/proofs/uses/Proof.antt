@@ -2,18 +2,16 @@ use mathlib.Core.Path.{_≡_, refl, sym, _∙_, subst}
 use mathlib.Core.List.{[], _∷_}
 use native.Mathlib.Omega.{arith}
 use borrow.Author.Needs.{needs}
-use borrow.Author.Tests.{eq-eqb, ne-eqb}
 use denote.Ref.{now}
 use Rattle.syntax.specs.Arrays.{SetHolds}
 use Rattle.syntax.specs.Context.{ids}
 use Rattle.syntax.specs.declared.names.Identifier.{Identifier}
 use Rattle.model.specs.FreeVars.{optionalId}
-use Rattle.format.specs.Kinds.{kindOf}
 use Rattle.trees.specs.Views.{usesOf}
 use Rattle.parts.specs.Parts.{listOf}
 use Rattle.checking.specs.Nodes.{recordAt, firstOf, operandOf, secondOf}
-use Rattle.checking.proofs.NodeLaws.{uses-are}
 use Rattle.uses.proofs.SetLaws.{list-room, at-kind, room-of, set-then}
+use Rattle.uses.proofs.KindLaws.{uses-by, uses-none}
 use Rattle.uses.proofs.uses.Statement.{statement}
 use Rattle.uses.proofs.uses.Tie as tie
 
@@ -29,8 +27,7 @@ returns : tie.Need-returns
 returns c =
     let a = c .before .before .before .before .args in
     let r = recordAt (a .g) (now (a .s)) (a .i) in
-    let k : kindOf r ≡ 3 = c .before .before .before .before .pre .0 .kind ∙ c .before .before .if1 .taken in
-    let e : usesOf r ≡ ids (listOf r) = uses-are r ∙ rw (eq-eqb (kindOf r) 3 k) in
+    let e : usesOf r ≡ ids (listOf r) = uses-by r 3 (c .before .before .before .before .pre .0 .kind ∙ c .before .before .if1 .taken) in
     subst (SetHolds (c .add-list .result)) (sym e) (set-then (ids (listOf r)) (c .before .empty .ensures) (c .add-list .ensures))
 
 empty-requires-2 : tie.Need-empty-requires-2
@@ -45,8 +42,7 @@ returns-2 : tie.Need-returns-2
 returns-2 c =
     let a = c .before .before .before .before .before .args in
     let r = recordAt (a .g) (now (a .s)) (a .i) in
-    let k : kindOf r ≡ 4 = c .before .before .before .before .before .pre .0 .kind ∙ c .before .before .if2 .taken in
-    let e : usesOf r ≡ ids (listOf r) = uses-are r ∙ rw (ne-eqb (kindOf r) 3 (omega arith), eq-eqb (kindOf r) 4 k) in
+    let e : usesOf r ≡ ids (listOf r) = uses-by r 4 (c .before .before .before .before .before .pre .0 .kind ∙ c .before .before .if2 .taken) in
     subst (SetHolds (c .add-list2 .result)) (sym e) (set-then (ids (listOf r)) (c .before .empty2 .ensures) (c .add-list2 .ensures))
 
 first-requires : tie.Need-first-requires
@@ -59,8 +55,7 @@ returns-3 : tie.Need-returns-3
 returns-3 c =
     let a = c .before .before .before .before .before .before .args in
     let r = recordAt (a .g) (now (a .s)) (a .i) in
-    let k : kindOf r ≡ 5 = c .before .before .before .before .before .before .pre .0 .kind ∙ c .before .before .if3 .taken in
-    let e : usesOf r ≡ firstOf r .id ∷ [] = uses-are r ∙ rw (ne-eqb (kindOf r) 3 (omega arith), ne-eqb (kindOf r) 4 (omega arith), eq-eqb (kindOf r) 5 k) in
+    let e : usesOf r ≡ firstOf r .id ∷ [] = uses-by r 5 (c .before .before .before .before .before .before .pre .0 .kind ∙ c .before .before .if3 .taken) in
     subst (SetHolds (c .only .result)) (sym e) (subst (λ (y : Identifier). SetHolds (c .only .result) (y .id ∷ [])) (c .before .first .ensures) (c .only .ensures))
 
 first-requires-2 : tie.Need-first-requires-2
@@ -78,8 +73,7 @@ returns-4 : tie.Need-returns-4
 returns-4 c =
     let a = c .before .before .before .before .before .before .before .before .args in
     let r = recordAt (a .g) (now (a .s)) (a .i) in
-    let k : kindOf r ≡ 7 = c .before .before .before .before .before .before .before .before .pre .0 .kind ∙ c .before .before .before .if4 .taken in
-    let e : usesOf r ≡ firstOf r .id ∷ ids (listOf r) = uses-are r ∙ rw (ne-eqb (kindOf r) 3 (omega arith), ne-eqb (kindOf r) 4 (omega arith), ne-eqb (kindOf r) 5 (omega arith), eq-eqb (kindOf r) 7 k) in
+    let e : usesOf r ≡ firstOf r .id ∷ ids (listOf r) = uses-by r 7 (c .before .before .before .before .before .before .before .before .pre .0 .kind ∙ c .before .before .before .if4 .taken) in
     subst (SetHolds (c .add-list3 .result)) (sym e) (set-then (ids (listOf r)) (subst (λ (y : Identifier). SetHolds (c .before .only2 .result) (y .id ∷ [])) (c .before .before .first2 .ensures) (c .before .only2 .ensures)) (c .add-list3 .ensures))
 
 first-requires-3 : tie.Need-first-requires-3
@@ -95,8 +89,7 @@ returns-5 : tie.Need-returns-5
 returns-5 c =
     let a = c .before .before .before .before .before .before .before .before .before .args in
     let r = recordAt (a .g) (now (a .s)) (a .i) in
-    let k : kindOf r ≡ 9 = c .before .before .before .before .before .before .before .before .before .pre .0 .kind ∙ c .before .before .before .if5 .taken in
-    let e : usesOf r ≡ firstOf r .id ∷ operandOf r .id ∷ [] = uses-are r ∙ rw (ne-eqb (kindOf r) 3 (omega arith), ne-eqb (kindOf r) 4 (omega arith), ne-eqb (kindOf r) 5 (omega arith), ne-eqb (kindOf r) 7 (omega arith), eq-eqb (kindOf r) 9 k) in
+    let e : usesOf r ≡ firstOf r .id ∷ operandOf r .id ∷ [] = uses-by r 9 (c .before .before .before .before .before .before .before .before .before .pre .0 .kind ∙ c .before .before .before .if5 .taken) in
     subst (SetHolds (c .add-operand .result)) (sym e) (set-then (operandOf r .id ∷ []) (subst (λ (y : Identifier). SetHolds (c .before .only3 .result) (y .id ∷ [])) (c .before .before .first3 .ensures) (c .before .only3 .ensures)) (c .add-operand .ensures))
 
 first-requires-4 : tie.Need-first-requires-4
@@ -112,8 +105,7 @@ returns-6 : tie.Need-returns-6
 returns-6 c =
     let a = c .before .before .before .before .before .before .before .before .before .before .args in
     let r = recordAt (a .g) (now (a .s)) (a .i) in
-    let k : kindOf r ≡ 10 = c .before .before .before .before .before .before .before .before .before .before .pre .0 .kind ∙ c .before .before .before .if6 .taken in
-    let e : usesOf r ≡ firstOf r .id ∷ optionalId (secondOf r) = uses-are r ∙ rw (ne-eqb (kindOf r) 3 (omega arith), ne-eqb (kindOf r) 4 (omega arith), ne-eqb (kindOf r) 5 (omega arith), ne-eqb (kindOf r) 7 (omega arith), ne-eqb (kindOf r) 9 (omega arith), eq-eqb (kindOf r) 10 k) in
+    let e : usesOf r ≡ firstOf r .id ∷ optionalId (secondOf r) = uses-by r 10 (c .before .before .before .before .before .before .before .before .before .before .pre .0 .kind ∙ c .before .before .before .if6 .taken) in
     subst (SetHolds (c .add-second .result)) (sym e) (set-then (optionalId (secondOf r)) (subst (λ (y : Identifier). SetHolds (c .before .only4 .result) (y .id ∷ [])) (c .before .before .first4 .ensures) (c .before .only4 .ensures)) (c .add-second .ensures))
 
 empty-requires-3 : tie.Need-empty-requires-3
@@ -124,7 +116,7 @@ returns-7 c =
     let a = c .before .before .before .before .before .before .before .before .args in
     let r = recordAt (a .g) (now (a .s)) (a .i) in
     let h = c .before .before .before .before .before .before .before .before .pre .0 .kind in
-    let e : usesOf r ≡ [] = uses-are r ∙ rw (ne-eqb (kindOf r) 3 (λ q. c .before .before .before .before .before .before .if1 .left (sym h ∙ q)), ne-eqb (kindOf r) 4 (λ q. c .before .before .before .before .before .if2 .left (sym h ∙ q)), ne-eqb (kindOf r) 5 (λ q. c .before .before .before .before .if3 .left (sym h ∙ q)), ne-eqb (kindOf r) 7 (λ q. c .before .before .before .if4 .left (sym h ∙ q)), ne-eqb (kindOf r) 9 (λ q. c .before .before .if5 .left (sym h ∙ q)), ne-eqb (kindOf r) 10 (λ q. c .before .if6 .left (sym h ∙ q))) in
+    let e : usesOf r ≡ [] = uses-none r (c .before .before .before .before .before .before .before .before .args .kind) h (c .before .before .before .before .before .before .if1 .left) (c .before .before .before .before .before .if2 .left) (c .before .before .before .before .if3 .left) (c .before .before .before .if4 .left) (c .before .before .if5 .left) (c .before .if6 .left) in
     subst (SetHolds (c .empty3 .result)) (sym e) (c .empty3 .ensures)
 
 pub uses-spec : {M : Type 1} → statement M

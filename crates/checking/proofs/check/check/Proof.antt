@@ -19,14 +19,17 @@ open-requires c κs = search needs
 enum-known-frame : tie.Need-enum-known-frame
 enum-known-frame c = search needs
 
+slice-aggregate-check-image : tie.Need-slice-aggregate-check-image
+slice-aggregate-check-image c = search needs
+
 check-image-requires : tie.Need-check-image-requires
-check-image-requires c κs = (opened c .ready, opened-defined (opened c))
+check-image-requires c κs = (opened (c .before) .ready, opened-defined (opened (c .before)))
 
 enum-known-question : tie.Need-enum-known-question
 enum-known-question c = search needs
 
 returns : tie.Need-returns
-returns c = c .check-image .ensures ∙ opened-answer (opened (c .before))
+returns c = c .before .check-image .ensures .0 ∙ opened-answer (opened (c .before .before .before))
 
 returns-2 : tie.Need-returns-2
 returns-2 c =
@@ -39,6 +42,7 @@ check-spec =
     (tie.spec
     open-requires
     enum-known-frame
+    slice-aggregate-check-image
     check-image-requires
     enum-known-question
     returns

@@ -32,7 +32,7 @@ loop-holds : tie.Need-loop-holds Inv-loop μ-loop
 loop-holds c = (omega arith, refl)
 
 plain-record-requires : tie.Need-plain-record-requires Inv-loop μ-loop
-plain-record-requires c κs = c .before .before .before .pre
+plain-record-requires c κs = (c .before .before .before .pre, c .loop-test .taken)
 
 add-i : tie.Need-add-i Inv-loop μ-loop
 add-i c = omega arith

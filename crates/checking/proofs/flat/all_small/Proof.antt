@@ -32,7 +32,7 @@ loop-holds : tie.Need-loop-holds Inv-loop μ-loop
 loop-holds c = (omega arith, refl)
 
 small-record-requires : tie.Need-small-record-requires Inv-loop μ-loop
-small-record-requires c κs = c .before .before .before .pre
+small-record-requires c κs = (c .before .before .before .pre, c .loop-test .taken)
 
 add-i : tie.Need-add-i Inv-loop μ-loop
 add-i c = omega arith

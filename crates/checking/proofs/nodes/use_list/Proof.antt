@@ -1,59 +1,60 @@
 -- `use_list` meets its contract. Assumes nothing.
-use Prim.Native.Nat.{_-_}
-use mathlib.Core.Path.{refl, sym}
+use mathlib.Core.Path.{sym}
+use mathlib.Core.List.{[], _∷_}
 use native.Mathlib.Omega.{arith}
-use Rattle.syntax.specs.Arrays.{setOf}
+use denote.Ref.{now}
 use Rattle.syntax.specs.Context.{ids}
-use Rattle.scope.specs.Walk.{useOne, useAll}
 use Rattle.parts.specs.Parts.{listOf}
 use Rattle.checking.specs.Nodes.{recordAt}
+use Rattle.checking.specs.Scoping.{scopeIn, usedAll}
 use Rattle.checking.proofs.ListLaws.{list-run, Left, left-start, left-inside, left-turn, left-end}
+use Rattle.checking.proofs.UseLaws.{used-none, used-more}
 use Rattle.checking.proofs.nodes.use_list.Statement.{statement}
 use Rattle.checking.proofs.nodes.use_list.Tie as tie
 
 abbrev Inv-loop : tie.InvT-loop
-Inv-loop s g i kind scope w size start left₀ at₀ verdict₀ left at verdict =
-    Left (useAll (setOf scope)) (g .id) s (useAll (setOf scope) (ids (listOf (recordAt g s i))) verdict₀) at left verdict
+Inv-loop s g i kind scope n w size start left₀ at₀ used₀ left at used =
+    Left (usedAll (scopeIn n scope)) (g .id) s (usedAll (scopeIn n scope) (ids (listOf (recordAt g s i))) used₀) at left used
 
 abbrev μ-loop : tie.MeasureT-loop
-μ-loop s g i kind scope w size start left₀ at₀ verdict₀ left at verdict = left
+μ-loop s g i kind scope n w size start left₀ at₀ used₀ left at used = left
 
 add-size : tie.Need-add-size Inv-loop μ-loop
-add-size c = omega (arith, c .before .pre .0 .ready .id)
+add-size c = omega (arith, c .before .before .pre .0 .ready .id)
 
 add-size-2 : tie.Need-add-size-2 Inv-loop μ-loop
-add-size-2 c = omega (arith, c .before .pre .0 .ready .id)
+add-size-2 c = omega (arith, c .before .before .pre .0 .ready .id)
 
 list-at-requires : tie.Need-list-at-requires Inv-loop μ-loop
-list-at-requires c κs = (c .before .pre .0, c .before .pre .1 .0)
+list-at-requires c κs = (c .before .before .pre .0, c .before .before .pre .1 .0)
 
 shared-slice-read-count : tie.Need-shared-slice-read-count Inv-loop μ-loop
-shared-slice-read-count c = list-run (c .before .before .before .args .g .id) (c .before .list-at .ensures) .inside
+shared-slice-read-count c = list-run (c .before .before .before .before .args .g .id) (c .before .list-at .ensures) .inside
 
 count-requires : tie.Need-count-requires Inv-loop μ-loop
 count-requires c κs = tt
 
 add-at : tie.Need-add-at Inv-loop μ-loop
-add-at c = omega (arith, list-run (c .before .before .before .before .args .g .id) (c .before .before .list-at .ensures) .inside)
+add-at c = omega (arith, list-run (c .before .before .before .before .before .args .g .id) (c .before .before .list-at .ensures) .inside)
 
 loop-holds : tie.Need-loop-holds Inv-loop μ-loop
 loop-holds c =
-    let a = c .before .before .before .before .args in
-    left-start (useAll (setOf (a .scope))) (a .v) (c .before .before .list-at .ensures) (c .count .ensures)
+    let a = c .before .before .before .before .before .args in
+    left-start (usedAll (scopeIn (a .n) (now (a .scope)))) (a .u) (c .before .before .list-at .ensures) (c .count .ensures)
 
 identifier-at-requires : tie.Need-identifier-at-requires Inv-loop μ-loop
 identifier-at-requires c κs =
-    let a = c .before .before .before .before .before .before .args in
-    let h = left-inside (useAll (setOf (a .scope))) (c .before .loop .inv) (c .loop-test .taken) in
-    record { width = c .before .before .before .before .before .before .pre .0 .ready .id .1; inside = omega (arith, h) }
+    let a = c .before .before .before .before .before .before .before .args in
+    let h = left-inside (usedAll (scopeIn (a .n) (now (a .scope)))) (c .before .loop .inv) (c .loop-test .taken) in
+    record { width = c .before .before .before .before .before .before .before .pre .0 .ready .id .1; inside = omega (arith, h) }
 
 use-one-requires : tie.Need-use-one-requires Inv-loop μ-loop
-use-one-requires c κs = c .before .before .before .before .before .before .before .pre .1 .1
+use-one-requires c κs = c .before .before .before .before .before .before .before .before .pre .1 .1
 
 add-at-2 : tie.Need-add-at-2 Inv-loop μ-loop
 add-at-2 c =
-    let a = c .before .before .before .before .before .before .before .before .args in
-    omega (arith, left-inside (useAll (setOf (a .scope))) (c .before .before .before .loop .inv) (c .before .before .loop-test .taken))
+    let a = c .before .before .before .before .before .before .before .before .before .args in
+    omega (arith, left-inside (usedAll (scopeIn (a .n) (now (a .scope)))) (c .before .before .before .loop .inv) (c .before .before .loop-test .taken))
 
 sub-left : tie.Need-sub-left Inv-loop μ-loop
 sub-left c = omega arith
@@ -63,13 +64,13 @@ loop-less c = omega arith
 
 loop-again : tie.Need-loop-again Inv-loop μ-loop
 loop-again c =
-    let a = c .before .before .before .before .before .before .before .before .args in
-    left-turn (useAll (setOf (a .scope))) (useOne (setOf (a .scope))) (λ x xs v. refl) (c .before .before .before .loop .inv) (c .before .before .loop-test .taken) (c .before .identifier-at .ensures) (c .use-one .ensures)
+    let a = c .before .before .before .before .before .before .before .before .before .args in
+    left-turn (usedAll (scopeIn (a .n) (now (a .scope)))) (λ x. usedAll (scopeIn (a .n) (now (a .scope))) (x ∷ [])) (used-more (scopeIn (a .n) (now (a .scope)))) (c .before .before .before .loop .inv) (c .before .before .loop-test .taken) (c .before .identifier-at .ensures) (c .use-one .ensures)
 
 returns : tie.Need-returns Inv-loop μ-loop
 returns c =
-    let a = c .before .before .before .before .before .before .args in
-    sym (left-end (useAll (setOf (a .scope))) (λ v. refl) (c .before .loop .inv) (omega (arith, c .loop-test .left)))
+    let a = c .before .before .before .before .before .before .before .args in
+    sym (left-end (usedAll (scopeIn (a .n) (now (a .scope)))) (used-none (scopeIn (a .n) (now (a .scope)))) (c .before .loop .inv) (omega (arith, c .loop-test .left)))
 
 pub use-list-spec : {M : Type 1} → statement M
 use-list-spec =

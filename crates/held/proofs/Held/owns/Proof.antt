@@ -12,7 +12,7 @@ use Rattle.work.proofs.Lengths.{owns-length}
 use Rattle.held.specs.Holding.{workOf, emptyEntry}
 use Rattle.held.specs.declared.Held.{Held}
 use Rattle.held.proofs.Stores.{built-behind, built-next}
-use Rattle.held.proofs.Elements.{owned-at}
+use Rattle.held.proofs.Elements.{owned-behind}
 use Rattle.held.proofs.HeldLaws.{Appending, stored-all}
 use Rattle.held.proofs.Held.owns.Statement.{statement}
 use Rattle.held.proofs.Held.owns.Tie as tie
@@ -80,7 +80,7 @@ loop-again c =
     let s = c .before .before .before .before in
     let h = c .before .before .loop-test .taken in
     let a = l .inv .stored in
-    let e = owned-at (workOf (s .args .self)) (s .args .t3 .len) (s .args .self .len) (l .i) (l .at) (count-self s) h (a .here) (s .args .t3 .bindings) (s .args .n) (l .place) (omega (arith, size-params s)) (l .inv .number) in
+    let e = owned-behind (workOf (s .args .self)) (s .args .t3 .bindings) (s .args .t3 .len) (s .args .self .len) (s .args .n) (l .i) (l .at) (l .place) (count-self s) h (omega (arith, size-params s)) (a .here) (l .inv .number) in
     record {
       number = omega (arith, l .inv .number);
       stored = record {

@@ -1,6 +1,8 @@
 -- `definitions` meets its contract. Assumes nothing.
 use mathlib.Core.Path.{_≡_, refl, _∙_}
+use mathlib.Core.Logic.{inl}
 use native.Mathlib.Omega.{arith}
+use borrow.Author.Needs.{needs}
 use denote.Ref.{now}
 use lib.ListN.{length}
 use Rattle.format.specs.Shape.{flattenDefs}
@@ -9,7 +11,7 @@ use Rattle.directory.proofs.Places.{records-length}
 use Rattle.checking.specs.Definitions.{defsIn}
 use Rattle.checking.proofs.DefLaws.{DefsLeft, def-next}
 use Rattle.work.specs.Work.{workDefs}
-use Rattle.linearize.proofs.DefSteps.{DefsWriting, defs-begun, def-source, def-room, def-body, def-done, defs-done}
+use Rattle.linearize.proofs.DefSteps.{DefsWriting, defs-begun, def-source, def-workable, def-room, def-body, def-done, defs-done}
 use Rattle.linearize.proofs.def.definitions.Statement.{statement}
 use Rattle.linearize.proofs.def.definitions.Tie as tie
 
@@ -28,42 +30,45 @@ loop-holds c =
     let h = start .pre in
     (refl, (refl, record { rest = _; stand = h .stand; holds = defs-begun (now (a .out)) (now (a .lengths)) h }))
 
-enter-definition-requires : tie.Need-enter-definition-requires Inv-loop μ-loop
-enter-definition-requires c κs =
-    let h = c .before .before .before .before .before .before .before .before .pre in
-    let x = def-next (c .before .before .before .loop .inv .1 .1) (c .before .before .loop-test .taken) in
-    (def-source (h .sources) x, def-room (h .sources) x)
+empty-requires : tie.Need-empty-requires Inv-loop μ-loop
+empty-requires c κs = search needs
+
+enter-requires : tie.Need-enter-requires Inv-loop μ-loop
+enter-requires c κs =
+    let h = c .before .before .before .before .before .before .before .before .before .pre in
+    let x = def-next (c .before .before .before .before .loop .inv .1 .1) (c .before .before .before .loop-test .taken) in
+    (def-source (h .sources) x, (inl refl, (def-workable (h .sources) x (c .before .before .empty .ensures), def-room (h .sources) x)))
 
 add-statement : tie.Need-add-statement Inv-loop μ-loop
 add-statement c =
-    let start = c .before .before .before .before .before .before .before .before .before .before .before .before .before .before in
+    let start = c .before .before .before .before .before .before .before .before .before .before .before .before .before .before .before in
     let a = start .args in
     let h = start .pre in
-    let x = def-next (c .before .before .before .before .before .before .before .before .before .loop .inv .1 .1) (c .before .before .before .before .before .before .before .before .loop-test .taken) in
+    let x = def-next (c .before .before .before .before .before .before .before .before .before .before .loop .inv .1 .1) (c .before .before .before .before .before .before .before .before .before .loop-test .taken) in
     omega (arith, x .inside, records-length (a .g) (now (a .s)) (h .sources .ready), h .sources .ready .few)
 
 statement-requires : tie.Need-statement-requires Inv-loop μ-loop
 statement-requires c κs =
-    let h = c .before .before .before .before .before .before .before .before .before .before .before .before .before .before .before .before .pre in
-    let x = def-next (c .before .before .before .before .before .before .before .before .before .before .before .loop .inv .1 .1) (c .before .before .before .before .before .before .before .before .before .before .loop-test .taken) in
-    def-body (h .sources) x (c .before .before .before .before .before .before .before .enter-definition .ensures)
+    let h = c .before .before .before .before .before .before .before .before .before .before .before .before .before .before .before .before .before .pre in
+    let x = def-next (c .before .before .before .before .before .before .before .before .before .before .before .before .loop .inv .1 .1) (c .before .before .before .before .before .before .before .before .before .before .before .loop-test .taken) in
+    def-body (h .sources) x (c .before .before .before .before .before .before .before .before .before .before .empty .ensures) (c .before .before .before .before .before .before .before .enter .ensures)
 
 sub-left : tie.Need-sub-left Inv-loop μ-loop
-sub-left c = omega (arith, c .before .before .before .before .before .before .before .before .before .before .before .before .before .before .before .loop-test .taken)
+sub-left c = omega (arith, c .before .before .before .before .before .before .before .before .before .before .before .before .before .before .before .before .loop-test .taken)
 
 loop-less : tie.Need-loop-less Inv-loop μ-loop
-loop-less c = omega (arith, c .before .before .before .before .before .before .before .before .before .before .before .before .before .before .before .loop-test .taken)
+loop-less c = omega (arith, c .before .before .before .before .before .before .before .before .before .before .before .before .before .before .before .before .loop-test .taken)
 
 loop-again : tie.Need-loop-again Inv-loop μ-loop
 loop-again c =
-    let h = c .before .before .before .before .before .before .before .before .before .before .before .before .before .before .before .before .before .before .before .before .before .pre in
-    let x = def-next (c .before .before .before .before .before .before .before .before .before .before .before .before .before .before .before .before .loop .inv .1 .1) (c .before .before .before .before .before .before .before .before .before .before .before .before .before .before .before .loop-test .taken) in
-    let e = c .before .before .before .before .before .before .before .before .before .before .before .before .enter-definition in
+    let h = c .before .before .before .before .before .before .before .before .before .before .before .before .before .before .before .before .before .before .before .before .before .before .pre in
+    let x = def-next (c .before .before .before .before .before .before .before .before .before .before .before .before .before .before .before .before .before .loop .inv .1 .1) (c .before .before .before .before .before .before .before .before .before .before .before .before .before .before .before .before .loop-test .taken) in
+    let e = c .before .before .before .before .before .before .before .before .before .before .before .before .enter in
     let w = c .before .before .before .before .statement in (
-      w .kept .1 .1 .1 .1 .1 .1 .1 .0 ∙ (e .kept .1 .1 .1 .0 ∙ c .before .before .before .before .before .before .before .before .before .before .before .before .before .before .before .before .loop .inv .0),
+      w .kept .1 .1 .1 .1 .1 .1 .1 .0 ∙ (e .kept .1 .1 .1 .1 .1 .1 .1 .0 ∙ c .before .before .before .before .before .before .before .before .before .before .before .before .before .before .before .before .before .loop .inv .0),
       (
-        w .kept .1 .1 .1 .1 .1 .1 .1 .1 .0 ∙ (e .kept .1 .1 .1 .1 .0 ∙ c .before .before .before .before .before .before .before .before .before .before .before .before .before .before .before .before .loop .inv .1 .0),
-        def-done (h .sources) x (e .ensures) (w .ensures),
+        w .kept .1 .1 .1 .1 .1 .1 .1 .1 .0 ∙ (e .kept .1 .1 .1 .1 .1 .1 .1 .1 .0 ∙ c .before .before .before .before .before .before .before .before .before .before .before .before .before .before .before .before .before .loop .inv .1 .0),
+        def-done (h .sources) x (c .before .before .before .before .before .before .before .before .before .before .before .before .before .before .before .empty .ensures) (e .ensures) (w .ensures),
       ),
     )
 
@@ -83,7 +88,8 @@ definitions-spec =
     Inv-loop
     μ-loop
     loop-holds
-    enter-definition-requires
+    empty-requires
+    enter-requires
     add-statement
     statement-requires
     sub-left

@@ -1,8 +1,7 @@
-use mathlib.Core.Path.{refl}
 use native.Mathlib.Omega.{arith}
 use borrow.Author.Needs.{needs}
 use Rattle.unpack.specs.Unpacked.{secondIs}
-use Rattle.statements.proofs.IfCLaws.{ifc-steps}
+use Rattle.statements.proofs.IfCLaws.{ifc-leaves}
 use Rattle.statements.proofs.ifc.linearize.Statement.{statement}
 use Rattle.statements.proofs.ifc.linearize.Tie as tie
 
@@ -29,9 +28,9 @@ same-length-2 c = search needs
 
 returns : tie.Need-returns
 returns c =
-    let a = c .before .before .before .before .before .before .before .before .before .before .ifc .result in
-    ifc-steps (a .sort) (a .fst) (secondIs (a .snd)) (c .before .before .before .before .before .before .before .before .before .before .before .before .before .before .args .context) (c .before .before .before .before .before .before .before .before .before .before .ifc .ensures) (c .before .before .before .before .before .before .before .before .before .before .before .before .before .before .pre .1 .0 .count) (c .before .before .before .before .before .before .before .before .before .used .ensures) (c .before .before .before .before .before .before .before .before .second .ensures)
-    (c .before .before .before .before .before .before .put-ifc .ensures) (c .before .before .note .ensures) refl refl
+    let read = c .before .before .before .before .before .before .before .before .before .before in
+    let a = read .ifc .result in
+    ifc-leaves (a .sort) (a .fst) (secondIs (a .snd)) _ (read .ifc .ensures) (c .before .before .before .before .before .before .before .before .before .used .ensures) (c .before .before .before .before .before .before .before .before .second .ensures) (c .before .before .before .before .before .before .put-ifc .ensures) (c .before .before .note .ensures)
 
 pub linearize-spec : {M : Type 1} → statement M
 linearize-spec =

@@ -1,6 +1,4 @@
 -- `Substitution::push` meets its contract. Assumes nothing.
-use mathlib.Core.List.{[], append-nil}
-use mathlib.Core.Path.{sym, _∙_}
 use native.Mathlib.Omega.{arith}
 use lib.ListN.{length-set}
 use borrow.Author.Needs.{needs}
@@ -21,7 +19,7 @@ add-next c = search needs
 returns : tie.Need-returns
 returns c =
     let h = long _ (c .args .self .pairs) (c .good .0 .1 .1 .0 .1 .0 .1) in
-    holds-pairs (simp length-set (omega arith)) (sym (stored-pair (c .args .self .pairs) (c .args .self .len) _ [] (omega arith) ∙ append-nil _))
+    holds-pairs (simp length-set (omega arith)) (stored-pair (c .args .self .pairs) (c .args .self .len) _ (omega arith))
 
 pub push-spec : {M : Type 1} → statement M
 push-spec = tie.close (tie.spec mul-t7 element-set-from-next add-next returns)

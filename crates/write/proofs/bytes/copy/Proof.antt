@@ -15,6 +15,18 @@ Inv-loop s from n out₀ at here₀ i₀ out here i = (i ≤ n) × Written alone
 abbrev μ-loop : tie.MeasureT-loop
 μ-loop s from n out₀ at here₀ i₀ out here i = n - i
 
+add-if1 : tie.Need-add-if1 Inv-loop μ-loop
+add-if1 c = omega arith
+
+copy-inside-requires : tie.Need-copy-inside-requires Inv-loop μ-loop
+copy-inside-requires c κs = (c .before .before .before .before .pre .0, c .before .if1 .taken)
+
+same-length : tie.Need-same-length Inv-loop μ-loop
+same-length c = puts-same (c .before .before .copy-inside .ensures)
+
+returns : tie.Need-returns Inv-loop μ-loop
+returns c = c .before .before .copy-inside .ensures
+
 loop-holds : tie.Need-loop-holds Inv-loop μ-loop
 loop-holds c = (omega arith, written-none _ _ _ _ _)
 
@@ -36,17 +48,18 @@ loop-less c = omega arith
 loop-again : tie.Need-loop-again Inv-loop μ-loop
 loop-again c =
     let l = c .before .before .before .before .before .before .loop in
-    let a = c .before .before .before .before .before .before .before .before .before .args in
+    let s = c .before .before .before .before .before .before .before .before .before .before in
+    let a = s .args in
     let e = getD-drop (a .from) (a .s .now) (l .i) 0 in
-    (omega arith, written-next alone 0 (omega (arith, length-drop (a .from) (a .s .now), c .before .before .before .before .before .before .before .before .before .pre)) (omega arith) (rw e (c .before .before .put-byte .ensures)) (l .inv .1))
+    (omega arith, written-next alone 0 (omega (arith, length-drop (a .from) (a .s .now), s .pre)) (omega arith) (rw e (c .before .before .put-byte .ensures)) (l .inv .1))
 
-same-length : tie.Need-same-length Inv-loop μ-loop
-same-length c = puts-same (c .before .loop .inv .1 .puts)
+same-length-2 : tie.Need-same-length-2 Inv-loop μ-loop
+same-length-2 c = puts-same (c .before .loop .inv .1 .puts)
 
-returns : tie.Need-returns Inv-loop μ-loop
-returns c =
+returns-2 : tie.Need-returns-2 Inv-loop μ-loop
+returns-2 c =
     let l = c .before .loop in
-    let a = c .before .before .before .before .args in
+    let a = c .before .before .before .before .before .args in
     let e : l .i ≡ a .n = omega arith in
     puts-as (each-alone (take (a .n) (drop (a .from) (a .s .now)))) (rw e at (l .inv .1 .puts))
 
@@ -56,6 +69,10 @@ copy-spec =
     (tie.spec
     Inv-loop
     μ-loop
+    add-if1
+    copy-inside-requires
+    same-length
+    returns
     loop-holds
     add-put-byte
     shared-slice-read-put-byte
@@ -63,5 +80,5 @@ copy-spec =
     add-i
     loop-less
     loop-again
-    same-length
-    returns)
+    same-length-2
+    returns-2)
