@@ -29,7 +29,7 @@ use Rattle.work.specs.declared.Entry.{Entry}
 use Rattle.work.proofs.Lists.{in-perm, filtered-same}
 use Rattle.work.proofs.Entries.{movedBehind-perm}
 use Rattle.work.proofs.Lengths.{moved-length, respelled-fewer}
-use Rattle.held.specs.Holding.{workOf, HoldsWork}
+use Rattle.held.specs.Holding.{entriesIn, workOf, HoldsWork}
 use Rattle.held.specs.Masks.{inMask, keptByMask}
 use Rattle.held.specs.declared.Held.{Held}
 use Rattle.held.proofs.MaskLaws.{mask-fewer}
@@ -74,15 +74,15 @@ is-create (clause' x Γ) k = absurd (omega (arith, k))
 -- ── how many there are ──
 
 pub moved-few : (j : ℕ) {h : Held} (held : Held) → HoldsWork h (movedBehind j (workOf held)) → h .len ≤ held .len
-moved-few j {h} held n = omega (arith, n .count, moved-length j (workOf held), length-take (held .len) (held .entries))
+moved-few j {h} held n = omega (arith, n .count, moved-length j (workOf held), length-take (held .len) (entriesIn held))
 
 pub environment-few : (mask j : ℕ) {h : Held} (held : Held) → HoldsWork h (keptByMask mask (movedBehind j (workOf held))) → h .len ≤ held .len
-environment-few mask j {h} held n = omega (arith, n .count, mask-fewer mask (movedBehind j (workOf held)), moved-length j (workOf held), length-take (held .len) (held .entries))
+environment-few mask j {h} held n = omega (arith, n .count, mask-fewer mask (movedBehind j (workOf held)), moved-length j (workOf held), length-take (held .len) (entriesIn held))
 
 pub respelled-few : (right : Bool) (new ren : Held) (T : Context) → HoldsWork ren (respelledUnless right (workOf new) T) → ren .len ≤ new .len
 unfolding respelledUnless
-respelled-few true new ren T n = omega (arith, n .count, length-take (new .len) (new .entries))
-respelled-few false new ren T n = omega (arith, n .count, respelled-fewer (workOf new) T, length-take (new .len) (new .entries))
+respelled-few true new ren T n = omega (arith, n .count, length-take (new .len) (entriesIn new))
+respelled-few false new ren T n = omega (arith, n .count, respelled-fewer (workOf new) T, length-take (new .len) (entriesIn new))
 
 -- ── the place ──
 

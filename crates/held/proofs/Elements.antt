@@ -1,5 +1,5 @@
--- What stands at a place of the lists that the rules make of a context at work: the bindings' IDs, binders, moved and respelled entries; and
--- their lengths. Assumes nothing.
+-- What stands at a place of the array, and of the lists that the rules make of a context at work: the bindings and their IDs, binders, moved and
+-- respelled entries; and their lengths. Assumes nothing.
 use mathlib.Core.Path.{_≡_, refl, sym, ap, _∙_}
 use mathlib.Core.List.{[], _∷_, _++_}
 use Prim.Native.Nat.{ℕ, zero, suc, _+_, _-_, _≤_, _<_}
@@ -9,22 +9,39 @@ use lib.ListN.{length, take, drop, getD, length-map, length-drop, length-append,
 use lib.Seq.{getD-take, getD-drop, length-take-le}
 use Rattle.syntax.specs.Context.{Context, idOf, ids, emptyBinding}
 use Rattle.syntax.specs.declared.context.ContextBinding.{ContextBinding}
+use Rattle.syntax.proofs.Flats.{seen-at}
 use Rattle.work.specs.declared.Entry.{Entry}
 use Rattle.work.specs.Work.{Work, bindings, own, owns, movedBehind, respell, respelled}
 use Rattle.work.proofs.Lengths.{owns-length}
-use Rattle.held.specs.Holding.{emptyEntry}
+use Rattle.held.specs.Holding.{entryIn, entriesIn, emptyFlatEntry, emptyEntry}
+use Rattle.held.specs.declared.Held.{Held}
 use Rattle.held.proofs.Stores.{mapped-at, mapped-count, joined-left, joined-right, joined-behind}
+
+-- ── the array ──
+
+-- what is read is the entry that stands there
+pub entry-at : (h : Held) (i : ℕ) → entryIn (getD (h .entries) i emptyFlatEntry) ≡ getD (entriesIn h) i emptyEntry
+entry-at h i = seen-at entryIn (h .entries) i emptyFlatEntry
+
+pub source-at : (h : Held) (i : ℕ) → getD (h .entries) i emptyFlatEntry .source ≡ getD (entriesIn h) i emptyEntry .source
+source-at h i = ap (λ (e : Entry). e .source) (entry-at h i)
 
 -- ── bindings ──
 
 abbrev pub bindingOf : Entry → ContextBinding
 bindingOf e = e .binding
 
-pub ids-at : (W : Work) (n i : ℕ) → i < n → idOf (getD W i emptyEntry .binding) ≡ getD (ids (bindings (take n W))) i (idOf emptyBinding)
-ids-at W n i h = ap idOf (mapped-at bindingOf W n i emptyEntry h) ∙ sym (List·getD-map idOf (bindings (take n W)) i emptyBinding)
+pub binding-at : (h : Held) (n i : ℕ) → i < n → entryIn (getD (h .entries) i emptyFlatEntry) .binding ≡ getD (bindings (take n (entriesIn h))) i emptyBinding
+binding-at h n i k = ap bindingOf (entry-at h i) ∙ mapped-at bindingOf (entriesIn h) n i emptyEntry k
+
+pub bindings-count : (W : Work) (n : ℕ) → n ≤ length W → length (bindings (take n W)) ≡ n
+bindings-count W n h = mapped-count bindingOf W n h
+
+pub id-at : (h : Held) (n i : ℕ) → i < n → getD (h .entries) i emptyFlatEntry .id ≡ getD (ids (bindings (take n (entriesIn h)))) i (idOf emptyBinding)
+id-at h n i k = ap idOf (binding-at h n i k) ∙ sym (List·getD-map idOf (bindings (take n (entriesIn h))) i emptyBinding)
 
 pub ids-count : (W : Work) (n : ℕ) → n ≤ length W → length (ids (bindings (take n W))) ≡ n
-ids-count W n h = length-map (bindings (take n W)) idOf ∙ mapped-count bindingOf W n h
+ids-count W n h = length-map (bindings (take n W)) idOf ∙ bindings-count W n h
 
 -- ── binders ──
 

@@ -6,31 +6,34 @@ use Prim.Native.Nat.{ℕ, _+_, _≤_, _<_}
 use native.Mathlib.Omega.{arith}
 use lib.ListN.{length, set}
 use Rattle.syntax.specs.declared.names.VarId.{VarId}
-use Rattle.syntax.proofs.Lists.{take-stored, stored-count}
+use Rattle.syntax.proofs.Lists.{stored-count}
+use Rattle.syntax.proofs.Flats.{seen-stored}
 use Rattle.work.specs.declared.Entry.{Entry}
 use Rattle.work.specs.Work.{Work}
 use Rattle.work.specs.Placed.{Fits}
-use Rattle.held.specs.Holding.{workOf, HoldsWork}
+use Rattle.held.specs.Holding.{entryIn, entriesIn, workOf, HoldsWork}
 use Rattle.held.specs.declared.Held.{Held}
+use Rattle.held.specs.declared.entries.FlatEntry.{FlatEntry}
 use Rattle.held.proofs.Stores.{Built, built-done}
 
-pub stored-behind : (h : Held) (a e : Entry) → h .len < length (h .entries) → a ≡ e → HoldsWork (record { entries = set (h .entries) (h .len) a; len = h .len + 1 }) (workOf h ++ (e ∷ []))
-stored-behind h a e k q = rw q record { count = stored-count (h .entries) (h .len) e k; list = take-stored (h .entries) (h .len) e k }
+pub stored-behind : (h : Held) (a : FlatEntry) (e : Entry) → h .len < length (entriesIn h) → entryIn a ≡ e →
+    HoldsWork (record { entries = set (h .entries) (h .len) a; len = h .len + 1 }) (workOf h ++ (e ∷ []))
+stored-behind h a e k q = record { count = stored-count (entriesIn h) (h .len) e k; list = seen-stored entryIn (h .entries) (h .len) a e q k }
 
 -- ── loops: the first of the entries are done ──
 
 -- in place
 pub record Storing (whole : Work) (n : ℕ) (out₀ out : Held) (i : ℕ) : Type 0 where
   pub len : out .len ≡ n
-  pub turn : Built whole (out₀ .entries) (out .entries) 64 i
+  pub turn : Built whole (entriesIn out₀) (entriesIn out) 64 i
 
 -- behind the first `start`: i of `count` are stored
 pub record Appending (whole : Work) (start count : ℕ) (out₀ out : Held) (at i : ℕ) : Type 0 where
   pub here : at ≡ start + i
   pub below : i ≤ count
-  pub turn : Built whole (out₀ .entries) (out .entries) 64 at
+  pub turn : Built whole (entriesIn out₀) (entriesIn out) 64 at
 
-pub stored-all : {whole l₀ : Work} {i : ℕ} {h : Held} → h .len ≡ length whole → h .len ≤ i → Built whole l₀ (h .entries) 64 i → HoldsWork h whole
+pub stored-all : {whole l₀ : Work} {i : ℕ} {h : Held} → h .len ≡ length whole → h .len ≤ i → Built whole l₀ (entriesIn h) 64 i → HoldsWork h whole
 stored-all q k s = record { count = q; list = built-done _ q k s }
 
 -- ── for callers ──

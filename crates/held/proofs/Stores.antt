@@ -1,5 +1,6 @@
 -- An array that a loop stores into from a place on, one element a turn: what stands before the place is done, what stands from it on is as it was.
--- What is stored is what stands at that place of the whole: of a list's images, or of two lists joined. Assumes nothing.
+-- What is stored is what stands at that place of the whole: of a list's images, or of two lists joined. The array may be seen through a function.
+-- Assumes nothing.
 use mathlib.Core.Path.{_≡_, refl, sym, ap, _∙_, subst}
 use mathlib.Core.List.{List, _++_, map}
 use Prim.Native.Nat.{ℕ, _+_, _-_, _≤_, _<_}
@@ -8,6 +9,7 @@ use native.Mathlib.Nat.{add-zero}
 use lib.ListN.{length, take, drop, getD, set, length-set, length-append, length-map, List·getD-map, List·getD-append}
 use lib.Seq.{take-at, take-length, drop-drop, drop-set-lt, getD-drop, getD-take, getD-append-add, set-getD, length-take-le}
 use Rattle.syntax.proofs.Lists.{take-next, take-stored}
+use Rattle.syntax.proofs.Flats.{seen-set}
 
 module _ {A : Type 0} where
   -- l₀ is the array as it was, l as it is; the first i are those of the whole
@@ -53,6 +55,11 @@ module _ {A : Type 0} where
   built-done {whole} {l₀} {l} {room} {i} n q h s =
       let e : i ≡ length whole = omega (arith, s .below) in
       rw (q, ← e, s .front, e) (take-length whole)
+
+-- the array is seen through f, and the one at i is stored
+pub built-seen : {A B : Type 0} (f : A → B) (l : List A) {whole l₀ : List B} {room i : ℕ} (d : B) (a : A) → i < length whole → f a ≡ getD whole i d →
+    Built whole l₀ (map f l) room i → Built whole l₀ (map f (set l i a)) room (i + 1)
+built-seen {B = B} f l {whole} {l₀} {room} {i} d a h e s = subst (λ (k : List B). Built whole l₀ k room (i + 1)) (sym (seen-set f l i a)) (built-next d (f a) h e s)
 
 -- the images of an array's first n
 module _ {A B : Type 0} (f : A → B) where

@@ -2,6 +2,8 @@
 pub mod entries;
 pub mod masks;
 
+use crate::entries::FlatEntry;
+use crate::entries::flat;
 use crate::entries::owned;
 use crate::entries::respell;
 use crate::entries::spelled;
@@ -23,7 +25,7 @@ ghost use Rattle.held.specs.Holding.{workOf, HoldsWork};
 ghost use Rattle.held.specs.Masks.{keptByMask};
 
 pub struct Held {
-    pub entries: [Entry; Held::MAX],
+    pub entries: [FlatEntry; Held::MAX],
     pub len: usize,
 }
 
@@ -34,12 +36,12 @@ impl Held {
     pub fn empty() -> Self
         ensures { λ r. ⌜ HoldsWork r [] ⌝ }
     {
-        let none = Entry {
+        let none = flat(Entry {
             binding: ContextBinding::empty(),
             source: VarId(0),
             place: 0,
             spelled: false,
-        };
+        });
         Held {
             entries: [none; Held::MAX],
             len: 0,
@@ -52,7 +54,7 @@ impl Held {
     {
         let at = self.len;
         let mut next = self;
-        next.entries[at] = e;
+        next.entries[at] = flat(e);
         next.len = at + 1;
         next
     }
@@ -64,7 +66,7 @@ impl Held {
     {
         let at = self.len;
         let mut next = self;
-        next.entries[at] = owned(n, b);
+        next.entries[at] = flat(owned(n, b));
         next.len = at + 1;
         next
     }
@@ -100,8 +102,7 @@ impl Held {
         let mut i = 0;
         while i < n {
             let e = self.entries[i];
-            let b = e.binding;
-            out.bindings[i] = b;
+            out.bindings[i] = e.flat_binding();
             i += 1;
         }
         out.len = n;
@@ -118,8 +119,7 @@ impl Held {
         let mut i = 0;
         while i < n {
             let e = self.entries[i];
-            let b = e.binding;
-            let id = b.var.id;
+            let id = e.id;
             out.ids[i] = id;
             i += 1;
         }
@@ -138,7 +138,7 @@ impl Held {
         while i < n {
             let e = self.entries[i];
             if id.same(e.source) {
-                return spelled(e, x);
+                return spelled(e.entry(), x);
             }
             i += 1;
         }
@@ -159,8 +159,8 @@ impl Held {
             if j < m {
                 let b = out.bindings[i];
                 let e = self.entries[j];
-                if b.var.id.same(e.source) {
-                    out.bindings[i] = used_binding(e, b);
+                if b.id.same(e.source) {
+                    out.bindings[i] = used_binding(e.entry(), b.binding()).flat();
                     i += 1;
                     j = 0;
                 } else {
@@ -187,17 +187,17 @@ impl Held {
         let mut i = 0;
         while i < n {
             let e = self.entries[i];
-            let a = e.binding;
+            let a = e.flat_binding().binding();
             if i < k {
                 let b = front.bindings[i];
-                if a.same(b) {
+                if a.same(b.binding()) {
                     i += 1;
                 } else {
                     return false;
                 }
             } else {
                 let b = back.bindings[i - k];
-                if a.same(b) {
+                if a.same(b.binding()) {
                     i += 1;
                 } else {
                     return false;
@@ -242,7 +242,7 @@ impl Held {
         let mut i = 0;
         while i < count {
             let b = params.bindings[i];
-            out.entries[at] = owned(place, b);
+            out.entries[at] = flat(owned(place, b.binding()));
             at += 1;
             place += 1;
             i += 1;
@@ -264,7 +264,7 @@ impl Held {
             if i < k {
                 let b = params.bindings[i];
                 let place = n + (i as u8);
-                out.entries[i] = owned(place, b);
+                out.entries[i] = flat(owned(place, b.binding()));
                 i += 1;
             } else {
                 let e = self.entries[i - k];
@@ -287,7 +287,7 @@ impl Held {
         while i < n {
             let e = out.entries[i];
             let b = names.bindings[i];
-            out.entries[i] = respell(e, b);
+            out.entries[i] = flat(respell(e.entry(), b.binding()));
             i += 1;
         }
         out

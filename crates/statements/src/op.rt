@@ -43,7 +43,7 @@ fn retain(context: Held, fst: VarId, snd: VarId, mask: u64) -> Held
     let mut i = 0;
     while i < n {
         let e = out.entries[i];
-        if stays(e, fst, snd, mask) {
+        if stays(e.entry(), fst, snd, mask) {
             i += 1;
         } else {
             n -= 1;

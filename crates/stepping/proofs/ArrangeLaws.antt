@@ -1,10 +1,11 @@
 -- A Substitute where the context differs from the wanted list: its bytes, and what is written. (Its pairs: PairLaws.antt.) Assumes nothing.
 use Prim.Native.Nat.{ℕ, _*_, _≤_}
-use mathlib.Core.Path.{_≡_, refl, subst}
+use mathlib.Core.Path.{_≡_, refl, sym, ap, _∙_, subst}
 use mathlib.Core.Bool.{Bool, true, false}
 use mathlib.Core.List.{List, [], _∷_}
 use native.Mathlib.Omega.{arith}
 use lib.ListN.{length, take, length-append, length-map, length-take}
+use Rattle.syntax.proofs.Lists.{counted}
 use Rattle.syntax.specs.Context.{Context, vars}
 use Rattle.syntax.specs.declared.names.Identifier.{Identifier}
 use Rattle.syntax.specs.declared.context.ContextBinding.{ContextBinding}
@@ -13,11 +14,12 @@ use Rattle.format.specs.Parse.{each}
 use Rattle.format.specs.Fields.{pairBytes}
 use Rattle.format.specs.Records.{substitute, recordBytes}
 use Rattle.put.specs.Puts.{Puts}
-use Rattle.write.proofs.Writing.{pair-length}
+use Rattle.put.proofs.Putting.{puts-as, puts-then}
+use Rattle.write.proofs.Writing.{Written, each-map, storedBytes, pair-length}
 use Rattle.emit.specs.Emitting.{Noted}
 use Rattle.emit.specs.declared.progress.Progress.{Progress}
 use Rattle.emit.proofs.EmitLaws.{emits-none, emits-one}
-use Rattle.substitution.specs.Pairs.{pairOf, pairsOf, HoldsPairs}
+use Rattle.substitution.specs.Pairs.{partsOf, pairsIn, pairsOf, HoldsPairs}
 use Rattle.substitution.specs.declared.Substitution.{Substitution}
 use Rattle.steps.specs.Steps.{arranged}
 use Rattle.stepping.specs.Stepping.{Arranges}
@@ -33,11 +35,20 @@ substitute-short w ps h k = omega (arith, pairs-short w ps h, k)
 
 -- ── what is written ──
 
+-- the kind and the count, then each pair: the record of a substitution
+pub puts-record : (w : ℕ) {a b c : List ℕ} {at k m i : ℕ} (s : Substitution) → s .len ≤ length (pairsIn s) → i ≡ s .len → Puts a b at k (2 ∷ (s .len ∷ []))
+    → Written (storedBytes w) 32 (pairsIn s) b k c m i → Puts a c at m (recordBytes w (substitute (pairsOf s)))
+unfolding recordBytes
+puts-record w s h e p q =
+    let l : length (pairsOf s) ≡ s .len = length-map (take (s .len) (pairsIn s)) partsOf ∙ counted (pairsIn s) (s .len) h in
+    puts-as (ap (λ (n : ℕ). 2 ∷ (n ∷ each (pairBytes w) (pairsOf s))) (sym l))
+    (puts-then {xs = 2 ∷ (s .len ∷ [])} p (rw (each-map (pairBytes w) partsOf (take (s .len) (pairsIn s))) (rw e at (q .puts))))
+
 -- the record of a substitution's pairs
 pub puts-pairs : {w : ℕ} {out out′ lengths lengths′ : List ℕ} {p q : Progress} {next : ℕ} (s : Substitution) → w ≤ 8 → s .len ≤ 128
     → Puts out out′ (p .at) next (recordBytes w (substitute (pairsOf s))) → Noted q p next lengths lengths′ → Arranges w out out′ lengths lengths′ p q (substitute (pairsOf s) ∷ [])
 puts-pairs {w} s h k a n =
-    let m : length (pairsOf s) ≤ 128 = rw (length-map (take (s .len) (s .pairs)) pairOf, length-take) (omega arith) in
+    let m : length (pairsOf s) ≤ 128 = rw (length-map (take (s .len) (pairsIn s)) partsOf, length-take) (omega arith) in
     record {
       emits = emits-one (substitute (pairsOf s)) a n;
       maxId = n .maxId;

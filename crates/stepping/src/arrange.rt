@@ -1,38 +1,21 @@
 // A Substitute, where the context differs from the wanted list.
-use crate::pairs::kept_pairs;
-use crate::pairs::pairs_before;
-use crate::pairs::pairs_behind;
 use emit::progress::Progress;
 use emit::progress::note;
 use held::Held;
+use substitution::FlatPair;
+use substitution::Pair;
 use substitution::Substitution;
 use syntax::context::ContextBinding;
 use syntax::context::TypingContext;
+use write::lists::put_pair;
 use write::lists::put_substitute;
 ghost use Prim.Native.Nat.{_≤_};
 ghost use mathlib.Core.List.{[], _∷_, _++_};
 ghost use Rattle.work.specs.Work.{bindings};
 ghost use Rattle.held.specs.Holding.{workOf};
 ghost use Rattle.syntax.specs.Arrays.{contextOf};
-ghost use Rattle.format.specs.Records.{substitute};
-ghost use Rattle.substitution.specs.Pairs.{pairsOf};
 ghost use Rattle.steps.specs.Steps.{arranged};
 ghost use Rattle.stepping.specs.Stepping.{RoomAt, Paired, Workable, Arranges};
-
-// The record of these pairs.
-fn put_pairs(
-    all: Substitution,
-    w: usize,
-    out: &mut [u8],
-    lengths: &mut [usize],
-    p: Progress,
-) -> Progress
-    requires { ⌜ (all .len ≤ 128) × ((w ≤ 8) × RoomAt p) ⌝ }
-    ensures { λ r. ⌜ Arranges w (now (out .entry)) (now (out .exit)) (now (lengths .entry)) (now (lengths .exit)) p r (substitute (pairsOf all) ∷ []) ⌝ }
-{
-    let next = put_substitute(out, p.at, w, all);
-    note(lengths, p, next)
-}
 
 // What is kept stays under its names.
 pub fn arrange_kept(
@@ -49,8 +32,8 @@ pub fn arrange_kept(
     if right {
         return p;
     }
-    let all = kept_pairs(kept);
-    put_pairs(all, w, out, lengths, p)
+    let none = TypingContext::empty();
+    arrange_behind(right, kept, none, none, w, out, lengths, p)
 }
 
 // The context becomes the targets.
@@ -69,8 +52,8 @@ pub fn arrange_args(
     if right {
         return p;
     }
-    let all = Substitution::pairs_of(targets, wanted);
-    put_pairs(all, w, out, lengths, p)
+    let none = Held::empty();
+    arrange_before(right, targets, wanted, none, w, out, lengths, p)
 }
 
 // The targets, and behind them the closure under its name.
@@ -90,9 +73,8 @@ pub fn arrange_closure(
     if right {
         return p;
     }
-    let args = Substitution::pairs_of(targets, wanted);
-    let all = args.push(closure, closure.var);
-    put_pairs(all, w, out, lengths, p)
+    let last = Held::empty().own(0, closure);
+    arrange_before(right, targets, wanted, last, w, out, lengths, p)
 }
 
 // What is kept, and behind it one more.
@@ -112,9 +94,9 @@ pub fn arrange_one(
     if right {
         return p;
     }
-    let first = kept_pairs(kept);
-    let all = first.push(target, wanted.var);
-    put_pairs(all, w, out, lengths, p)
+    let targets = TypingContext::empty().push(target);
+    let sources = TypingContext::empty().push(wanted);
+    arrange_behind(right, kept, targets, sources, w, out, lengths, p)
 }
 
 // What is kept, and behind it the targets.
@@ -134,8 +116,35 @@ pub fn arrange_behind(
     if right {
         return p;
     }
-    let all = pairs_behind(kept, targets, wanted);
-    put_pairs(all, w, out, lengths, p)
+    let k = kept.len;
+    let n = k + targets.len;
+    let none = Pair::empty().flat();
+    let mut all = Substitution {
+        pairs: [none; Substitution::MAX],
+        len: n,
+    };
+    let mut i = 0;
+    while i < n {
+        if i < k {
+            let e = kept.entries[i];
+            let b = e.flat_binding();
+            all.pairs[i] = FlatPair::of(b, b);
+            i += 1;
+        } else {
+            let target = targets.bindings[i - k];
+            let b = wanted.bindings[i - k];
+            all.pairs[i] = FlatPair::of(target, b);
+            i += 1;
+        }
+    }
+    let mut here = put_substitute(out, p.at, n);
+    let mut j = 0;
+    while j < n {
+        let pair = all.pairs[j];
+        here = put_pair(out, here, w, pair);
+        j += 1;
+    }
+    note(lengths, p, here)
 }
 
 // The targets, and behind them what is kept.
@@ -155,6 +164,33 @@ pub fn arrange_before(
     if right {
         return p;
     }
-    let all = pairs_before(targets, wanted, kept);
-    put_pairs(all, w, out, lengths, p)
+    let k = targets.len;
+    let n = k + kept.len;
+    let none = Pair::empty().flat();
+    let mut all = Substitution {
+        pairs: [none; Substitution::MAX],
+        len: n,
+    };
+    let mut i = 0;
+    while i < n {
+        if i < k {
+            let target = targets.bindings[i];
+            let b = wanted.bindings[i];
+            all.pairs[i] = FlatPair::of(target, b);
+            i += 1;
+        } else {
+            let e = kept.entries[i - k];
+            let b = e.flat_binding();
+            all.pairs[i] = FlatPair::of(b, b);
+            i += 1;
+        }
+    }
+    let mut here = put_substitute(out, p.at, n);
+    let mut j = 0;
+    while j < n {
+        let pair = all.pairs[j];
+        here = put_pair(out, here, w, pair);
+        j += 1;
+    }
+    note(lengths, p, here)
 }

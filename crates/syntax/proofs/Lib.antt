@@ -5,5 +5,6 @@ pub mod Members
 pub mod Same
 pub mod Permutations
 pub mod Filters
+pub mod Flats
 pub mod FilterLoops
 pub mod Drawing

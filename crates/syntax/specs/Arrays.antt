@@ -1,17 +1,21 @@
 -- The lists that arrays with a count hold: what the structs of `syntax` stand for.
 use mathlib.Core.Path.{_≡_}
-use mathlib.Core.List.{List}
+use mathlib.Core.List.{List, map}
 use Prim.Native.Nat.{ℕ}
 use lib.ListN.{take, length}
 use Rattle.syntax.specs.Context.{Context}
+use Rattle.syntax.specs.Flat.{bindingOf}
 use Rattle.syntax.specs.declared.names.VarId.{VarId}
 use Rattle.syntax.specs.declared.sets.IdSet.{IdSet}
 use Rattle.syntax.specs.declared.context.TypingContext.{TypingContext}
 use Rattle.syntax.specs.declared.context.Freshened.{Freshened}
 
--- document 01, "Rust forms": arrays with a count
+-- all that stands in the array, and the list: document 01, "Rust forms": arrays with a count
+abbrev pub bindingsIn : TypingContext → Context
+bindingsIn c = map bindingOf (c .bindings)
+
 abbrev pub contextOf : TypingContext → Context
-contextOf c = take (c .len) (c .bindings)
+contextOf c = take (c .len) (bindingsIn c)
 
 abbrev pub setOf : IdSet → List VarId
 setOf s = take (s .len) (s .ids)

@@ -3,6 +3,7 @@ pub mod Names
 pub mod Types
 pub mod Sets
 pub mod Context
+pub mod Flat
 pub mod Filter
 pub mod FilterLoop
 pub mod Fresh

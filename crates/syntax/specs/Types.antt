@@ -1,6 +1,7 @@
 -- Chiralities and types (context.rs, types.rs): when two are the same.
 use mathlib.Core.Bool.{Bool, true, false}
 use Rattle.syntax.specs.Names.{sameIdentifier}
+use Rattle.syntax.specs.declared.names.Identifier.{Identifier}
 use Rattle.syntax.specs.declared.types.Ty.{Ty}
 use Rattle.syntax.specs.declared.types.Ty.the-variants.{I64, Decl}
 use Rattle.syntax.specs.declared.context.Chirality.{Chirality}
@@ -22,3 +23,12 @@ sameTy I64 I64 = true
 sameTy I64 (Decl b) = false
 sameTy (Decl a) I64 = false
 sameTy (Decl a) (Decl b) = sameIdentifier a b
+
+-- is the type declared, and by which identifier? (I64 has none: name 0 and ID 0 stand for it)
+abbrev pub declaredTy : Ty → Bool
+declaredTy I64 = false
+declaredTy (Decl x) = true
+
+abbrev pub identifierOf : Ty → Identifier
+identifierOf I64 = record { name = record { 0 = 0 }; id = record { 0 = 0 } }
+identifierOf (Decl x) = x

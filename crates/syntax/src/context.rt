@@ -11,6 +11,7 @@ ghost use Rattle.syntax.specs.Types.{sameChirality};
 ghost use Rattle.syntax.specs.Context.{sameBinding, sameContext, emptyBinding};
 ghost use Rattle.syntax.specs.Filter.{filterBySet};
 ghost use Rattle.syntax.specs.Fresh.{fresh, drawn, freshen};
+ghost use Rattle.syntax.specs.Flat.{bindingOf};
 ghost use Rattle.syntax.specs.Arrays.{setOf, contextOf, Holds, Freshens};
 
 pub enum Chirality {
@@ -25,8 +26,19 @@ pub struct ContextBinding {
     pub ty: Ty,
 }
 
+// A binding as it stands in an array: its parts side by side, which is 16 bytes and not 24, so that a context is quick to copy.
+pub struct FlatBinding {
+    pub id: VarId,
+    pub ty_id: VarId,
+    pub name: Name,
+    pub ty_name: Name,
+    pub chi: Chirality,
+    // Whether the type is declared. I64 has no identifier.
+    pub declared: bool,
+}
+
 pub struct TypingContext {
-    pub bindings: [ContextBinding; TypingContext::MAX],
+    pub bindings: [FlatBinding; TypingContext::MAX],
     pub len: usize,
 }
 
@@ -93,15 +105,69 @@ impl ContextBinding {
         }
     }
 
+    pub fn flat(self) -> FlatBinding
+        ensures { λ r. ⌜ bindingOf r ≡ self ⌝ }
+    {
+        let id = self.var.id;
+        let name = self.var.name;
+        let chi = self.chi;
+        let ty = self.ty;
+        let declared = ty.declared();
+        let x = ty.identifier();
+        let ty_id = x.id;
+        let ty_name = x.name;
+        FlatBinding {
+            id,
+            ty_id,
+            name,
+            ty_name,
+            chi,
+            declared,
+        }
+    }
+}
+
+impl FlatBinding {
+    pub fn binding(self) -> ContextBinding
+        ensures { λ r. ⌜ r ≡ bindingOf self ⌝ }
+    {
+        let name = self.name;
+        let id = self.id;
+        let var = Identifier { name, id };
+        let chi = self.chi;
+        if self.declared {
+            let name = self.ty_name;
+            let id = self.ty_id;
+            let ty = Ty::Decl(Identifier { name, id });
+            return ContextBinding { var, chi, ty };
+        }
+        ContextBinding {
+            var,
+            chi,
+            ty: Ty::I64,
+        }
+    }
+
     // The binding under the ID that is drawn at a max_id.
     fn drawn(self, max_id: VarId) -> Self
         requires { ⌜ fresh («max_id» .0) < 2 ^ 32 ⌝ }
-        ensures { λ r. ⌜ r ≡ drawn («max_id» .0) self ⌝ }
+        ensures { λ r. ⌜ bindingOf r ≡ drawn («max_id» .0) (bindingOf self) ⌝ }
     {
-        let var = Identifier::fresh(max_id, self.var.name);
+        let var = Identifier::fresh(max_id, self.name);
+        let id = var.id;
+        let ty_id = self.ty_id;
+        let name = var.name;
+        let ty_name = self.ty_name;
         let chi = self.chi;
-        let ty = self.ty;
-        ContextBinding { var, chi, ty }
+        let declared = self.declared;
+        FlatBinding {
+            id,
+            ty_id,
+            name,
+            ty_name,
+            chi,
+            declared,
+        }
     }
 }
 
@@ -112,7 +178,7 @@ impl TypingContext {
     pub fn empty() -> Self
         ensures { λ r. ⌜ Holds r [] ⌝ }
     {
-        let none = ContextBinding::empty();
+        let none = ContextBinding::empty().flat();
         TypingContext {
             bindings: [none; TypingContext::MAX],
             len: 0,
@@ -125,7 +191,7 @@ impl TypingContext {
     {
         let at = self.len;
         let mut next = self;
-        next.bindings[at] = b;
+        next.bindings[at] = b.flat();
         next.len = at + 1;
         next
     }
@@ -140,7 +206,7 @@ impl TypingContext {
             while i < n {
                 let a = self.bindings[i];
                 let b = other.bindings[i];
-                if a.same(b) {
+                if a.binding().same(b.binding()) {
                     i += 1;
                 } else {
                     return false;
@@ -162,7 +228,7 @@ impl TypingContext {
         let mut i = 0;
         while i < n {
             let b = out.bindings[i];
-            let id = b.var.id;
+            let id = b.id;
             if set.contains(id) {
                 i += 1;
             } else {
@@ -188,13 +254,13 @@ impl TypingContext {
         let mut j = 0;
         while i < n {
             let b = out.bindings[i];
-            let id = b.var.id;
+            let id = b.id;
             let at = seen.len;
             if j < at {
                 let one = seen.ids[j];
                 if id.same(one) {
                     let renamed = b.drawn(max);
-                    max = renamed.var.id;
+                    max = renamed.id;
                     out.bindings[i] = renamed;
                     i += 1;
                     j = 0;

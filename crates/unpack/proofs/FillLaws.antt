@@ -5,6 +5,7 @@ use mathlib.Core.List.{List, [], _∷_, _++_, append-nil, append-assoc}
 use native.Mathlib.Omega.{arith}
 use lib.ListN.{length, take, drop, getD, set, length-set}
 use Rattle.syntax.specs.Context.{Context}
+use Rattle.syntax.specs.Arrays.{bindingsIn}
 use Rattle.syntax.specs.declared.context.ContextBinding.{ContextBinding}
 use Rattle.syntax.specs.declared.context.TypingContext.{TypingContext}
 use Rattle.syntax.proofs.Lists.{take-stored}
@@ -77,13 +78,13 @@ module _ (w : ℕ) {s : List ℕ} {start n : ℕ} where
             same = q ∙ (ap (λ (x : ContextBinding). take j l ++ (x ∷ Γ)) (sym e) ∙ (sym (append-assoc (take j l) (b ∷ []) Γ) ∙ ap (λ (x : Context). x ++ Γ) (sym (take-stored l j b k))));
           }
 
-  pub filling-end : {at j : ℕ} {l : Context} {c : TypingContext} → Filling w s start n at j l → n ≤ j → c .len ≡ n → c .bindings ≡ l → HoldsAt w s start c
+  pub filling-end : {at j : ℕ} {l : Context} {c : TypingContext} → Filling w s start n at j l → n ≤ j → c .len ≡ n → bindingsIn c ≡ l → HoldsAt w s start c
   filling-end {at} {j} {l} {c} f h p q = go (f .rest) (f .run) (f .same)
     where
       go : (Γ : Context) → Run w s at (n - j) Γ → f .list .list ≡ take j l ++ Γ → HoldsAt w s start c
       go [] r e =
           let i : c .len ≡ j = omega (arith, f .within, p) in
-          let k : take (c .len) (c .bindings) ≡ f .list .list = rw (i, q) (sym (e ∙ append-nil (take j l))) in
+          let k : take (c .len) (bindingsIn c) ≡ f .list .list = rw (i, q) (sym (e ∙ append-nil (take j l))) in
           record {
             is = λ Γ x.
                 let o = alone (list-exact w) (f .list .stands) x in

@@ -96,7 +96,7 @@ pub fn list(s: &[u8], w: usize, at: usize) -> TypingContext
     let mut j = 0;
     while j < n {
         let b = binding_at(s, w, from);
-        out.bindings[j] = b;
+        out.bindings[j] = b.flat();
         from = from + size;
         j = j + 1;
     }

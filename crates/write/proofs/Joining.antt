@@ -5,7 +5,7 @@ use mathlib.Core.Path.{_≡_, ap, _∙_}
 use native.Mathlib.Omega.{arith}
 use lib.ListN.{length, length-append, length-take}
 use Rattle.syntax.specs.Context.{Context}
-use Rattle.syntax.specs.Arrays.{contextOf}
+use Rattle.syntax.specs.Arrays.{bindingsIn, contextOf}
 use Rattle.syntax.specs.declared.names.Identifier.{Identifier}
 use Rattle.syntax.specs.declared.types.Ty.{Ty}
 use Rattle.syntax.specs.declared.context.TypingContext.{TypingContext}
@@ -25,7 +25,7 @@ module _ (w : ℕ) where
       omega (arith, length-append (bindingBytes w b) (each (bindingBytes w) Γ), binding-length w b, bindings-length Γ h, h)
 
   pub list-length : (c : TypingContext) → w ≤ 8 → c .len ≤ 64 → length (listBytes w (contextOf c)) ≤ 1409
-  list-length c h k = omega (arith, bindings-length (contextOf c) h, length-take (c .len) (c .bindings), k)
+  list-length c h k = omega (arith, bindings-length (contextOf c) h, length-take (c .len) (bindingsIn c), k)
 
 -- what follows a kind and two parts
 pub then-others : {a b c : List ℕ} {at n m : ℕ} (k : ℕ) (xs ys : List ℕ) {zs : List ℕ} → Puts a b at n (k ∷ (xs ++ ys)) → Puts b c n m zs

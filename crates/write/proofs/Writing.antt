@@ -14,7 +14,7 @@ use Rattle.format.proofs.FieldLaws.{identifier-length, binding-length}
 use Rattle.put.specs.Puts.{Puts}
 use Rattle.put.proofs.Putting.{puts-none, puts-as, puts-then}
 use Rattle.substitution.specs.declared.Pair.{Pair}
-use Rattle.substitution.specs.Pairs.{pairOf}
+use Rattle.substitution.specs.Pairs.{partsOf}
 
 module _ {A : Type 0} (e : A → List ℕ) where
   each-append : (xs ys : List A) → each e (xs ++ ys) ≡ each e xs ++ each e ys
@@ -46,7 +46,7 @@ module _ {A : Type 0} (e : A → List ℕ) where
 
 -- the elements of a struct of pairs
 abbrev pub storedBytes : ℕ → Pair → List ℕ
-storedBytes w p = pairBytes w (pairOf p)
+storedBytes w p = pairBytes w (partsOf p)
 
 pub pair-length : (w : ℕ) (p : ContextBinding × Identifier) → length (pairBytes w p) ≡ 8 + (w + w + w)
 pair-length w p = length-append (bindingBytes w (p .0)) (identifierBytes w (p .1)) ∙ rw (binding-length w (p .0), identifier-length w (p .1)) (omega arith)

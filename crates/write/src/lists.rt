@@ -1,16 +1,16 @@
-// Lists: of bindings, and of the pairs of a Substitute. Each is one loop, so that the array is copied once.
+// Lists of bindings, and the parts of a Substitute.
 use put::put_binding;
 use put::put_byte;
 use put::put_identifier;
-use substitution::Substitution;
+use substitution::FlatPair;
 use syntax::context::TypingContext;
 ghost use mathlib.Core.Path.{_≡_};
+ghost use mathlib.Core.List.{[], _∷_};
 ghost use Prim.Native.Nat.{_+_, _≤_, _<_, _^_};
 ghost use Rattle.syntax.specs.Arrays.{contextOf};
-ghost use Rattle.format.specs.Fields.{listBytes};
-ghost use Rattle.format.specs.Records.{substitute, recordBytes};
+ghost use Rattle.format.specs.Fields.{listBytes, pairBytes};
 ghost use Rattle.put.specs.Puts.{Puts};
-ghost use Rattle.substitution.specs.Pairs.{pairsOf};
+ghost use Rattle.substitution.specs.Pairs.{pairOf, partsOf};
 
 // The count of a list or of pairs.
 fn count_byte(n: usize) -> u8
@@ -30,28 +30,29 @@ pub fn put_list(out: &mut [u8], at: usize, w: usize, context: TypingContext) -> 
     let mut i = 0;
     while i < n {
         let b = context.bindings[i];
-        here = put_binding(out, here, w, b);
+        here = put_binding(out, here, w, b.binding());
         i += 1;
     }
     here
 }
 
-// A Substitute: its count, then its pairs, each a binding and an identifier.
-pub fn put_substitute(out: &mut [u8], at: usize, w: usize, s: Substitution) -> usize
-    requires { ⌜ (at + 8192 < 2 ^ 64) × ((w ≤ 8) × (s .len ≤ 128)) ⌝ }
-    ensures { λ r. ⌜ Puts (now (out .entry)) (now (out .exit)) at r (recordBytes w (substitute (pairsOf s))) ⌝ }
+// What a Substitute begins with: its kind and the count of its pairs.
+pub fn put_substitute(out: &mut [u8], at: usize, n: usize) -> usize
+    requires { ⌜ (at + 2 < 2 ^ 64) × (n ≤ 128) ⌝ }
+    ensures { λ r. ⌜ Puts (now (out .entry)) (now (out .exit)) at r (2 ∷ (n ∷ [])) ⌝ }
 {
-    let n = s.len;
     let next = put_byte(out, at, 2);
-    let mut here = put_byte(out, next, count_byte(n));
-    let mut i = 0;
-    while i < n {
-        let p = s.pairs[i];
-        let target = p.target;
-        let source = p.source;
-        let middle = put_binding(out, here, w, target);
-        here = put_identifier(out, middle, w, source);
-        i += 1;
-    }
-    here
+    put_byte(out, next, count_byte(n))
+}
+
+// A pair: a binding and an identifier.
+pub fn put_pair(out: &mut [u8], at: usize, w: usize, pair: FlatPair) -> usize
+    requires { ⌜ (at + 32 < 2 ^ 64) × (w ≤ 8) ⌝ }
+    ensures { λ r. ⌜ Puts (now (out .entry)) (now (out .exit)) at r (pairBytes w (partsOf (pairOf pair))) ⌝ }
+{
+    let p = pair.pair();
+    let target = p.target;
+    let source = p.source;
+    let middle = put_binding(out, at, w, target);
+    put_identifier(out, middle, w, source)
 }

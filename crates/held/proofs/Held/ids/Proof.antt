@@ -5,23 +5,25 @@ use native.Mathlib.Omega.{arith}
 use lib.ListN.{length, take}
 use Rattle.syntax.specs.Context.{ids, idOf, emptyBinding}
 use Rattle.syntax.proofs.Lists.{long}
+use Rattle.syntax.proofs.Flats.{long-seen}
 use Rattle.work.specs.Work.{bindings}
+use Rattle.held.specs.Holding.{entryIn, entriesIn}
 use Rattle.held.proofs.Stores.{Built, built-start, built-next, built-done}
-use Rattle.held.proofs.Elements.{ids-at, ids-count}
+use Rattle.held.proofs.Elements.{id-at, ids-count}
 use Rattle.held.proofs.Held.ids.Statement.{statement}
 use Rattle.held.proofs.Held.ids.Tie as tie
 
 abbrev Inv-loop : tie.InvT-loop
-Inv-loop self n out₀ i₀ out i = Built (ids (bindings (take n (self .entries)))) (out₀ .ids) (out .ids) 128 i
+Inv-loop self n out₀ i₀ out i = Built (ids (bindings (take n (entriesIn self)))) (out₀ .ids) (out .ids) 128 i
 
 abbrev μ-loop : tie.MeasureT-loop
 μ-loop self n out₀ i₀ out i = n - i
 
 -- as many IDs as entries
-counted : (c : tie.Start Inv-loop μ-loop) → length (ids (bindings (take (c .args .t1 .len) (c .args .t1 .entries)))) ≡ c .args .t1 .len
+counted : (c : tie.Start Inv-loop μ-loop) → length (ids (bindings (take (c .args .t1 .len) (entriesIn (c .args .t1))))) ≡ c .args .t1 .len
 counted c =
-    let h = long _ (c .args .t1 .entries) (c .good .0 .1 .1 .0 .1 .0 .1) in
-    ids-count (c .args .t1 .entries) (c .args .t1 .len) (omega arith)
+    let h = long-seen _ entryIn (c .args .t1 .entries) (c .good .0 .1 .1 .0 .1 .0 .1) in
+    ids-count (entriesIn (c .args .t1)) (c .args .t1 .len) (omega arith)
 
 empty-requires : tie.Need-empty-requires Inv-loop μ-loop
 empty-requires c κs = tt
@@ -49,10 +51,10 @@ loop-less c = omega arith
 
 loop-again : tie.Need-loop-again Inv-loop μ-loop
 loop-again c =
-    let l = c .before .before .before .before .loop in
-    let s = c .before .before .before .before .before .before in
-    let h = c .before .before .before .loop-test .taken in
-    built-next (idOf emptyBinding) _ (omega (arith, counted s)) (ids-at (s .args .t1 .entries) (s .args .t1 .len) (l .i) h) (l .inv)
+    let l = c .before .before .before .loop in
+    let s = c .before .before .before .before .before in
+    let h = c .before .before .loop-test .taken in
+    built-next (idOf emptyBinding) _ (omega (arith, counted s)) (id-at (s .args .t1) (s .args .t1 .len) (l .i) h) (l .inv)
 
 returns : tie.Need-returns Inv-loop μ-loop
 returns c =

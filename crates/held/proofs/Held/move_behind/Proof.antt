@@ -1,37 +1,37 @@
 -- `Held::move_behind` meets its contract: i entries are stored. Assumes nothing.
 use mathlib.Core.Path.{_≡_, refl, sym, _∙_}
-use Prim.Native.Nat.{_-_}
+use Prim.Native.Nat.{_+_, _-_}
 use native.Mathlib.Omega.{arith}
-use lib.ListN.{length, take}
+use lib.ListN.{length, take, getD}
 use lib.Seq.{length-take-le}
-use Rattle.syntax.proofs.Lists.{long}
+use Rattle.syntax.proofs.Flats.{long-seen}
 use Rattle.work.specs.Work.{movedBehind}
 use Rattle.work.proofs.Lengths.{moved-length}
-use Rattle.held.specs.Holding.{emptyEntry}
-use Rattle.held.proofs.Stores.{built-start, built-next}
-use Rattle.held.proofs.Elements.{moved-left, moved-right}
+use Rattle.held.specs.Holding.{entryIn, entriesIn, emptyFlatEntry, emptyEntry}
+use Rattle.held.proofs.Stores.{built-start, built-seen}
+use Rattle.held.proofs.Elements.{entry-at, moved-left, moved-right}
 use Rattle.held.proofs.HeldLaws.{Storing, stored-all}
 use Rattle.held.proofs.Held.move_behind.Statement.{statement}
 use Rattle.held.proofs.Held.move_behind.Tie as tie
 
 abbrev Inv-loop : tie.InvT-loop
-Inv-loop j self n k out₀ i₀ out i = Storing (movedBehind j (take n (self .entries))) n out₀ out i
+Inv-loop j self n k out₀ i₀ out i = Storing (movedBehind j (take n (entriesIn self))) n out₀ out i
 
 abbrev μ-loop : tie.MeasureT-loop
 μ-loop j self n k out₀ i₀ out i = n - i
 
-size : (c : tie.Start Inv-loop μ-loop) → length (c .args .t1 .entries) ≡ 64
-size c = long _ (c .args .t1 .entries) (c .good .0 .1 .1 .0 .1 .0 .1)
+size : (c : tie.Start Inv-loop μ-loop) → length (entriesIn (c .args .t1)) ≡ 64
+size c = long-seen _ entryIn (c .args .t1 .entries) (c .good .0 .1 .1 .0 .1 .0 .1)
 
 -- as many entries as before
-counted : (c : tie.Start Inv-loop μ-loop) → length (movedBehind (c .args .j) (take (c .args .t1 .len) (c .args .t1 .entries))) ≡ c .args .t1 .len
-counted c = moved-length (c .args .j) (take (c .args .t1 .len) (c .args .t1 .entries)) ∙ length-take-le (c .args .t1 .len) (c .args .t1 .entries) (omega (arith, size c))
+counted : (c : tie.Start Inv-loop μ-loop) → length (movedBehind (c .args .j) (take (c .args .t1 .len) (entriesIn (c .args .t1)))) ≡ c .args .t1 .len
+counted c = moved-length (c .args .j) (take (c .args .t1 .len) (entriesIn (c .args .t1))) ∙ length-take-le (c .args .t1 .len) (entriesIn (c .args .t1)) (omega (arith, size c))
 
 sub-k : tie.Need-sub-k Inv-loop μ-loop
 sub-k c = omega arith
 
 loop-holds : tie.Need-loop-holds Inv-loop μ-loop
-loop-holds c = record { len = refl; turn = built-start _ (c .args .t1 .entries) (size c) (omega (arith, counted c)) }
+loop-holds c = record { len = refl; turn = built-start _ (entriesIn (c .args .t1)) (size c) (omega (arith, counted c)) }
 
 add-e : tie.Need-add-e Inv-loop μ-loop
 add-e c = omega arith
@@ -61,7 +61,7 @@ loop-again c =
     let h = c .before .before .loop-test .taken in
     record {
       len = l .inv .len;
-      turn = built-next emptyEntry _ (omega (arith, counted s)) (moved-left (s .args .t1 .entries) (s .args .t1 .len) (s .args .j) (l .i) emptyEntry (omega (arith, size s)) (omega arith) (c .before .if1 .taken)) (l .inv .turn);
+      turn = built-seen entryIn (l .out .entries) emptyEntry (getD (s .args .t1 .entries) (l .i + s .args .j) emptyFlatEntry) (omega (arith, counted s)) (entry-at (s .args .t1) (l .i + s .args .j) ∙ moved-left (entriesIn (s .args .t1)) (s .args .t1 .len) (s .args .j) (l .i) emptyEntry (omega (arith, size s)) (omega arith) (c .before .if1 .taken)) (l .inv .turn);
     }
 
 mul-e-3 : tie.Need-mul-e-3 Inv-loop μ-loop
@@ -89,7 +89,7 @@ loop-again-2 c =
     let h = c .before .before .loop-test .taken in
     record {
       len = l .inv .len;
-      turn = built-next emptyEntry _ (omega (arith, counted s)) (moved-right (s .args .t1 .entries) (s .args .t1 .len) (s .args .j) (l .i) emptyEntry (omega (arith, size s)) (omega arith) (c .before .if1 .left) h) (l .inv .turn);
+      turn = built-seen entryIn (l .out .entries) emptyEntry (getD (s .args .t1 .entries) (l .i - (s .args .t1 .len - s .args .j)) emptyFlatEntry) (omega (arith, counted s)) (entry-at (s .args .t1) (l .i - (s .args .t1 .len - s .args .j)) ∙ moved-right (entriesIn (s .args .t1)) (s .args .t1 .len) (s .args .j) (l .i) emptyEntry (omega (arith, size s)) (omega arith) (c .before .if1 .left) h) (l .inv .turn);
     }
 
 returns : tie.Need-returns Inv-loop μ-loop

@@ -1,17 +1,18 @@
 -- `Held::owns` meets its contract: i binders are stored behind the others. Assumes nothing.
-use mathlib.Core.Path.{_≡_, _∙_}
+use mathlib.Core.Path.{_≡_, ap, _∙_}
 use mathlib.Core.List.{_++_}
 use Prim.Native.Nat.{ℕ, _+_, _-_}
 use native.Mathlib.Omega.{arith}
 use lib.ListN.{length, take, length-append}
 use lib.Seq.{length-take-le}
-use Rattle.syntax.specs.Arrays.{contextOf}
-use Rattle.syntax.proofs.Lists.{long}
-use Rattle.work.specs.Work.{Work, owns}
+use Rattle.syntax.specs.Flat.{bindingOf, emptyFlat}
+use Rattle.syntax.specs.Arrays.{bindingsIn, contextOf}
+use Rattle.syntax.proofs.Flats.{long-seen, seen-at}
+use Rattle.work.specs.Work.{Work, own, owns}
 use Rattle.work.proofs.Lengths.{owns-length}
-use Rattle.held.specs.Holding.{workOf, emptyEntry}
+use Rattle.held.specs.Holding.{entryIn, entriesIn, workOf, emptyEntry}
 use Rattle.held.specs.declared.Held.{Held}
-use Rattle.held.proofs.Stores.{built-behind, built-next}
+use Rattle.held.proofs.Stores.{built-behind, built-seen}
 use Rattle.held.proofs.Elements.{owned-behind}
 use Rattle.held.proofs.HeldLaws.{Appending, stored-all}
 use Rattle.held.proofs.Held.owns.Statement.{statement}
@@ -23,29 +24,29 @@ record Inv (whole : Work) (n start count : ℕ) (out₀ out : Held) (at place i 
   stored : Appending whole start count out₀ out at i
 
 abbrev Inv-loop : tie.InvT-loop
-Inv-loop n params count out₀ at₀ place₀ i₀ out at place i = Inv (take at₀ (out₀ .entries) ++ owns n (take count (params .bindings))) n at₀ count out₀ out at place i
+Inv-loop n params count out₀ at₀ place₀ i₀ out at place i = Inv (take at₀ (entriesIn out₀) ++ owns n (take count (bindingsIn params))) n at₀ count out₀ out at place i
 
 abbrev μ-loop : tie.MeasureT-loop
 μ-loop n params count out₀ at₀ place₀ i₀ out at place i = count - i
 
-size : (c : tie.Start Inv-loop μ-loop) → length (c .args .self .entries) ≡ 64
-size c = long _ (c .args .self .entries) (c .good .0 .1 .1 .0 .1 .0 .1)
+size : (c : tie.Start Inv-loop μ-loop) → length (entriesIn (c .args .self)) ≡ 64
+size c = long-seen _ entryIn (c .args .self .entries) (c .good .0 .1 .1 .0 .1 .0 .1)
 
-size-params : (c : tie.Start Inv-loop μ-loop) → length (c .args .t3 .bindings) ≡ 64
-size-params c = long _ (c .args .t3 .bindings) (c .good .1 .1 .0 .1 .1 .0 .1 .0 .1)
+size-params : (c : tie.Start Inv-loop μ-loop) → length (bindingsIn (c .args .t3)) ≡ 64
+size-params c = long-seen _ bindingOf (c .args .t3 .bindings) (c .good .1 .1 .0 .1 .1 .0 .1 .0 .1)
 
 -- the counts of both
 count-self : (c : tie.Start Inv-loop μ-loop) → length (workOf (c .args .self)) ≡ c .args .self .len
-count-self c = length-take-le (c .args .self .len) (c .args .self .entries) (omega (arith, size c))
+count-self c = length-take-le (c .args .self .len) (entriesIn (c .args .self)) (omega (arith, size c))
 
 count-owns : (c : tie.Start Inv-loop μ-loop) → length (owns (c .args .n) (contextOf (c .args .t3))) ≡ c .args .t3 .len
-count-owns c = owns-length (c .args .n) (contextOf (c .args .t3)) ∙ length-take-le (c .args .t3 .len) (c .args .t3 .bindings) (omega (arith, size-params c))
+count-owns c = owns-length (c .args .n) (contextOf (c .args .t3)) ∙ length-take-le (c .args .t3 .len) (bindingsIn (c .args .t3)) (omega (arith, size-params c))
 
 counted : (c : tie.Start Inv-loop μ-loop) → length (workOf (c .args .self) ++ owns (c .args .n) (contextOf (c .args .t3))) ≡ c .args .self .len + c .args .t3 .len
 counted c = omega (arith, length-append (workOf (c .args .self)) (owns (c .args .n) (contextOf (c .args .t3))), count-self c, count-owns c)
 
 loop-holds : tie.Need-loop-holds Inv-loop μ-loop
-loop-holds c = record { number = omega arith; stored = record { here = omega arith; below = omega arith; turn = built-behind (c .args .self .entries) (owns (c .args .n) (contextOf (c .args .t3))) (c .args .self .len) (size c) (omega (arith, count-owns c)) } }
+loop-holds c = record { number = omega arith; stored = record { here = omega arith; below = omega arith; turn = built-behind (entriesIn (c .args .self)) (owns (c .args .n) (contextOf (c .args .t3))) (c .args .self .len) (size c) (omega (arith, count-owns c)) } }
 
 mul-b : tie.Need-mul-b Inv-loop μ-loop
 mul-b c = omega arith
@@ -53,8 +54,14 @@ mul-b c = omega arith
 element-copy-out-b : tie.Need-element-copy-out-b Inv-loop μ-loop
 element-copy-out-b c = omega arith
 
+binding-requires : tie.Need-binding-requires Inv-loop μ-loop
+binding-requires c κs = tt
+
 owned-requires : tie.Need-owned-requires Inv-loop μ-loop
 owned-requires c κs = tt
+
+flat-requires : tie.Need-flat-requires Inv-loop μ-loop
+flat-requires c κs = tt
 
 mul-t12 : tie.Need-mul-t12 Inv-loop μ-loop
 mul-t12 c = omega arith
@@ -76,17 +83,18 @@ loop-less c = omega arith
 
 loop-again : tie.Need-loop-again Inv-loop μ-loop
 loop-again c =
-    let l = c .before .before .before .loop in
-    let s = c .before .before .before .before in
-    let h = c .before .before .loop-test .taken in
+    let l = c .before .before .before .before .before .loop in
+    let s = c .before .before .before .before .before .before in
+    let h = c .before .before .before .before .loop-test .taken in
     let a = l .inv .stored in
-    let e = owned-behind (workOf (s .args .self)) (s .args .t3 .bindings) (s .args .t3 .len) (s .args .self .len) (s .args .n) (l .i) (l .at) (l .place) (count-self s) h (omega (arith, size-params s)) (a .here) (l .inv .number) in
+    let b = c .before .before .binding .ensures ∙ seen-at bindingOf (s .args .t3 .bindings) (l .i) emptyFlat in
+    let e = owned-behind (workOf (s .args .self)) (bindingsIn (s .args .t3)) (s .args .t3 .len) (s .args .self .len) (s .args .n) (l .i) (l .at) (l .place) (count-self s) h (omega (arith, size-params s)) (a .here) (l .inv .number) in
     record {
       number = omega (arith, l .inv .number);
       stored = record {
         here = omega (arith, a .here);
         below = omega arith;
-        turn = built-next emptyEntry (c .owned .result) (omega (arith, counted s, a .here)) (c .owned .ensures ∙ e) (a .turn);
+        turn = built-seen entryIn (l .out .entries) emptyEntry (c .flat .result) (omega (arith, counted s, a .here)) (c .flat .ensures ∙ c .before .owned .ensures ∙ ap (own (l .place)) b ∙ e) (a .turn);
       };
     }
 
@@ -107,7 +115,9 @@ owns-spec =
     loop-holds
     mul-b
     element-copy-out-b
+    binding-requires
     owned-requires
+    flat-requires
     mul-t12
     element-set-from-out
     add-at

@@ -1,23 +1,28 @@
 -- `Held::used` meets its contract: the entries from i on are left to look at. Assumes nothing.
-use mathlib.Core.Path.{_≡_, refl, sym, _∙_}
+use mathlib.Core.Path.{_≡_, refl, sym, ap, _∙_}
+use mathlib.Core.Option.{some}
 use Prim.Native.Nat.{_≤_, _-_}
 use native.Mathlib.Omega.{arith}
 use lib.ListN.{length}
-use Rattle.syntax.proofs.Lists.{rest, long}
-use Rattle.work.specs.Work.{used}
-use Rattle.held.specs.Holding.{workOf}
+use Rattle.syntax.specs.Names.{sameVarId}
+use Rattle.syntax.proofs.Lists.{rest}
+use Rattle.syntax.proofs.Flats.{long-seen}
+use Rattle.work.specs.declared.Entry.{Entry}
+use Rattle.work.specs.Work.{spelling, used}
+use Rattle.held.specs.Holding.{entryIn, entriesIn, workOf}
+use Rattle.held.proofs.Elements.{entry-at, source-at}
 use Rattle.held.proofs.UsedLoops.{used-found, used-next, used-none}
 use Rattle.held.proofs.Held.used.Statement.{statement}
 use Rattle.held.proofs.Held.used.Tie as tie
 
 abbrev Inv-loop : tie.InvT-loop
-Inv-loop x self n id i₀ i = (i ≤ n) × (used (workOf self) x ≡ used (rest (self .entries) n i) x)
+Inv-loop x self n id i₀ i = (i ≤ n) × (used (workOf self) x ≡ used (rest (entriesIn self) n i) x)
 
 abbrev μ-loop : tie.MeasureT-loop
 μ-loop x self n id i₀ i = n - i
 
-size : (c : tie.Start Inv-loop μ-loop) → length (c .args .t1 .entries) ≡ 64
-size c = long _ (c .args .t1 .entries) (c .good .0 .1 .1 .0 .1 .0 .1)
+size : (c : tie.Start Inv-loop μ-loop) → length (entriesIn (c .args .t1)) ≡ 64
+size c = long-seen _ entryIn (c .args .t1 .entries) (c .good .0 .1 .1 .0 .1 .0 .1)
 
 loop-holds : tie.Need-loop-holds Inv-loop μ-loop
 loop-holds c = (omega arith, refl)
@@ -31,14 +36,19 @@ element-copy-out-e c = omega arith
 same-requires : tie.Need-same-requires Inv-loop μ-loop
 same-requires c κs = tt
 
+entry-requires : tie.Need-entry-requires Inv-loop μ-loop
+entry-requires c κs = tt
+
 spelled-requires : tie.Need-spelled-requires Inv-loop μ-loop
 spelled-requires c κs = tt
 
 returns : tie.Need-returns Inv-loop μ-loop
 returns c =
-    let l = c .before .before .before .before .before .loop in
-    let s = c .before .before .before .before .before .before .before in
-    c .spelled .ensures ∙ sym (l .inv .1 ∙ used-found (s .args .t1 .entries) (s .args .t1 .len) (l .i) (s .args .x) (c .before .before .before .before .loop-test .taken) (omega (arith, size s)) (sym (c .before .before .same .ensures) ∙ c .before .if1 .taken))
+    let l = c .before .before .before .before .before .before .loop in
+    let s = c .before .before .before .before .before .before .before .before in
+    c .spelled .ensures
+    ∙ ap (λ (e : Entry). spelling (some e) (s .args .x)) (c .before .entry .ensures ∙ entry-at (s .args .t1) (l .i))
+    ∙ sym (l .inv .1 ∙ used-found (entriesIn (s .args .t1)) (s .args .t1 .len) (l .i) (s .args .x) (c .before .before .before .before .before .loop-test .taken) (omega (arith, size s)) (ap (sameVarId (s .args .x .id)) (sym (source-at (s .args .t1) (l .i))) ∙ sym (c .before .before .before .same .ensures) ∙ c .before .before .if1 .taken))
 
 add-i : tie.Need-add-i Inv-loop μ-loop
 add-i c = omega arith
@@ -50,13 +60,13 @@ loop-again : tie.Need-loop-again Inv-loop μ-loop
 loop-again c =
     let l = c .before .before .before .before .loop in
     let s = c .before .before .before .before .before .before in
-    (omega arith, l .inv .1 ∙ used-next (s .args .t1 .entries) (s .args .t1 .len) (l .i) (s .args .x) (c .before .before .before .loop-test .taken) (omega (arith, size s)) (sym (c .before .same .ensures) ∙ c .if1 .left))
+    (omega arith, l .inv .1 ∙ used-next (entriesIn (s .args .t1)) (s .args .t1 .len) (l .i) (s .args .x) (c .before .before .before .loop-test .taken) (omega (arith, size s)) (ap (sameVarId (s .args .x .id)) (sym (source-at (s .args .t1) (l .i))) ∙ sym (c .before .same .ensures) ∙ c .if1 .left))
 
 returns-2 : tie.Need-returns-2 Inv-loop μ-loop
 returns-2 c =
     let l = c .before .loop in
     let s = c .before .before .before in
-    sym (l .inv .1 ∙ used-none (s .args .t1 .entries) (s .args .t1 .len) (l .i) (s .args .x) (c .loop-test .left))
+    sym (l .inv .1 ∙ used-none (entriesIn (s .args .t1)) (s .args .t1 .len) (l .i) (s .args .x) (c .loop-test .left))
 
 pub used-spec : {M : Type 1} → statement M
 used-spec =
@@ -68,6 +78,7 @@ used-spec =
     mul-e
     element-copy-out-e
     same-requires
+    entry-requires
     spelled-requires
     returns
     add-i

@@ -1,22 +1,26 @@
 -- `arrange_args` meets its contract. Assumes nothing.
+use mathlib.Core.Path.{ap}
 use native.Mathlib.Omega.{arith}
 use borrow.Author.Needs.{needs}
 use Rattle.syntax.specs.Arrays.{contextOf}
-use Rattle.stepping.proofs.PairLaws.{targets-count, pairs-count}
-use Rattle.stepping.proofs.ArrangeLaws.{arranges-nothing, arranges-pairs}
+use Rattle.work.specs.Work.{bindings}
+use Rattle.stepping.proofs.PairLaws.{behind-none}
+use Rattle.stepping.proofs.StepLaws.{held-workable}
+use Rattle.stepping.proofs.ArrangeLaws.{arranges-nothing, arranges-as}
 use Rattle.stepping.proofs.arrange.arrange_args.Statement.{statement}
 use Rattle.stepping.proofs.arrange.arrange_args.Tie as tie
 
 returns : tie.Need-returns
 returns c = let a = c .before .before .before in arranges-nothing (contextOf (a .args .targets)) (contextOf (a .args .wanted)) (c .if1 .taken)
 
-pairs-of-requires : tie.Need-pairs-of-requires
-pairs-of-requires c κs = search needs
+empty-requires : tie.Need-empty-requires
+empty-requires c κs = search needs
 
-put-pairs-requires : tie.Need-put-pairs-requires
-put-pairs-requires c κs =
+arrange-before-requires : tie.Need-arrange-before-requires
+arrange-before-requires c κs =
     let a = c .before .before .before .before .before .before in
-    (omega (arith, pairs-count (contextOf (a .args .targets)) (contextOf (a .args .wanted)) (targets-count (a .pre .0)) (c .before .before .pairs-of .ensures), a .pre .0 .count, a .pre .0 .few), a .pre .1)
+    let h = c .before .before .empty .ensures in
+    (a .pre .0, (held-workable h (omega (arith, h .count)), a .pre .1))
 
 same-length : tie.Need-same-length
 same-length c = search needs
@@ -27,9 +31,10 @@ same-length-2 c = search needs
 returns-2 : tie.Need-returns-2
 returns-2 c =
     let a = c .before .before .before .before .before .before .before .before .before .before .before in
-    arranges-pairs (contextOf (a .args .targets)) (contextOf (a .args .wanted)) (c .before .before .before .before .before .before .before .before .if1 .left) (c .before .before .before .before .before .before .before .pairs-of .ensures) (c .before .before .before .before .put-pairs .ensures)
+    let e = ap bindings (c .before .before .before .before .before .before .before .empty .ensures .list) in
+    arranges-as (a .args .right) (behind-none (contextOf (a .args .targets)) e) (behind-none (contextOf (a .args .wanted)) e) (c .before .before .before .before .arrange-before .ensures)
 
 pub arrange-args-spec : {M : Type 1} → statement M
 arrange-args-spec =
     tie.close
-    (tie.spec returns pairs-of-requires put-pairs-requires same-length same-length-2 returns-2)
+    (tie.spec returns empty-requires arrange-before-requires same-length same-length-2 returns-2)

@@ -1,28 +1,31 @@
 -- `arrange_closure` meets its contract. Assumes nothing.
+use mathlib.Core.Path.{ap}
 use mathlib.Core.List.{[], _∷_, _++_}
 use native.Mathlib.Omega.{arith}
 use borrow.Author.Needs.{needs}
+use Rattle.syntax.specs.Context.{Context}
 use Rattle.syntax.specs.Arrays.{contextOf}
-use Rattle.stepping.proofs.PairLaws.{targets-count, pairs-count, pairs-push, pushed-count}
-use Rattle.stepping.proofs.ArrangeLaws.{arranges-nothing, arranges-pairs}
+use Rattle.work.specs.Work.{bindings}
+use Rattle.stepping.proofs.PairLaws.{work-one}
+use Rattle.stepping.proofs.StepLaws.{held-workable}
+use Rattle.stepping.proofs.ArrangeLaws.{arranges-nothing, arranges-as}
 use Rattle.stepping.proofs.arrange.arrange_closure.Statement.{statement}
 use Rattle.stepping.proofs.arrange.arrange_closure.Tie as tie
 
 returns : tie.Need-returns
 returns c = let a = c .before .before .before in arranges-nothing (contextOf (a .args .targets) ++ (a .args .closure ∷ [])) (contextOf (a .args .wanted) ++ (a .args .closure ∷ [])) (c .if1 .taken)
 
-pairs-of-requires : tie.Need-pairs-of-requires
-pairs-of-requires c κs = search needs
+empty-requires : tie.Need-empty-requires
+empty-requires c κs = search needs
 
-push-requires : tie.Need-push-requires
-push-requires c κs =
-    let a = c .before .before .before .before in
-    omega (arith, pairs-count (contextOf (a .args .targets)) (contextOf (a .args .wanted)) (targets-count (a .pre .0)) (c .pairs-of .ensures), a .pre .0 .count, a .pre .0 .few)
+own-requires : tie.Need-own-requires
+own-requires c κs = search needs
 
-put-pairs-requires : tie.Need-put-pairs-requires
-put-pairs-requires c κs =
+arrange-before-requires : tie.Need-arrange-before-requires
+arrange-before-requires c κs =
     let a = c .before .before .before .before .before .before .before in
-    (omega (arith, pushed-count (contextOf (a .args .targets)) (contextOf (a .args .wanted)) (targets-count (a .pre .0)) (c .before .before .before .pairs-of .ensures) (a .args .closure) (a .args .closure) (c .before .before .push .ensures), a .pre .0 .count, a .pre .0 .few), a .pre .1)
+    let h = work-one (c .before .before .before .empty .ensures) (c .before .before .own .ensures) in
+    (a .pre .0, (held-workable h (omega (arith, h .count)), a .pre .1))
 
 same-length : tie.Need-same-length
 same-length c = search needs
@@ -33,18 +36,17 @@ same-length-2 c = search needs
 returns-2 : tie.Need-returns-2
 returns-2 c =
     let a = c .before .before .before .before .before .before .before .before .before .before .before .before in
-    arranges-pairs (contextOf (a .args .targets) ++ (a .args .closure ∷ [])) (contextOf (a .args .wanted) ++ (a .args .closure ∷ [])) (c .before .before .before .before .before .before .before .before .before .if1 .left)
-    (pairs-push (contextOf (a .args .targets)) (contextOf (a .args .wanted)) (targets-count (a .pre .0)) (c .before .before .before .before .before .before .before .before .pairs-of .ensures) (a .args .closure) (a .args .closure) (c .before .before .before .before .before .before .before .push .ensures))
-    (c .before .before .before .before .put-pairs .ensures)
+    let e = ap bindings (work-one (c .before .before .before .before .before .before .before .before .empty .ensures) (c .before .before .before .before .before .before .before .own .ensures) .list) in
+    arranges-as (a .args .right) (ap (λ (z : Context). contextOf (a .args .targets) ++ z) e) (ap (λ (z : Context). contextOf (a .args .wanted) ++ z) e) (c .before .before .before .before .arrange-before .ensures)
 
 pub arrange-closure-spec : {M : Type 1} → statement M
 arrange-closure-spec =
     tie.close
     (tie.spec
     returns
-    pairs-of-requires
-    push-requires
-    put-pairs-requires
+    empty-requires
+    own-requires
+    arrange-before-requires
     same-length
     same-length-2
     returns-2)

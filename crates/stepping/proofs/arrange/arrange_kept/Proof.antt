@@ -4,21 +4,22 @@ use native.Mathlib.Omega.{arith}
 use borrow.Author.Needs.{needs}
 use Rattle.work.specs.Work.{bindings}
 use Rattle.held.specs.Holding.{workOf}
-use Rattle.stepping.proofs.PairLaws.{bindings-count, pairs-count}
-use Rattle.stepping.proofs.ArrangeLaws.{arranges-nothing, arranges-pairs}
+use Rattle.stepping.proofs.PairLaws.{holds-paired, behind-none}
+use Rattle.stepping.proofs.ArrangeLaws.{arranges-nothing, arranges-as}
 use Rattle.stepping.proofs.arrange.arrange_kept.Statement.{statement}
 use Rattle.stepping.proofs.arrange.arrange_kept.Tie as tie
 
 returns : tie.Need-returns
 returns c = let a = c .before .before .before in arranges-nothing (bindings (workOf (a .args .kept))) (bindings (workOf (a .args .kept))) (c .if1 .taken)
 
-kept-pairs-requires : tie.Need-kept-pairs-requires
-kept-pairs-requires c κs = search needs
+empty-requires : tie.Need-empty-requires
+empty-requires c κs = search needs
 
-put-pairs-requires : tie.Need-put-pairs-requires
-put-pairs-requires c κs =
+arrange-behind-requires : tie.Need-arrange-behind-requires
+arrange-behind-requires c κs =
     let a = c .before .before .before .before .before .before in
-    (omega (arith, pairs-count (bindings (workOf (a .args .kept))) (bindings (workOf (a .args .kept))) refl (c .before .before .kept-pairs .ensures), bindings-count (a .pre .0), a .pre .0 .room), a .pre .1)
+    let h = c .before .before .empty .ensures in
+    (a .pre .0, (holds-paired h h refl (omega arith), a .pre .1))
 
 same-length : tie.Need-same-length
 same-length c = search needs
@@ -29,9 +30,10 @@ same-length-2 c = search needs
 returns-2 : tie.Need-returns-2
 returns-2 c =
     let a = c .before .before .before .before .before .before .before .before .before .before .before in
-    arranges-pairs (bindings (workOf (a .args .kept))) (bindings (workOf (a .args .kept))) (c .before .before .before .before .before .before .before .before .if1 .left) (c .before .before .before .before .before .before .before .kept-pairs .ensures) (c .before .before .before .before .put-pairs .ensures)
+    let e = behind-none (bindings (workOf (a .args .kept))) (c .before .before .before .before .before .before .before .empty .ensures .list) in
+    arranges-as (a .args .right) e e (c .before .before .before .before .arrange-behind .ensures)
 
 pub arrange-kept-spec : {M : Type 1} → statement M
 arrange-kept-spec =
     tie.close
-    (tie.spec returns kept-pairs-requires put-pairs-requires same-length same-length-2 returns-2)
+    (tie.spec returns empty-requires arrange-behind-requires same-length same-length-2 returns-2)

@@ -1,30 +1,38 @@
 -- `arrange_one` meets its contract. Assumes nothing.
-use mathlib.Core.Path.{refl}
+use mathlib.Core.Path.{refl, ap}
 use mathlib.Core.List.{[], _∷_, _++_}
 use native.Mathlib.Omega.{arith}
 use borrow.Author.Needs.{needs}
+use Rattle.syntax.specs.Context.{Context}
 use Rattle.work.specs.Work.{bindings}
 use Rattle.held.specs.Holding.{workOf}
-use Rattle.stepping.proofs.PairLaws.{bindings-count, pairs-count, pairs-push, pushed-count}
-use Rattle.stepping.proofs.ArrangeLaws.{arranges-nothing, arranges-pairs}
+use Rattle.stepping.proofs.PairLaws.{holds-paired}
+use Rattle.stepping.proofs.StepLaws.{holds-one}
+use Rattle.stepping.proofs.ArrangeLaws.{arranges-nothing, arranges-as}
 use Rattle.stepping.proofs.arrange.arrange_one.Statement.{statement}
 use Rattle.stepping.proofs.arrange.arrange_one.Tie as tie
 
 returns : tie.Need-returns
 returns c = let a = c .before .before .before in arranges-nothing (bindings (workOf (a .args .kept)) ++ (a .args .target ∷ [])) (bindings (workOf (a .args .kept)) ++ (a .args .wanted ∷ [])) (c .if1 .taken)
 
-kept-pairs-requires : tie.Need-kept-pairs-requires
-kept-pairs-requires c κs = search needs
+empty-requires : tie.Need-empty-requires
+empty-requires c κs = search needs
 
 push-requires : tie.Need-push-requires
-push-requires c κs =
-    let a = c .before .before .before .before in
-    omega (arith, pairs-count (bindings (workOf (a .args .kept))) (bindings (workOf (a .args .kept))) refl (c .kept-pairs .ensures), bindings-count (a .pre .0), a .pre .0 .room)
+push-requires c κs = search needs
 
-put-pairs-requires : tie.Need-put-pairs-requires
-put-pairs-requires c κs =
-    let a = c .before .before .before .before .before .before .before in
-    (omega (arith, pushed-count (bindings (workOf (a .args .kept))) (bindings (workOf (a .args .kept))) refl (c .before .before .before .kept-pairs .ensures) (a .args .target) (a .args .wanted) (c .before .before .push .ensures), bindings-count (a .pre .0), a .pre .0 .room), a .pre .1)
+empty-requires-2 : tie.Need-empty-requires-2
+empty-requires-2 c κs = search needs
+
+push-requires-2 : tie.Need-push-requires-2
+push-requires-2 c κs = search needs
+
+arrange-behind-requires : tie.Need-arrange-behind-requires
+arrange-behind-requires c κs =
+    let a = c .before .before .before .before .before .before .before .before .before in
+    let t = holds-one (c .before .before .before .before .before .empty .ensures) (c .before .before .before .before .push .ensures) in
+    let v = holds-one (c .before .before .before .empty2 .ensures) (c .before .before .push2 .ensures) in
+    (a .pre .0, (holds-paired t v refl (omega arith), a .pre .1))
 
 same-length : tie.Need-same-length
 same-length c = search needs
@@ -34,19 +42,22 @@ same-length-2 c = search needs
 
 returns-2 : tie.Need-returns-2
 returns-2 c =
-    let a = c .before .before .before .before .before .before .before .before .before .before .before .before in
-    arranges-pairs (bindings (workOf (a .args .kept)) ++ (a .args .target ∷ [])) (bindings (workOf (a .args .kept)) ++ (a .args .wanted ∷ [])) (c .before .before .before .before .before .before .before .before .before .if1 .left)
-    (pairs-push (bindings (workOf (a .args .kept))) (bindings (workOf (a .args .kept))) refl (c .before .before .before .before .before .before .before .before .kept-pairs .ensures) (a .args .target) (a .args .wanted) (c .before .before .before .before .before .before .before .push .ensures))
-    (c .before .before .before .before .put-pairs .ensures)
+    let p = c .before .before .before .before .before .before .before in
+    let a = p .before .before .before .before .before .before .before in
+    let t = holds-one (p .before .before .before .empty .ensures) (p .before .before .push .ensures) .list in
+    let v = holds-one (p .before .empty2 .ensures) (p .push2 .ensures) .list in
+    arranges-as (a .args .right) (ap (λ (z : Context). bindings (workOf (a .args .kept)) ++ z) t) (ap (λ (z : Context). bindings (workOf (a .args .kept)) ++ z) v) (c .before .before .before .before .arrange-behind .ensures)
 
 pub arrange-one-spec : {M : Type 1} → statement M
 arrange-one-spec =
     tie.close
     (tie.spec
     returns
-    kept-pairs-requires
+    empty-requires
     push-requires
-    put-pairs-requires
+    empty-requires-2
+    push-requires-2
+    arrange-behind-requires
     same-length
     same-length-2
     returns-2)

@@ -5,31 +5,33 @@ use mathlib.Core.List.{List}
 use Prim.Native.Nat.{ℕ, _-_}
 use native.Mathlib.Omega.{arith}
 use lib.ListN.{length, take, length-set}
-use Rattle.syntax.specs.Arrays.{setOf}
+use Rattle.syntax.specs.Flat.{bindingOf, emptyFlat}
+use Rattle.syntax.specs.Arrays.{setOf, bindingsIn}
 use Rattle.syntax.specs.Context.{emptyBinding}
 use Rattle.syntax.specs.Filter.{filtered, inSet}
 use Rattle.syntax.specs.declared.context.TypingContext.{TypingContext}
 use Rattle.syntax.specs.declared.context.ContextBinding.{ContextBinding}
-use Rattle.syntax.proofs.Lists.{long, counted}
-use Rattle.syntax.proofs.Filters.{Filtering, filtering-start, filtering-in, filtering-out, filtering-done}
+use Rattle.syntax.proofs.Lists.{counted}
+use Rattle.syntax.proofs.Flats.{long-seen, seen-moved, seen-in, seen-out}
+use Rattle.syntax.proofs.Filters.{Filtering, filtering-start, filtering-done}
 use Rattle.syntax.proofs.context.TypingContext.filter_by_set.Statement.{statement}
 use Rattle.syntax.proofs.context.TypingContext.filter_by_set.Tie as tie
 
 -- i places are done; the array keeps its length
 record Inv (p : ContextBinding → Bool) (whole : List ContextBinding) (out : TypingContext) (n i : ℕ) : Type 0 where
-  size : length (out .bindings) ≡ 64
-  turn : Filtering p whole (out .bindings) n i
+  size : length (bindingsIn out) ≡ 64
+  turn : Filtering p whole (bindingsIn out) n i
 
 abbrev Inv-loop : tie.InvT-loop
-Inv-loop set out₀ n₀ i₀ out n i = Inv (inSet (setOf set)) (filtered (inSet (setOf set)) (take n₀ (out₀ .bindings))) out n i
+Inv-loop set out₀ n₀ i₀ out n i = Inv (inSet (setOf set)) (filtered (inSet (setOf set)) (take n₀ (bindingsIn out₀))) out n i
 
 abbrev μ-loop : tie.MeasureT-loop
 μ-loop set out₀ n₀ i₀ out n i = n - i
 
 loop-holds : tie.Need-loop-holds Inv-loop μ-loop
 loop-holds c =
-    let h = long _ (c .args .self .bindings) (c .good .0 .1 .1 .0 .1 .0 .1) in
-    record { size = h; turn = filtering-start (inSet (setOf (c .args .set))) (c .args .self .bindings) (c .args .self .len) (omega arith) }
+    let h = long-seen _ bindingOf (c .args .self .bindings) (c .good .0 .1 .1 .0 .1 .0 .1) in
+    record { size = h; turn = filtering-start (inSet (setOf (c .args .set))) (bindingsIn (c .args .self)) (c .args .self .len) (omega arith) }
 
 mul-b : tie.Need-mul-b Inv-loop μ-loop
 mul-b c = omega arith
@@ -49,7 +51,7 @@ loop-less c = omega arith
 loop-again : tie.Need-loop-again Inv-loop μ-loop
 loop-again c =
     let l = c .before .before .before .before .before .loop in
-    record { size = l .inv .size; turn = filtering-in (inSet (setOf (c .before .before .before .before .before .before .args .set))) emptyBinding (omega arith) (sym (c .before .contains .ensures) ∙ c .if1 .taken) (l .inv .turn) }
+    record { size = l .inv .size; turn = seen-in bindingOf (inSet (setOf (c .before .before .before .before .before .before .args .set))) (l .out .bindings) emptyFlat (omega arith) (l .inv .turn) (sym (c .before .contains .ensures) ∙ c .if1 .taken) }
 
 sub-n : tie.Need-sub-n Inv-loop μ-loop
 sub-n c = omega arith
@@ -72,13 +74,13 @@ loop-less-2 c = omega arith
 loop-again-2 : tie.Need-loop-again-2 Inv-loop μ-loop
 loop-again-2 c =
     let l = c .before .before .before .before .before .before .loop in
-    record { size = rw length-set (l .inv .size); turn = filtering-out (inSet (setOf (c .before .before .before .before .before .before .before .args .set))) emptyBinding (omega arith) (sym (c .before .before .contains .ensures) ∙ c .before .if1 .left) (l .inv .turn) }
+    record { size = rw (seen-moved bindingOf (l .out .bindings) (l .i) (l .n - 1) emptyFlat, length-set) (l .inv .size); turn = seen-out bindingOf (inSet (setOf (c .before .before .before .before .before .before .before .args .set))) (l .out .bindings) emptyFlat (omega arith) (l .inv .turn) (sym (c .before .before .contains .ensures) ∙ c .before .if1 .left) }
 
 returns : tie.Need-returns Inv-loop μ-loop
 returns c =
     let l = c .before .loop in
     let e = filtering-done (inSet (setOf (c .before .before .args .set))) (c .loop-test .left) (l .inv .turn) in
-    record { count = sym (ap length (sym e) ∙ counted (l .out .bindings) (l .n) (l .inv .turn .within)); list = e }
+    record { count = sym (ap length (sym e) ∙ counted (bindingsIn (l .out)) (l .n) (l .inv .turn .within)); list = e }
 
 pub filter-by-set-spec : {M : Type 1} → statement M
 filter-by-set-spec =

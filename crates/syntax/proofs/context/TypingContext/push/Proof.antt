@@ -1,26 +1,33 @@
 -- `TypingContext::push` meets its contract. Assumes nothing.
 use native.Mathlib.Omega.{arith}
-use Rattle.syntax.proofs.Lists.{long, take-stored, stored-count}
 use borrow.Author.Needs.{needs}
+use Rattle.syntax.specs.Flat.{bindingOf}
+use Rattle.syntax.specs.Arrays.{bindingsIn}
+use Rattle.syntax.proofs.Lists.{stored-count}
+use Rattle.syntax.proofs.Flats.{long-seen, seen-stored}
 use Rattle.syntax.proofs.context.TypingContext.push.Statement.{statement}
 use Rattle.syntax.proofs.context.TypingContext.push.Tie as tie
 
-mul-b : tie.Need-mul-b
-mul-b c = search needs
+flat-requires : tie.Need-flat-requires
+flat-requires c κs = search needs
 
-element-set-from-b : tie.Need-element-set-from-b
-element-set-from-b c = search needs
+mul-t6 : tie.Need-mul-t6
+mul-t6 c = search needs
+
+element-set-from-next : tie.Need-element-set-from-next
+element-set-from-next c = search needs
 
 add-next : tie.Need-add-next
 add-next c = search needs
 
 returns : tie.Need-returns
 returns c =
-    let h = long _ (c .args .self .bindings) (c .good .0 .1 .1 .0 .1 .0 .1) in
+    let s = c .before in
+    let h = long-seen _ bindingOf (s .args .self .bindings) (s .good .0 .1 .1 .0 .1 .0 .1) in
     record {
-      count = stored-count (c .args .self .bindings) (c .args .self .len) (c .args .b) (omega arith);
-      list = take-stored (c .args .self .bindings) (c .args .self .len) (c .args .b) (omega arith);
+      count = stored-count (bindingsIn (s .args .self)) (s .args .self .len) (s .args .b) (omega arith);
+      list = seen-stored bindingOf (s .args .self .bindings) (s .args .self .len) (c .flat .result) (s .args .b) (c .flat .ensures) (omega arith);
     }
 
 pub push-spec : {M : Type 1} → statement M
-push-spec = tie.close (tie.spec mul-b element-set-from-b add-next returns)
+push-spec = tie.close (tie.spec flat-requires mul-t6 element-set-from-next add-next returns)
