@@ -99,7 +99,8 @@ pub fn arrange_one(
     arrange_behind(right, kept, targets, sources, w, out, lengths, p)
 }
 
-// What is kept, and behind it the targets.
+// What is kept, and behind it the targets. The pairs are built and then written in one function, here and below: given to another they would be
+// copied.
 pub fn arrange_behind(
     right: bool,
     kept: Held,
