@@ -1,11 +1,12 @@
 -- A Substitute where the context differs from the wanted list: its bytes, and what is written. (Its pairs: PairLaws.antt.) Assumes nothing.
-use Prim.Native.Nat.{ℕ, _*_, _≤_}
+use Prim.Native.Nat.{ℕ, _+_, _*_, _≤_, _<_}
 use mathlib.Core.Path.{_≡_, refl, sym, ap, _∙_, subst}
 use mathlib.Core.Bool.{Bool, true, false}
-use mathlib.Core.List.{List, [], _∷_}
+use mathlib.Core.List.{List, [], _∷_, map}
 use native.Mathlib.Omega.{arith}
-use lib.ListN.{length, take, length-append, length-map, length-take}
+use lib.ListN.{length, take, getD, length-append, length-map, length-take}
 use Rattle.syntax.proofs.Lists.{counted}
+use Rattle.syntax.proofs.Flats.{seen-at}
 use Rattle.syntax.specs.Context.{Context, vars}
 use Rattle.syntax.specs.declared.names.Identifier.{Identifier}
 use Rattle.syntax.specs.declared.context.ContextBinding.{ContextBinding}
@@ -15,11 +16,13 @@ use Rattle.format.specs.Fields.{pairBytes}
 use Rattle.format.specs.Records.{substitute, recordBytes}
 use Rattle.put.specs.Puts.{Puts}
 use Rattle.put.proofs.Putting.{puts-as, puts-then}
-use Rattle.write.proofs.Writing.{Written, each-map, storedBytes, pair-length}
+use Rattle.write.proofs.Writing.{Written, written-next, each-map, storedBytes, pair-length}
 use Rattle.emit.specs.Emitting.{Noted}
 use Rattle.emit.specs.declared.progress.Progress.{Progress}
 use Rattle.emit.proofs.EmitLaws.{emits-none, emits-one}
-use Rattle.substitution.specs.Pairs.{partsOf, pairsIn, pairsOf, HoldsPairs}
+use Rattle.substitution.specs.Pairs.{pairOf, partsOf, pairsIn, pairsOf, HoldsPairs, emptyPair, emptyFlatPair}
+use Rattle.substitution.specs.declared.FlatPair.{FlatPair}
+use Rattle.substitution.proofs.Pairing.{Zipped, zipped-done}
 use Rattle.substitution.specs.declared.Substitution.{Substitution}
 use Rattle.steps.specs.Steps.{arranged}
 use Rattle.stepping.specs.Stepping.{Arranges}
@@ -35,8 +38,15 @@ substitute-short w ps h k = omega (arith, pairs-short w ps h, k)
 
 -- ── what is written ──
 
+-- one pair more is written
+pub written-pair : (w : ℕ) (s : Substitution) {before after next : List ℕ} {at here m j : ℕ} → w ≤ 8 → j < length (s .pairs) → Puts after next here m (pairBytes w (partsOf (pairOf (getD (s .pairs) j emptyFlatPair))))
+    → Written (storedBytes w) 32 (pairsIn s) before at after here j → Written (storedBytes w) 32 (pairsIn s) before at next m (j + 1)
+written-pair w s {j = j} h k q p =
+    let n = pair-length w (partsOf (getD (pairsIn s) j emptyPair)) in
+    written-next (storedBytes w) emptyPair (rw (length-map (s .pairs) pairOf) k) (omega (arith, n, h)) (puts-as (ap (storedBytes w) (seen-at pairOf (s .pairs) j emptyFlatPair)) q) p
+
 -- the kind and the count, then each pair: the record of a substitution
-pub puts-record : (w : ℕ) {a b c : List ℕ} {at k m i : ℕ} (s : Substitution) → s .len ≤ length (pairsIn s) → i ≡ s .len → Puts a b at k (2 ∷ (s .len ∷ []))
+puts-record : (w : ℕ) {a b c : List ℕ} {at k m i : ℕ} (s : Substitution) → s .len ≤ length (pairsIn s) → i ≡ s .len → Puts a b at k (2 ∷ (s .len ∷ []))
     → Written (storedBytes w) 32 (pairsIn s) b k c m i → Puts a c at m (recordBytes w (substitute (pairsOf s)))
 unfolding recordBytes
 puts-record w s h e p q =
@@ -45,7 +55,7 @@ puts-record w s h e p q =
     (puts-then {xs = 2 ∷ (s .len ∷ [])} p (rw (each-map (pairBytes w) partsOf (take (s .len) (pairsIn s))) (rw e at (q .puts))))
 
 -- the record of a substitution's pairs
-pub puts-pairs : {w : ℕ} {out out′ lengths lengths′ : List ℕ} {p q : Progress} {next : ℕ} (s : Substitution) → w ≤ 8 → s .len ≤ 128
+puts-pairs : {w : ℕ} {out out′ lengths lengths′ : List ℕ} {p q : Progress} {next : ℕ} (s : Substitution) → w ≤ 8 → s .len ≤ 128
     → Puts out out′ (p .at) next (recordBytes w (substitute (pairsOf s))) → Noted q p next lengths lengths′ → Arranges w out out′ lengths lengths′ p q (substitute (pairsOf s) ∷ [])
 puts-pairs {w} s h k a n =
     let m : length (pairsOf s) ≤ 128 = rw (length-map (take (s .len) (pairsIn s)) partsOf, length-take) (omega arith) in
@@ -61,10 +71,18 @@ pub arranges-nothing : {w : ℕ} {out lengths : List ℕ} {p : Progress} {right 
 unfolding arranged
 arranges-nothing {w} {out} {lengths} {p} T W e = rw e record { emits = emits-none w out lengths p; maxId = refl; near = omega arith; few = omega arith }
 
-pub arranges-pairs : {w : ℕ} {out out′ lengths lengths′ : List ℕ} {p q : Progress} {right : Bool} (T W : Context) {s : Substitution} → right ≡ false → HoldsPairs s (zip T (vars W))
+arranges-pairs : {w : ℕ} {out out′ lengths lengths′ : List ℕ} {p q : Progress} {right : Bool} (T W : Context) {s : Substitution} → right ≡ false → HoldsPairs s (zip T (vars W))
     → Arranges w out out′ lengths lengths′ p q (substitute (pairsOf s) ∷ []) → Arranges w out out′ lengths lengths′ p q (arranged right T W)
 unfolding arranged
 arranges-pairs {w} {out} {out′} {lengths} {lengths′} {p} {q} T W e h a = rw e (subst (λ z. Arranges w out out′ lengths lengths′ p q (substitute z ∷ [])) (h .list) a)
+
+-- the pairs of T with the variables of W were stored, and then written behind the kind and their count
+pub arranges-written : (w : ℕ) (T W : Context) (l : List FlatPair) (n : ℕ) {out b out′ lengths lengths′ : List ℕ} {p q : Progress} {right : Bool} {k m i j : ℕ} → w ≤ 8 → right ≡ false → n ≡ length T → n ≤ i → Zipped T W l i
+    → Puts out b (p .at) k (2 ∷ (n ∷ [])) → (j ≤ n) × Written (storedBytes w) 32 (map pairOf l) b k out′ m j → n ≤ j → Noted q p m lengths lengths′ → Arranges w out out′ lengths lengths′ p q (arranged right T W)
+arranges-written w T W l n {j = j} h e c d z a x f y =
+    let s : Substitution = record { pairs = l; len = n } in
+    let r = puts-record w s (rw (length-map l pairOf) (omega (arith, c, z .within, z .size))) (let g : j ≡ n = omega (arith, x .0, f) in g) a (x .1) in
+    arranges-pairs T W e (zipped-done n c d z) (puts-pairs s h (omega (arith, c, z .within)) r y)
 
 -- the same targets and the same wanted list, put together in another way
 pub arranges-as : {w : ℕ} {out out′ lengths lengths′ : List ℕ} {p q : Progress} (right : Bool) {T T′ R R′ : Context} → T ≡ T′ → R ≡ R′ → Arranges w out out′ lengths lengths′ p q (arranged right T R) → Arranges w out out′ lengths lengths′ p q (arranged right T′ R′)

@@ -4,32 +4,30 @@ use mathlib.Core.Path.{_≡_, refl, sym, ap, _∙_}
 use mathlib.Core.List.{_++_}
 use native.Mathlib.Omega.{arith}
 use borrow.Author.Needs.{needs}
-use lib.ListN.{getD, length, length-append, length-map}
+use lib.ListN.{length-append}
 use Rattle.syntax.specs.Context.{Context, emptyBinding}
-use Rattle.syntax.specs.Flat.{bindingOf, emptyFlat}
+use Rattle.syntax.specs.Flat.{bindingOf}
 use Rattle.syntax.specs.Arrays.{contextOf}
 use Rattle.syntax.specs.declared.context.TypingContext.{TypingContext}
-use Rattle.syntax.proofs.Flats.{seen-at}
-use Rattle.substitution.specs.declared.Substitution.{Substitution}
-use Rattle.substitution.specs.Pairs.{pairOf, partsOf, pairsIn, emptyPair, emptyFlatPair}
-use Rattle.substitution.proofs.Pairing.{context-at, Zipped, zipped-done}
-use Rattle.write.proofs.Writing.{Written, written-none, written-next, storedBytes, pair-length}
-use Rattle.put.proofs.Putting.{puts-same, puts-as}
+use Rattle.substitution.specs.Pairs.{pairsIn}
+use Rattle.substitution.proofs.Pairing.{context-at, Zipped}
+use Rattle.write.proofs.Writing.{Written, written-none, storedBytes}
+use Rattle.put.proofs.Putting.{puts-same}
 use Rattle.work.specs.Work.{bindings}
-use Rattle.held.specs.Holding.{flatOf, workOf, emptyFlatEntry}
+use Rattle.held.specs.Holding.{workOf}
 use Rattle.held.specs.declared.Held.{Held}
 use Rattle.held.proofs.Elements.{binding-at}
 use Rattle.stepping.proofs.PairLaws.{bindings-count, targets-count, zipped-joined, zipped-front, zipped-back}
-use Rattle.stepping.proofs.ArrangeLaws.{arranges-nothing, arranges-pairs, puts-pairs, puts-record}
+use Rattle.stepping.proofs.ArrangeLaws.{arranges-nothing, written-pair, arranges-written}
 use Rattle.stepping.proofs.arrange.arrange_behind.Statement.{statement}
 use Rattle.stepping.proofs.arrange.arrange_behind.Tie as tie
 
 -- what is kept, and behind it the list
-abbrev before-of : Held → TypingContext → Context
-before-of kept c = bindings (workOf kept) ++ contextOf c
+abbrev joined : Held → TypingContext → Context
+joined kept c = bindings (workOf kept) ++ contextOf c
 
 abbrev Inv-loop : tie.InvT-loop
-Inv-loop right w out lengths p kept targets wanted k n all₀ i₀ all i = (all .len ≡ n) × Zipped (before-of kept targets) (before-of kept wanted) (all .pairs) i
+Inv-loop right w out lengths p kept targets wanted k n all₀ i₀ all i = (all .len ≡ n) × Zipped (joined kept targets) (joined kept wanted) (all .pairs) i
 
 abbrev μ-loop : tie.MeasureT-loop
 μ-loop right w out lengths p kept targets wanted k n all₀ i₀ all i = n - i
@@ -45,7 +43,7 @@ few : (s : tie.Start Inv-loop μ-loop Inv-loop2 μ-loop2) → s .args .t2 .len +
 few s = omega (arith, s .pre .0 .room, s .pre .1 .0 .few)
 
 returns : tie.Need-returns Inv-loop μ-loop Inv-loop2 μ-loop2
-returns c = let s = c .before .before .before in arranges-nothing (before-of (s .args .t2) (s .args .t3)) (before-of (s .args .t2) (s .args .t4)) (c .if1 .taken)
+returns c = let s = c .before .before .before in arranges-nothing (joined (s .args .t2) (s .args .t3)) (joined (s .args .t2) (s .args .t4)) (c .if1 .taken)
 
 add-n : tie.Need-add-n Inv-loop μ-loop Inv-loop2 μ-loop2
 add-n c = omega arith
@@ -168,8 +166,7 @@ loop2-again c =
     let l = c .before .before .before .before .before .before .loop2 in
     let f = c .before .before .before .before .before .before .before .before .before .before .before .before .loop in
     let t = c .before .before .before .before .before .loop2-test .taken in
-    let k = pair-length (s .args .w) (partsOf (getD (pairsIn (f .all)) (l .j) emptyPair)) in
-    (omega (arith, t), written-next (storedBytes (s .args .w)) emptyPair (rw (length-map (f .all .pairs) pairOf) (omega (arith, f .inv .1 .size, t, few s))) (omega (arith, k, s .pre .1 .1 .0)) (puts-as (ap (storedBytes (s .args .w)) (seen-at pairOf (f .all .pairs) (l .j) emptyFlatPair)) (c .before .before .put-pair .ensures)) (l .inv .1))
+    (omega (arith, t), written-pair (s .args .w) (f .all) (s .pre .1 .1 .0) (omega (arith, f .inv .1 .size, t, few s)) (c .before .before .put-pair .ensures) (l .inv .1))
 
 note-requires : tie.Need-note-requires Inv-loop μ-loop Inv-loop2 μ-loop2
 note-requires c κs = let s = c .before .before .before .before .before .before .before .before .before .before .before .before .before .before in (omega (arith, c .before .before .loop2 .inv .1 .puts .ends, c .before .before .before .before .before .put-substitute .ensures .ends), omega (arith, s .pre .1 .1 .1 .count))
@@ -184,15 +181,8 @@ returns-2 : tie.Need-returns-2 Inv-loop μ-loop Inv-loop2 μ-loop2
 returns-2 c =
     let s = c .before .before .before .before .before .before .before .before .before .before .before .before .before .before .before .before .before in
     let f = c .before .before .before .before .before .before .before .before .before .before .before .loop in
-    let l = c .before .before .before .before .before .loop2 in
-    let T = before-of (s .args .t2) (s .args .t3) in
-    let W = before-of (s .args .t2) (s .args .t4) in
-    let q : s .args .t2 .len + s .args .t3 .len ≡ length T = omega (arith, bindings-count (s .pre .0), s .pre .1 .0 .count, length-append (bindings (workOf (s .args .t2))) (contextOf (s .args .t3))) in
-    let h = zipped-done _ q (c .before .before .before .before .before .before .before .before .before .before .loop-test .left) (f .inv .1) in
-    let e : l .j ≡ s .args .t2 .len + s .args .t3 .len = omega (arith, l .inv .0, c .before .before .before .before .loop2-test .left) in
-    let all : Substitution = record { pairs = f .all .pairs; len = s .args .t2 .len + s .args .t3 .len } in
-    let r = puts-record (s .args .w) all (rw (length-map (f .all .pairs) pairOf) (omega (arith, f .inv .1 .size, few s))) e (c .before .before .before .before .before .before .before .before .put-substitute .ensures) (l .inv .1) in
-    arranges-pairs T W (c .before .before .before .before .before .before .before .before .before .before .before .before .before .before .if1 .left) h (puts-pairs all (s .pre .1 .1 .0) (few s) r (c .before .before .note .ensures))
+    arranges-written (s .args .w) (joined (s .args .t2) (s .args .t3)) (joined (s .args .t2) (s .args .t4)) (f .all .pairs) (s .args .t2 .len + s .args .t3 .len) (s .pre .1 .1 .0) (c .before .before .before .before .before .before .before .before .before .before .before .before .before .before .if1 .left) (omega (arith, bindings-count (s .pre .0), s .pre .1 .0 .count, length-append (bindings (workOf (s .args .t2))) (contextOf (s .args .t3))))
+    (c .before .before .before .before .before .before .before .before .before .before .loop-test .left) (f .inv .1) (c .before .before .before .before .before .before .before .before .put-substitute .ensures) (c .before .before .before .before .before .loop2 .inv) (c .before .before .before .before .loop2-test .left) (c .before .before .note .ensures)
 
 pub arrange-behind-spec : {M : Type 1} → statement M
 arrange-behind-spec =
