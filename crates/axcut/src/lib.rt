@@ -1,14 +1,14 @@
 // The exported functions. Each returns the number of its answer, 0 for acceptance, and sets length and max_id on every call.
-use annotation::annotate::annotate;
-use checking::check::check;
-use format::Answer;
-use format::Layout;
-use program::linearize;
-use reading::read;
-ghost use Rattle.format.specs.Answers.{Reports, report};
-ghost use Rattle.format.specs.Reading.{readCall};
-ghost use Rattle.scope.specs.Calls.{checkCall, annotateCall, Told};
-ghost use Rattle.output.specs.Calls.{linearizeCall};
+use annotate::annotate::annotate;
+use image_open::read;
+use image_spec::Answer;
+use image_spec::Layout;
+use pass_program::linearize;
+use scope_check::check::check;
+ghost use Rattle.image_spec.specs.Answers.{Reports, report};
+ghost use Rattle.image_spec.specs.Reading.{readCall};
+ghost use Rattle.scope_spec.specs.Calls.{checkCall, annotateCall, Told};
+ghost use Rattle.pass_answer_spec.specs.Calls.{linearizeCall};
 
 fn tell(answer: Answer, length: &mut usize, max_id: &mut u32) -> u32
     ensures { λ r. ⌜ Reports (report answer) r (now (length .exit)) (now («max_id» .exit)) ⌝ }

@@ -3,12 +3,12 @@ use mathlib.Core.Path.{sym, ap, _∙_, subst}
 use native.Mathlib.Omega.{arith}
 use denote.Ref.{now}
 use lib.ListN.{length}
-use Rattle.format.specs.declared.Layout.{Layout}
-use Rattle.format.specs.declared.Answer.{Answer}
-use Rattle.format.specs.Answers.{Reports, report}
-use Rattle.scope.specs.Calls.{annotateOf, annotateCall, Replies}
-use Rattle.reading.specs.Opening.{Known}
-use Rattle.reading.proofs.OpenedLaws.{layout1-known}
+use Rattle.image_spec.specs.declared.Layout.{Layout}
+use Rattle.image_spec.specs.declared.Answer.{Answer}
+use Rattle.image_spec.specs.Answers.{Reports, report}
+use Rattle.scope_spec.specs.Calls.{annotateOf, annotateCall, Replies}
+use Rattle.image_open.specs.Opening.{Known}
+use Rattle.image_open.proofs.OpenedLaws.{layout1-known}
 use Rattle.axcut.proofs.axcut_annotate.Statement.{statement}
 use Rattle.axcut.proofs.axcut_annotate.Tie as tie
 

@@ -1,13 +1,13 @@
 use borrow.Author.Needs.{needs}
 use mathlib.Core.Path.{sym, ap, _∙_, subst}
 use denote.Ref.{now}
-use Rattle.format.specs.declared.Layout.{Layout}
-use Rattle.format.specs.declared.Answer.{Answer}
-use Rattle.format.specs.Answers.{Reports, report}
-use Rattle.format.specs.Reading.{answerOf}
-use Rattle.scope.specs.Calls.{checkOf, checkCall}
-use Rattle.reading.specs.Opening.{Known}
-use Rattle.reading.proofs.OpenedLaws.{layout1-known}
+use Rattle.image_spec.specs.declared.Layout.{Layout}
+use Rattle.image_spec.specs.declared.Answer.{Answer}
+use Rattle.image_spec.specs.Answers.{Reports, report}
+use Rattle.image_spec.specs.Reading.{answerOf}
+use Rattle.scope_spec.specs.Calls.{checkOf, checkCall}
+use Rattle.image_open.specs.Opening.{Known}
+use Rattle.image_open.proofs.OpenedLaws.{layout1-known}
 use Rattle.axcut.proofs.axcut_check.Statement.{statement}
 use Rattle.axcut.proofs.axcut_check.Tie as tie
 

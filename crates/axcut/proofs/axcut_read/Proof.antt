@@ -1,8 +1,8 @@
 use borrow.Author.Needs.{needs}
 use mathlib.Core.Path.{subst}
-use Rattle.format.specs.declared.Answer.{Answer}
-use Rattle.format.specs.Answers.{Reports, report}
-use Rattle.format.specs.Reading.{readCall}
+use Rattle.image_spec.specs.declared.Answer.{Answer}
+use Rattle.image_spec.specs.Answers.{Reports, report}
+use Rattle.image_spec.specs.Reading.{readCall}
 use Rattle.axcut.proofs.axcut_read.Statement.{statement}
 use Rattle.axcut.proofs.axcut_read.Tie as tie
 

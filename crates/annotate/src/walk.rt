@@ -1,0 +1,77 @@
+// The walk that marks what a statement, or clauses, use and do not bind.
+use annotate_marks::mark_all;
+use annotate_uses::bind;
+use annotate_uses::uses;
+use image_directory::Frame;
+use scope_check::walk::parts_of;
+use syntax::sets::IdSet;
+ghost use Prim.Native.Nat.{_+_};
+ghost use lib.ListN.{length};
+ghost use Rattle.syntax.specs.Arrays.{setOf};
+ghost use Rattle.image_spec.specs.Parse.{each, All};
+ghost use Rattle.image_spec.specs.Shape.{flatten, flattenClauses};
+ghost use Rattle.image_directory.specs.Slots.{recordsIn};
+ghost use Rattle.image_places_spec.specs.Places.{stmtAt, clausesAt, bodiesAt, StmtStands, ClausesStand, BodiesStand};
+ghost use Rattle.scope_spec.specs.Marking.{markStmt, markClauses, markBodies};
+ghost use Rattle.scope_spec.specs.Rooms.{RoomFor, RoomForClauses};
+ghost use Rattle.scope_check.specs.Scoping.{Scope};
+ghost use Rattle.annotate_uses.specs.Sources.{Source};
+ghost use Rattle.annotate.specs.Marks.{MarkedTo};
+
+// The statement at index i, of depth at most `depth`.
+pub fn statement(s: &[u8], g: Frame, depth: usize, i: usize, bound: IdSet, row: &mut [u8]) -> usize
+    requires { ⌜ Source g (now s) × (StmtStands depth (recordsIn g (now s)) i (stmtAt depth (recordsIn g (now s)) i) × (Scope bound × RoomFor (setOf bound) (stmtAt depth (recordsIn g (now s)) i))) ⌝ }
+    ensures { λ r. ⌜ MarkedTo r (now (row .exit)) (i + length (flatten (stmtAt depth (recordsIn g (now (s .entry))) i))) (markStmt (stmtAt depth (recordsIn g (now (s .entry))) i) (setOf bound) (now (row .entry))) ⌝ }
+{
+    let f = parts_of(s, g, i);
+    let used = uses(s, g, i, f.kind);
+    mark_all(row, bound, used);
+    let next = clauses(s, g, depth - 1, f.clauses, i + 1, bound, row);
+    let inner = bind(s, g, i, f.kind, bound);
+    bodies(s, g, depth - 1, f.bodies, next, inner, row)
+}
+
+// The n clauses from index i on, with bodies of depth at most `depth`.
+pub fn clauses(
+    s: &[u8],
+    g: Frame,
+    depth: usize,
+    n: usize,
+    i: usize,
+    bound: IdSet,
+    row: &mut [u8],
+) -> usize
+    requires { ⌜ Source g (now s) × (ClausesStand depth n (recordsIn g (now s)) i (clausesAt depth n (recordsIn g (now s)) i) × (Scope bound × RoomForClauses (setOf bound) (clausesAt depth n (recordsIn g (now s)) i))) ⌝ }
+    ensures { λ r. ⌜ MarkedTo r (now (row .exit)) (i + length (flattenClauses (clausesAt depth n (recordsIn g (now (s .entry))) i))) (markClauses (clausesAt depth n (recordsIn g (now (s .entry))) i) (setOf bound) (now (row .entry))) ⌝ }
+{
+    let mut here = i;
+    let mut left = n;
+    while 0 < left {
+        let inner = bind(s, g, here, 11, bound);
+        here = statement(s, g, depth, here + 1, inner, row);
+        left = left - 1;
+    }
+    here
+}
+
+// The n statements from index i on, each of depth at most `depth`.
+fn bodies(
+    s: &[u8],
+    g: Frame,
+    depth: usize,
+    n: usize,
+    i: usize,
+    bound: IdSet,
+    row: &mut [u8],
+) -> usize
+    requires { ⌜ Source g (now s) × (BodiesStand depth n (recordsIn g (now s)) i (bodiesAt depth n (recordsIn g (now s)) i) × (Scope bound × All (RoomFor (setOf bound)) (bodiesAt depth n (recordsIn g (now s)) i))) ⌝ }
+    ensures { λ r. ⌜ MarkedTo r (now (row .exit)) (i + length (each flatten (bodiesAt depth n (recordsIn g (now (s .entry))) i))) (markBodies (bodiesAt depth n (recordsIn g (now (s .entry))) i) (setOf bound) (now (row .entry))) ⌝ }
+{
+    let mut here = i;
+    let mut left = n;
+    while 0 < left {
+        here = statement(s, g, depth, here, bound, row);
+        left = left - 1;
+    }
+    here
+}

@@ -1,0 +1,137 @@
+// The IDs that the record at an index uses, in their order, and the scope with what it binds.
+use image_directory::Frame;
+use image_fields::count;
+use image_kinds::kinds::Kind;
+use image_read_parts::byte;
+use image_read_parts::identifier;
+use image_read_parts::identifier_at;
+use scope_check::nodes::first;
+use scope_check::nodes::list_at;
+use scope_check::nodes::operand;
+use scope_check::nodes::target;
+use syntax::names::Identifier;
+use syntax::sets::IdSet;
+ghost use mathlib.Core.Path.{_≡_};
+ghost use mathlib.Core.Bool.{true};
+ghost use mathlib.Core.List.{_∷_, [], _++_};
+ghost use Prim.Native.Nat.{_+_, _≤_};
+ghost use lib.ListN.{length};
+ghost use Rattle.syntax.specs.Arrays.{setOf, SetHolds};
+ghost use Rattle.syntax.specs.Context.{ids};
+ghost use Rattle.model.specs.FreeVars.{optionalId};
+ghost use Rattle.image_places_spec.specs.Views.{binders, usesOf};
+ghost use Rattle.scope_spec.specs.Flat.{smallRecord};
+ghost use Rattle.image_read_parts.specs.Parts.{listOf};
+ghost use Rattle.scope_check.specs.Nodes.{recordAt, At, hasList, operandOf, secondOf};
+ghost use Rattle.scope_check.specs.Scoping.{Scope};
+ghost use Rattle.annotate_uses.specs.Sets.{Room};
+ghost use Rattle.annotate_uses.specs.Sources.{BoundBy};
+
+// The set, with the bindings of a record's list behind.
+fn add_list(s: &[u8], g: Frame, i: usize, kind: u8, set: IdSet) -> IdSet
+    requires { ⌜ At g (now s) i kind × ((hasList kind ≡ true) × Room set (length (listOf (recordAt g (now s) i)))) ⌝ }
+    ensures { λ r. ⌜ SetHolds r (setOf set ++ ids (listOf (recordAt g (now (s .entry)) i))) ⌝ }
+{
+    let w = g.id;
+    let size = 6 + (w + w);
+    let start = list_at(s, g, i, kind);
+    let mut left = count(s[start]);
+    let mut at = start + 1;
+    let mut all = set;
+    while 0 < left {
+        let x = identifier_at(s, g.id, at);
+        let id = x.id;
+        let end = all.len;
+        all.ids[end] = id;
+        all.len = end + 1;
+        at = at + size;
+        left = left - 1;
+    }
+    all
+}
+
+fn only(id: Identifier) -> IdSet
+    ensures { λ r. ⌜ SetHolds r (id .id ∷ []) ⌝ }
+{
+    let none = IdSet::empty();
+    none.add(id.id)
+}
+
+// The set, with the second operand of the Op at index i behind.
+fn add_operand(s: &[u8], g: Frame, i: usize, set: IdSet) -> IdSet
+    requires { ⌜ At g (now s) i 9 × Room set 1 ⌝ }
+    ensures { λ r. ⌜ SetHolds r (setOf set ++ (operandOf (recordAt g (now (s .entry)) i) .id ∷ [])) ⌝ }
+{
+    let x = operand(s, g, i);
+    set.add(x.id)
+}
+
+// The set, with the second operand of the IfC at index i behind, if there is one.
+fn add_second(s: &[u8], g: Frame, i: usize, set: IdSet) -> IdSet
+    requires { ⌜ At g (now s) i 10 × Room set 1 ⌝ }
+    ensures { λ r. ⌜ SetHolds r (setOf set ++ optionalId (secondOf (recordAt g (now (s .entry)) i))) ⌝ }
+{
+    let w = g.id;
+    let mark = Kind::fixed(10, w);
+    if byte(s, g, i, mark) == 0 {
+        return set;
+    }
+    let x = identifier(s, g, i, mark + 1);
+    set.add(x.id)
+}
+
+// The IDs that the record at index i uses. (Its counts have passed question 7.)
+pub fn uses(s: &[u8], g: Frame, i: usize, kind: u8) -> IdSet
+    requires { ⌜ At g (now s) i kind × (smallRecord (recordAt g (now s) i) ≡ true) ⌝ }
+    ensures { λ r. ⌜ SetHolds r (usesOf (recordAt g (now (s .entry)) i)) ⌝ }
+{
+    if kind == 3 {
+        return add_list(s, g, i, 3, IdSet::empty());
+    }
+    if kind == 4 {
+        return add_list(s, g, i, 4, IdSet::empty());
+    }
+    if kind == 5 {
+        return only(first(s, g, i, 5));
+    }
+    if kind == 7 {
+        return add_list(s, g, i, 7, only(first(s, g, i, 7)));
+    }
+    if kind == 9 {
+        return add_operand(s, g, i, only(first(s, g, i, 9)));
+    }
+    if kind == 10 {
+        return add_second(s, g, i, only(first(s, g, i, 10)));
+    }
+    IdSet::empty()
+}
+
+// Binds what the record at index i binds.
+pub fn bind(s: &[u8], g: Frame, i: usize, kind: u8, bound: IdSet) -> IdSet
+    requires { ⌜ At g (now s) i kind × (Scope bound × (length (setOf bound ++ binders (recordAt g (now s) i)) ≤ 64)) ⌝ }
+    ensures { λ r. ⌜ BoundBy r (setOf bound ++ binders (recordAt g (now (s .entry)) i)) ⌝ }
+{
+    if kind == 4 {
+        let x = first(s, g, i, 4);
+        return bound.add(x.id);
+    }
+    if kind == 6 {
+        let x = first(s, g, i, 6);
+        return bound.add(x.id);
+    }
+    if kind == 8 {
+        let x = first(s, g, i, 8);
+        return bound.add(x.id);
+    }
+    if kind == 9 {
+        let x = target(s, g, i);
+        return bound.add(x.id);
+    }
+    if kind == 1 {
+        return add_list(s, g, i, 1, bound);
+    }
+    if kind == 11 {
+        return add_list(s, g, i, 11, bound);
+    }
+    bound
+}

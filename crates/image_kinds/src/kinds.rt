@@ -1,0 +1,118 @@
+// What the kind of a record decides: its fixed part, and the bodies that follow.
+use image_fields::count;
+ghost use mathlib.Core.Path.{_≡_};
+ghost use Prim.Native.Nat.{_≤_, _<_};
+ghost use Rattle.image_spec.specs.Kinds.{fixed, bodies};
+ghost use Rattle.image_kinds.specs.Table.{IsKind};
+
+pub struct Kind {
+    // The bytes of the fixed part (what stands before a list, a mark or a count, the kind byte too) without its IDs, and its IDs.
+    pub plain: u8,
+    pub ids: u8,
+    // The statements that follow, clauses apart.
+    pub bodies: u8,
+}
+
+impl Kind {
+    pub const COUNT: u8 = 12;
+
+    // By the kind byte; 0 is no kind.
+    pub const TABLE: [Kind; 12] = [
+        // none
+        Kind {
+            plain: 0,
+            ids: 0,
+            bodies: 0,
+        },
+        // definition
+        Kind {
+            plain: 3,
+            ids: 1,
+            bodies: 1,
+        },
+        // Substitute
+        Kind {
+            plain: 1,
+            ids: 0,
+            bodies: 1,
+        },
+        // Call
+        Kind {
+            plain: 3,
+            ids: 1,
+            bodies: 0,
+        },
+        // Let
+        Kind {
+            plain: 8,
+            ids: 3,
+            bodies: 1,
+        },
+        // Switch
+        Kind {
+            plain: 6,
+            ids: 2,
+            bodies: 0,
+        },
+        // Create
+        Kind {
+            plain: 6,
+            ids: 2,
+            bodies: 1,
+        },
+        // Invoke
+        Kind {
+            plain: 8,
+            ids: 3,
+            bodies: 0,
+        },
+        // Literal
+        Kind {
+            plain: 11,
+            ids: 1,
+            bodies: 1,
+        },
+        // Op
+        Kind {
+            plain: 8,
+            ids: 3,
+            bodies: 1,
+        },
+        // IfC
+        Kind {
+            plain: 4,
+            ids: 1,
+            bodies: 2,
+        },
+        // clause
+        Kind {
+            plain: 3,
+            ids: 1,
+            bodies: 1,
+        },
+    ];
+
+    pub fn of(kind: u8) -> Kind
+        requires { ⌜ kind < 12 ⌝ }
+        ensures { λ r. ⌜ IsKind r kind ⌝ }
+    {
+        Kind::TABLE[count(kind)]
+    }
+
+    // The bytes of the fixed part, with IDs of w bytes.
+    pub fn fixed(kind: u8, w: usize) -> usize
+        requires { ⌜ (kind < 12) × (w ≤ 8) ⌝ }
+        ensures { λ r. ⌜ r ≡ «fixed» w kind ⌝ }
+    {
+        let row = Kind::of(kind);
+        count(row.plain) + count(row.ids) * w
+    }
+
+    pub fn bodies(kind: u8) -> usize
+        requires { ⌜ kind < 12 ⌝ }
+        ensures { λ r. ⌜ r ≡ «bodies» kind ⌝ }
+    {
+        let row = Kind::of(kind);
+        count(row.bodies)
+    }
+}

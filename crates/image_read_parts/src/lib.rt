@@ -1,0 +1,211 @@
+// Reads the parts of records: at a place of the bytes, and of the record at an index of an image that was opened.
+use image_directory::Frame;
+use image_directory::Slot;
+use image_directory::read_slot;
+use image_fields::count;
+use image_fields::number;
+use image_integers::from_bits;
+use image_kinds::kinds::Kind;
+use syntax::context::Chirality;
+use syntax::context::ContextBinding;
+use syntax::ifc::IfSort;
+use syntax::names::Identifier;
+use syntax::names::Name;
+use syntax::names::VarId;
+use syntax::op::BinOp;
+use syntax::types::Ty;
+ghost use mathlib.Core.Path.{_≡_};
+ghost use mathlib.Core.List.{_∷_, []};
+ghost use Prim.Native.Nat.{ℕ, _+_, _*_, _≤_, _<_, _^_};
+ghost use lib.ListN.{length, drop, getD};
+ghost use mir.Syntax.{w64};
+ghost use mir.Val.{SFits};
+ghost use Rattle.image_spec.specs.Fields.{chiralities, operators, sorts, integerBytes, identifierBytes, typeBytes, bindingBytes, IdentifierOk, TypeOk, BindingOk};
+ghost use Rattle.image_spec.specs.Records.{recordBytes, RecordOk};
+ghost use Rattle.image_directory.specs.Slots.{Ready, recordsIn};
+ghost use Rattle.syntax.specs.Context.{emptyBinding};
+ghost use Rattle.image_read_parts.specs.Parts.{varOf, HasVar, listOf, HasList};
+ghost use Rattle.image_read_parts.specs.Standing.{Stands, ReadsAs, IsCode, headOf, Room, RoomIn};
+
+fn half(n: u32) -> u16
+    requires { ⌜ n < 65536 ⌝ }
+    ensures { λ r. ⌜ r ≡ n ⌝ }
+{
+    n as u16
+}
+
+// An identifier whose ID has w bytes.
+pub fn identifier_at(s: &[u8], w: usize, at: usize) -> Identifier
+    requires { ⌜ Room w at (2 + w) (now s) ⌝ }
+    ensures { λ r. ⌜ ReadsAs (identifierBytes w) (IdentifierOk w) (now (s .entry)) at r ⌝ }
+{
+    let name = number(s, at, 2);
+    let id = number(s, at + 2, w);
+    Identifier {
+        name: Name(half(name)),
+        id: VarId(id),
+    }
+}
+
+pub fn type_at(s: &[u8], w: usize, at: usize) -> Ty
+    requires { ⌜ Room w at (3 + w) (now s) ⌝ }
+    ensures { λ r. ⌜ ReadsAs (typeBytes w) (TypeOk w) (now (s .entry)) at r ⌝ }
+{
+    if s[at] == 0 {
+        return Ty::I64;
+    }
+    let x = identifier_at(s, w, at + 1);
+    Ty::Decl(x)
+}
+
+pub fn chirality_of(b: u8) -> Chirality
+    ensures { λ r. ⌜ IsCode chiralities b r ⌝ }
+{
+    match b {
+        0 => Chirality::Prd,
+        1 => Chirality::Cns,
+        _ => Chirality::Ext,
+    }
+}
+
+pub fn operator_of(b: u8) -> BinOp
+    ensures { λ r. ⌜ IsCode operators b r ⌝ }
+{
+    match b {
+        0 => BinOp::Div,
+        1 => BinOp::Prod,
+        2 => BinOp::Rem,
+        3 => BinOp::Sum,
+        _ => BinOp::Sub,
+    }
+}
+
+pub fn sort_of(b: u8) -> IfSort
+    ensures { λ r. ⌜ IsCode sorts b r ⌝ }
+{
+    match b {
+        0 => IfSort::Equal,
+        1 => IfSort::NotEqual,
+        2 => IfSort::Less,
+        3 => IfSort::LessOrEqual,
+        4 => IfSort::Greater,
+        _ => IfSort::GreaterOrEqual,
+    }
+}
+
+pub fn binding_at(s: &[u8], w: usize, at: usize) -> ContextBinding
+    requires { ⌜ Room w at (6 + (w + w)) (now s) ⌝ }
+    ensures { λ r. ⌜ ReadsAs (bindingBytes w) (BindingOk w) (now (s .entry)) at r ⌝ }
+{
+    let var = identifier_at(s, w, at);
+    let chi = chirality_of(s[at + (2 + w)]);
+    let ty = type_at(s, w, at + (3 + w));
+    ContextBinding { var, chi, ty }
+}
+
+fn joined(low: u32, high: u32) -> u64
+    ensures { λ r. ⌜ r ≡ low + 256 ^ 4 * high ⌝ }
+{
+    low as u64 + 4294967296 * (high as u64)
+}
+
+// A signed number of eight bytes.
+pub fn integer_at(s: &[u8], at: usize) -> i64
+    requires { ⌜ at + 8 ≤ length (now s) ⌝ }
+    ensures { λ r. ⌜ ReadsAs integerBytes (SFits w64) (now (s .entry)) at r ⌝ }
+{
+    let low = number(s, at, 4);
+    let high = number(s, at + 4, 4);
+    from_bits(joined(low, high))
+}
+
+// Where the bytes of the record at index i begin.
+pub fn offset(s: &[u8], g: Frame, i: usize) -> usize
+    requires { ⌜ Ready g (now s) × (i < g .count) ⌝ }
+    ensures { λ r. ⌜ Stands (recordBytes (g .id)) (RecordOk (g .id)) (now (s .entry)) r (headOf (drop i (recordsIn g (now (s .entry))))) ⌝ }
+{
+    let place = g.place;
+    let from = g.from;
+    match read_slot(s, place, from + i * (place + place)) {
+        Slot::Here { offset, size: _ } => offset,
+        Slot::Short => 0,
+    }
+}
+
+// The byte at a place of the record at index i: a code, a mark or a count.
+pub fn byte(s: &[u8], g: Frame, i: usize, at: usize) -> u8
+    requires { ⌜ Ready g (now s) × ((i < g .count) × RoomIn g i at 1 (now s)) ⌝ }
+    ensures { λ r. ⌜ ReadsAs (λ (b : ℕ). b ∷ []) (λ _. Unit {0}) (recordBytes (g .id) (headOf (drop i (recordsIn g (now (s .entry)))))) at r ⌝ }
+{
+    let start = offset(s, g, i);
+    s[start + at]
+}
+
+// The identifier at a place of the record at index i.
+pub fn identifier(s: &[u8], g: Frame, i: usize, at: usize) -> Identifier
+    requires { ⌜ Ready g (now s) × ((i < g .count) × RoomIn g i at (2 + g .id) (now s)) ⌝ }
+    ensures { λ r. ⌜ ReadsAs (identifierBytes (g .id)) (IdentifierOk (g .id)) (recordBytes (g .id) (headOf (drop i (recordsIn g (now (s .entry)))))) at r ⌝ }
+{
+    let w = g.id;
+    let start = offset(s, g, i);
+    identifier_at(s, w, start + at)
+}
+
+// The type at a place of the record at index i.
+pub fn ty(s: &[u8], g: Frame, i: usize, at: usize) -> Ty
+    requires { ⌜ Ready g (now s) × ((i < g .count) × RoomIn g i at (3 + g .id) (now s)) ⌝ }
+    ensures { λ r. ⌜ ReadsAs (typeBytes (g .id)) (TypeOk (g .id)) (recordBytes (g .id) (headOf (drop i (recordsIn g (now (s .entry)))))) at r ⌝ }
+{
+    let w = g.id;
+    let start = offset(s, g, i);
+    type_at(s, w, start + at)
+}
+
+// The binding at a place of the record at index i.
+pub fn binding(s: &[u8], g: Frame, i: usize, at: usize) -> ContextBinding
+    requires { ⌜ Ready g (now s) × ((i < g .count) × RoomIn g i at (6 + (g .id + g .id)) (now s)) ⌝ }
+    ensures { λ r. ⌜ ReadsAs (bindingBytes (g .id)) (BindingOk (g .id)) (recordBytes (g .id) (headOf (drop i (recordsIn g (now (s .entry)))))) at r ⌝ }
+{
+    let w = g.id;
+    let start = offset(s, g, i);
+    binding_at(s, w, start + at)
+}
+
+// The var of the record at index i, which is that of a Let, Switch, Create, Invoke, Literal or Op.
+pub fn var(s: &[u8], g: Frame, i: usize) -> Identifier
+    requires { ⌜ Ready g (now s) × ((i < g .count) × HasVar (headOf (drop i (recordsIn g (now s))))) ⌝ }
+    ensures { λ r. ⌜ r ≡ varOf (headOf (drop i (recordsIn g (now (s .entry))))) ⌝ }
+{
+    let w = g.id;
+    let start = offset(s, g, i);
+    let kind = s[start];
+    if kind == 8 {
+        return identifier_at(s, w, start + 9);
+    }
+    if kind == 9 {
+        return identifier_at(s, w, start + (6 + (w + w)));
+    }
+    identifier_at(s, w, start + 1)
+}
+
+// How many bindings the list of the record at index i has, which is a definition, Call, Let, Invoke or clause.
+pub fn list_count(s: &[u8], g: Frame, i: usize) -> usize
+    requires { ⌜ Ready g (now s) × ((i < g .count) × HasList (headOf (drop i (recordsIn g (now s))))) ⌝ }
+    ensures { λ r. ⌜ r ≡ length (listOf (headOf (drop i (recordsIn g (now (s .entry)))))) ⌝ }
+{
+    let w = g.id;
+    let start = offset(s, g, i);
+    let at = Kind::fixed(s[start], w);
+    count(s[start + at])
+}
+
+// The binding at place j of that list.
+pub fn list_binding(s: &[u8], g: Frame, i: usize, j: usize) -> ContextBinding
+    requires { ⌜ Ready g (now s) × ((i < g .count) × (HasList (headOf (drop i (recordsIn g (now s)))) × (j < length (listOf (headOf (drop i (recordsIn g (now s)))))))) ⌝ }
+    ensures { λ r. ⌜ r ≡ getD (listOf (headOf (drop i (recordsIn g (now (s .entry)))))) j emptyBinding ⌝ }
+{
+    let w = g.id;
+    let start = offset(s, g, i);
+    let at = Kind::fixed(s[start], w);
+    binding_at(s, w, start + (at + (1 + j * (6 + (w + w)))))
+}

@@ -1,0 +1,208 @@
+// Question 5: the walk over an image's records, in pre-order, with a bound on the depth.
+use image_directory::Frame;
+use image_directory::Slot;
+use image_directory::read_slot;
+use image_fields::Found;
+use image_fields::count;
+use image_kinds::kinds::Kind;
+use image_spec::Layout;
+ghost use mathlib.Core.Path.{_≡_};
+ghost use Prim.Native.Nat.{_+_, _<_};
+ghost use lib.ListN.{length, drop};
+ghost use Rattle.image_spec.specs.Parse.{times};
+ghost use Rattle.image_spec.specs.Shape.{stmt, clauses, clauseHead, definitionHead, definitions};
+ghost use Rattle.image_spec.specs.Image.{isSome};
+ghost use Rattle.image_fields.specs.Found.{stop, Within};
+ghost use Rattle.image_directory.specs.Slots.{Ready, recordsIn};
+ghost use Rattle.image_shape.specs.Nodes.{nodeOf, partsAt};
+
+// A record as the walk sees it.
+pub enum Node {
+    Is { kind: u8, clauses: u8 },
+    End,
+}
+
+// The record at place i.
+pub fn look(s: &[u8], g: Frame, i: usize) -> Node
+    requires { ⌜ Ready g (now s) ⌝ }
+    ensures { λ r. ⌜ r ≡ nodeOf (drop i (recordsIn g (now (s .entry)))) ⌝ }
+{
+    let count = g.count;
+    if count <= i {
+        return Node::End;
+    }
+    let place = g.place;
+    let from = g.from;
+    match read_slot(s, place, from + i * (place + place)) {
+        Slot::Here { offset, size } => {
+            let kind = s[offset];
+            if kind == 5 {
+                return Node::Is {
+                    kind: kind,
+                    clauses: s[offset + size - 1],
+                };
+            }
+            if kind == 6 {
+                return Node::Is {
+                    kind: kind,
+                    clauses: s[offset + size - 1],
+                };
+            }
+            Node::Is {
+                kind: kind,
+                clauses: 0,
+            }
+        }
+        Slot::Short => Node::End,
+    }
+}
+
+// Past the record of a clause.
+fn clause_head(s: &[u8], g: Frame, f: Found) -> Found
+    requires { ⌜ Ready g (now s) ⌝ }
+    ensures { λ r. ⌜ r ≡ stop clauseHead (recordsIn g (now (s .entry))) f ⌝ }
+{
+    match f {
+        Found::At(i) => match look(s, g, i) {
+            Node::Is { kind, clauses: _ } => {
+                if kind == 11 {
+                    return Found::At(i + 1);
+                }
+                Found::Nothing
+            }
+            Node::End => Found::Nothing,
+        },
+        Found::Nothing => Found::Nothing,
+    }
+}
+
+// Past the record of a definition.
+fn definition_head(s: &[u8], g: Frame, f: Found) -> Found
+    requires { ⌜ Ready g (now s) ⌝ }
+    ensures { λ r. ⌜ r ≡ stop definitionHead (recordsIn g (now (s .entry))) f ⌝ }
+{
+    match f {
+        Found::At(i) => match look(s, g, i) {
+            Node::Is { kind, clauses: _ } => {
+                if kind == 1 {
+                    return Found::At(i + 1);
+                }
+                Found::Nothing
+            }
+            Node::End => Found::Nothing,
+        },
+        Found::Nothing => Found::Nothing,
+    }
+}
+
+// What follows the record of a statement: clauses, then bodies, from place `next` on.
+pub enum Parts {
+    Follow {
+        clauses: usize,
+        bodies: usize,
+        next: usize,
+    },
+    Missing,
+}
+
+fn statement_parts(s: &[u8], g: Frame, f: Found) -> Parts
+    requires { ⌜ Ready g (now s) ⌝ }
+    ensures { λ r. ⌜ r ≡ partsAt (recordsIn g (now (s .entry))) f ⌝ }
+{
+    match f {
+        Found::At(i) => match look(s, g, i) {
+            Node::Is { kind, clauses } => {
+                if kind == 1 {
+                    return Parts::Missing;
+                }
+                if kind == 11 {
+                    return Parts::Missing;
+                }
+                Parts::Follow {
+                    clauses: count(clauses),
+                    bodies: Kind::bodies(kind),
+                    next: i + 1,
+                }
+            }
+            Node::End => Parts::Missing,
+        },
+        Found::Nothing => Parts::Missing,
+    }
+}
+
+// Past a statement of depth at most `depth`.
+pub fn statement(s: &[u8], g: Frame, depth: usize, f: Found) -> Found
+    requires { ⌜ Ready g (now s) ⌝ }
+    ensures { λ r. ⌜ r ≡ stop (stmt depth) (recordsIn g (now (s .entry))) f ⌝ }
+{
+    if depth == 0 {
+        return Found::Nothing;
+    }
+    match statement_parts(s, g, f) {
+        Parts::Follow {
+            clauses,
+            bodies,
+            next,
+        } => {
+            skip_bodies(
+                s,
+                g,
+                depth - 1,
+                bodies,
+                skip_clauses(s, g, depth - 1, clauses, Found::At(next)),
+            )
+        }
+        Parts::Missing => Found::Nothing,
+    }
+}
+
+// Past n statements, of depth at most `depth` each.
+fn skip_bodies(s: &[u8], g: Frame, depth: usize, n: usize, f: Found) -> Found
+    requires { ⌜ Ready g (now s) × Within (length (recordsIn g (now s))) f ⌝ }
+    ensures { λ r. ⌜ r ≡ stop (times n (stmt depth)) (recordsIn g (now (s .entry))) f ⌝ }
+{
+    let mut here = f;
+    let mut left = n;
+    while 0 < left {
+        here = statement(s, g, depth, here);
+        left = left - 1;
+    }
+    here
+}
+
+// Past n clauses, with bodies of depth at most `depth` each.
+fn skip_clauses(s: &[u8], g: Frame, depth: usize, n: usize, f: Found) -> Found
+    requires { ⌜ Ready g (now s) × Within (length (recordsIn g (now s))) f ⌝ }
+    ensures { λ r. ⌜ r ≡ stop (clauses (stmt depth) n) (recordsIn g (now (s .entry))) f ⌝ }
+{
+    let mut here = f;
+    let mut left = n;
+    while 0 < left {
+        here = statement(s, g, depth, clause_head(s, g, here));
+        left = left - 1;
+    }
+    here
+}
+
+// Question 5: are the records of the image d definitions, and nothing more?
+pub fn shaped(s: &[u8], g: Frame, d: usize) -> bool
+    requires { ⌜ Ready g (now s) ⌝ }
+    ensures { λ r. ⌜ r ≡ isSome (definitions d (recordsIn g (now (s .entry)))) ⌝ }
+{
+    let mut here = Found::At(0);
+    let mut left = d;
+    while 0 < left {
+        here = statement(s, g, Layout::MAX_DEPTH, definition_head(s, g, here));
+        left = left - 1;
+    }
+    let count = g.count;
+    match here {
+        Found::At(e) => {
+            if e == count {
+                return true;
+            }
+            false
+        }
+        Found::Nothing => false,
+    }
+}

@@ -1,0 +1,34 @@
+// How far the output has come.
+ghost use Prim.Native.Nat.{_+_, _≤_, _<_, _^_};
+ghost use Rattle.image_write_directory.specs.Emitting.{Noted};
+
+// The place of the next byte, the records so far, and the max_id.
+pub struct Progress {
+    pub at: usize,
+    pub count: usize,
+    pub max_id: u32,
+}
+
+// A record was written up to `next`: its length is noted.
+pub fn note(lengths: &mut [usize], p: Progress, next: usize) -> Progress
+    requires { ⌜ (p .at ≤ next) × (p .count + 1 < 2 ^ 64) ⌝ }
+    ensures { λ r. ⌜ Noted r p next (now (lengths .entry)) (now (lengths .exit)) ⌝ }
+{
+    let count = p.count;
+    let max_id = p.max_id;
+    let length = next - p.at;
+    let next_count = count + 1;
+    if count < lengths.len() {
+        lengths[count] = length;
+        return Progress {
+            at: next,
+            count: next_count,
+            max_id,
+        };
+    }
+    Progress {
+        at: next,
+        count: next_count,
+        max_id,
+    }
+}

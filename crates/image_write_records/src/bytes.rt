@@ -1,0 +1,51 @@
+// Bytes as they are: copied from a lent image, and moved within the buffer.
+use image_write_parts::put_byte;
+ghost use mathlib.Core.Path.{_≡_};
+ghost use Prim.Native.Nat.{_+_, _≤_, _<_, _^_};
+ghost use lib.ListN.{length, take, drop};
+ghost use lib.Seq.{sets};
+ghost use Rattle.image_write_parts.specs.Puts.{Puts};
+
+// The n bytes of s that begin at `from`.
+pub fn copy(s: &[u8], from: usize, n: usize, out: &mut [u8], at: usize) -> usize
+    requires { ⌜ (from + n ≤ length (now s)) × (at + n < 2 ^ 64) ⌝ }
+    ensures { λ r. ⌜ Puts (now (out .entry)) (now (out .exit)) at r (take n (drop from (now (s .entry)))) ⌝ }
+{
+    if at + n <= out.len() {
+        return copy_inside(s, from, n, out, at);
+    }
+    let mut here = at;
+    let mut i = 0;
+    while i < n {
+        here = put_byte(out, here, s[from + i]);
+        i += 1;
+    }
+    here
+}
+
+// The same where the buffer has room for all of them.
+fn copy_inside(s: &[u8], from: usize, n: usize, out: &mut [u8], at: usize) -> usize
+    requires { ⌜ (from + n ≤ length (now s)) × (at + n ≤ length (now out)) ⌝ }
+    ensures { λ r. ⌜ Puts (now (out .entry)) (now (out .exit)) at r (take n (drop from (now (s .entry)))) ⌝ }
+{
+    let mut i = 0;
+    while i < n {
+        out[at + i] = s[from + i];
+        i += 1;
+    }
+    at + n
+}
+
+// Moves the n bytes that begin at `from` up by `by` places, from the last to the first.
+pub fn move_up(out: &mut [u8], from: usize, n: usize, by: usize)
+    requires { ⌜ from + by + n ≤ length (now out) ⌝ }
+    ensures { λ _. ⌜ now (out .exit) ≡ sets (now (out .entry)) (from + by) (take n (drop from (now (out .entry)))) ⌝ }
+{
+    let mut i = 0;
+    while i < n {
+        i += 1;
+        let k = n - i;
+        let b = out[from + k];
+        out[from + by + k] = b;
+    }
+}

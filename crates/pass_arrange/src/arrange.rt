@@ -1,0 +1,197 @@
+// A Substitute, where the context differs from the wanted list.
+use image_write_directory::progress::Progress;
+use image_write_directory::progress::note;
+use image_write_records::lists::put_pair;
+use image_write_records::lists::put_substitute;
+use pass_context::Held;
+use syntax::context::ContextBinding;
+use syntax::context::TypingContext;
+use syntax_substitution::FlatPair;
+use syntax_substitution::Pair;
+use syntax_substitution::Substitution;
+ghost use Prim.Native.Nat.{_≤_};
+ghost use mathlib.Core.List.{[], _∷_, _++_};
+ghost use Rattle.pass_work_spec.specs.Work.{bindings};
+ghost use Rattle.pass_context.specs.Holding.{workOf};
+ghost use Rattle.syntax.specs.Arrays.{contextOf};
+ghost use Rattle.pass_step_spec.specs.Steps.{arranged};
+ghost use Rattle.pass_arrange.specs.Stepping.{RoomAt, Paired, Workable, Arranges};
+
+// What is kept stays under its names.
+pub fn arrange_kept(
+    right: bool,
+    kept: Held,
+    w: usize,
+    out: &mut [u8],
+    lengths: &mut [usize],
+    p: Progress,
+) -> Progress
+    requires { ⌜ Workable kept 0 0 × ((w ≤ 8) × RoomAt p) ⌝ }
+    ensures { λ r. ⌜ Arranges w (now (out .entry)) (now (out .exit)) (now (lengths .entry)) (now (lengths .exit)) p r (arranged right (bindings (workOf kept)) (bindings (workOf kept))) ⌝ }
+{
+    if right {
+        return p;
+    }
+    let none = TypingContext::empty();
+    arrange_behind(right, kept, none, none, w, out, lengths, p)
+}
+
+// The context becomes the targets.
+pub fn arrange_args(
+    right: bool,
+    targets: TypingContext,
+    wanted: TypingContext,
+    w: usize,
+    out: &mut [u8],
+    lengths: &mut [usize],
+    p: Progress,
+) -> Progress
+    requires { ⌜ Paired targets wanted × ((w ≤ 8) × RoomAt p) ⌝ }
+    ensures { λ r. ⌜ Arranges w (now (out .entry)) (now (out .exit)) (now (lengths .entry)) (now (lengths .exit)) p r (arranged right (contextOf targets) (contextOf wanted)) ⌝ }
+{
+    if right {
+        return p;
+    }
+    let none = Held::empty();
+    arrange_before(right, targets, wanted, none, w, out, lengths, p)
+}
+
+// The targets, and behind them the closure under its name.
+pub fn arrange_closure(
+    right: bool,
+    targets: TypingContext,
+    wanted: TypingContext,
+    closure: ContextBinding,
+    w: usize,
+    out: &mut [u8],
+    lengths: &mut [usize],
+    p: Progress,
+) -> Progress
+    requires { ⌜ Paired targets wanted × ((w ≤ 8) × RoomAt p) ⌝ }
+    ensures { λ r. ⌜ Arranges w (now (out .entry)) (now (out .exit)) (now (lengths .entry)) (now (lengths .exit)) p r (arranged right (contextOf targets ++ (closure ∷ [])) (contextOf wanted ++ (closure ∷ []))) ⌝ }
+{
+    if right {
+        return p;
+    }
+    let last = Held::empty().own(0, closure);
+    arrange_before(right, targets, wanted, last, w, out, lengths, p)
+}
+
+// What is kept, and behind it one more.
+pub fn arrange_one(
+    right: bool,
+    kept: Held,
+    target: ContextBinding,
+    wanted: ContextBinding,
+    w: usize,
+    out: &mut [u8],
+    lengths: &mut [usize],
+    p: Progress,
+) -> Progress
+    requires { ⌜ Workable kept 0 0 × ((w ≤ 8) × RoomAt p) ⌝ }
+    ensures { λ r. ⌜ Arranges w (now (out .entry)) (now (out .exit)) (now (lengths .entry)) (now (lengths .exit)) p r (arranged right (bindings (workOf kept) ++ (target ∷ [])) (bindings (workOf kept) ++ (wanted ∷ []))) ⌝ }
+{
+    if right {
+        return p;
+    }
+    let targets = TypingContext::empty().push(target);
+    let sources = TypingContext::empty().push(wanted);
+    arrange_behind(right, kept, targets, sources, w, out, lengths, p)
+}
+
+// What is kept, and behind it the targets. The pairs are built and then written in one function, here and below: given to another they would be
+// copied.
+pub fn arrange_behind(
+    right: bool,
+    kept: Held,
+    targets: TypingContext,
+    wanted: TypingContext,
+    w: usize,
+    out: &mut [u8],
+    lengths: &mut [usize],
+    p: Progress,
+) -> Progress
+    requires { ⌜ Workable kept 0 0 × (Paired targets wanted × ((w ≤ 8) × RoomAt p)) ⌝ }
+    ensures { λ r. ⌜ Arranges w (now (out .entry)) (now (out .exit)) (now (lengths .entry)) (now (lengths .exit)) p r (arranged right (bindings (workOf kept) ++ contextOf targets) (bindings (workOf kept) ++ contextOf wanted)) ⌝ }
+{
+    if right {
+        return p;
+    }
+    let k = kept.len;
+    let n = k + targets.len;
+    let none = Pair::empty().flat();
+    let mut all = Substitution {
+        pairs: [none; Substitution::MAX],
+        len: n,
+    };
+    let mut i = 0;
+    while i < n {
+        if i < k {
+            let e = kept.entries[i];
+            let b = e.flat_binding();
+            all.pairs[i] = FlatPair::of(b, b);
+            i += 1;
+        } else {
+            let target = targets.bindings[i - k];
+            let b = wanted.bindings[i - k];
+            all.pairs[i] = FlatPair::of(target, b);
+            i += 1;
+        }
+    }
+    let mut here = put_substitute(out, p.at, n);
+    let mut j = 0;
+    while j < n {
+        let pair = all.pairs[j];
+        here = put_pair(out, here, w, pair);
+        j += 1;
+    }
+    note(lengths, p, here)
+}
+
+// The targets, and behind them what is kept.
+pub fn arrange_before(
+    right: bool,
+    targets: TypingContext,
+    wanted: TypingContext,
+    kept: Held,
+    w: usize,
+    out: &mut [u8],
+    lengths: &mut [usize],
+    p: Progress,
+) -> Progress
+    requires { ⌜ Paired targets wanted × (Workable kept 0 0 × ((w ≤ 8) × RoomAt p)) ⌝ }
+    ensures { λ r. ⌜ Arranges w (now (out .entry)) (now (out .exit)) (now (lengths .entry)) (now (lengths .exit)) p r (arranged right (contextOf targets ++ bindings (workOf kept)) (contextOf wanted ++ bindings (workOf kept))) ⌝ }
+{
+    if right {
+        return p;
+    }
+    let k = targets.len;
+    let n = k + kept.len;
+    let none = Pair::empty().flat();
+    let mut all = Substitution {
+        pairs: [none; Substitution::MAX],
+        len: n,
+    };
+    let mut i = 0;
+    while i < n {
+        if i < k {
+            let target = targets.bindings[i];
+            let b = wanted.bindings[i];
+            all.pairs[i] = FlatPair::of(target, b);
+            i += 1;
+        } else {
+            let e = kept.entries[i - k];
+            let b = e.flat_binding();
+            all.pairs[i] = FlatPair::of(b, b);
+            i += 1;
+        }
+    }
+    let mut here = put_substitute(out, p.at, n);
+    let mut j = 0;
+    while j < n {
+        let pair = all.pairs[j];
+        here = put_pair(out, here, w, pair);
+        j += 1;
+    }
+    note(lengths, p, here)
+}

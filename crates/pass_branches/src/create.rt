@@ -1,0 +1,123 @@
+// create.rs
+use image_directory::Frame;
+use image_kinds::kinds::Kind;
+use image_read_records::create;
+use image_write_directory::progress::Progress;
+use image_write_directory::progress::note;
+use image_write_records::records::put_create;
+use pass_arrange::arrange::arrange_before;
+use pass_arrange::fresh::freshen_unless;
+use pass_arrange::fresh::with_max_id;
+use pass_arrange::reserve::reserve;
+use pass_arrange::stepped::Opened;
+use pass_arrange::stepped::Stepped;
+use pass_context::Held;
+use syntax::context::Chirality;
+use syntax::context::ContextBinding;
+use syntax::context::TypingContext;
+ghost use Prim.Native.Nat.{_≤_};
+ghost use mathlib.Core.Path.{_≡_};
+ghost use lib.ListN.{length};
+ghost use Rattle.syntax.specs.Arrays.{contextOf};
+ghost use Rattle.scope_check.specs.Nodes.{recordAt};
+ghost use Rattle.pass_work_spec.specs.Work.{movedBehind, respelledUnless};
+ghost use Rattle.pass_context.specs.Holding.{workOf, HoldsWork};
+ghost use Rattle.pass_context.specs.Masks.{keptByMask};
+ghost use Rattle.pass_arrange.specs.Stepping.{RoomAt, SourceAt, Workable, OpensAs, OpenedAs, StepsAs};
+
+// The environment: what the clauses need, from the context with the first bindings, as many as the next context has, moved behind the rest.
+fn environment(context: Held, next: usize, free_vars_clauses: u64) -> Held
+    requires { ⌜ (context .len ≤ 64) × (next ≤ context .len) ⌝ }
+    ensures { λ r. ⌜ HoldsWork r (keptByMask «free_vars_clauses» (movedBehind next (workOf context))) ⌝ }
+{
+    let moved = context.move_behind(next);
+    moved.filter(free_vars_clauses)
+}
+
+// The clauses have the environment.
+pub fn open(
+    s: &[u8],
+    g: Frame,
+    i: usize,
+    free_vars_clauses: u64,
+    free_vars_next: u64,
+    context: Held,
+    p: Progress,
+) -> Opened
+    requires { ⌜ SourceAt g (now s) i 6 × (Workable context 0 0 × RoomAt p) ⌝ }
+    ensures { λ r. ⌜ OpensAs (g .id) (recordAt g (now (s .entry)) i) «free_vars_clauses» «free_vars_next» (workOf context) p r ⌝ }
+{
+    let context_next = context.filter(free_vars_next);
+    let closure_environment = environment(context, context_next.len, free_vars_clauses);
+    let kept = context_next.len + closure_environment.len;
+    let right = if context.len == kept {
+        context.same(context_next.context(), closure_environment.context())
+    } else {
+        false
+    };
+    let w = g.id;
+    let own = Kind::fixed(6, w) + (3 + closure_environment.len * (6 + (w + w)));
+    let progress = reserve(right, kept, own, w, p);
+    Opened {
+        context: closure_environment,
+        right,
+        progress,
+    }
+}
+
+// The context of the next, under its fresh names where a Substitute is inserted: from there on uses take them.
+fn renamed(right: bool, context_next: Held, names: TypingContext) -> Held
+    requires { ⌜ («context_next» .len ≡ length (workOf «context_next»)) × ((«context_next» .len ≤ 64) × (names .len ≡ «context_next» .len)) ⌝ }
+    ensures { λ r. ⌜ HoldsWork r (respelledUnless right (workOf «context_next») (contextOf names)) ⌝ }
+{
+    if right {
+        return context_next;
+    }
+    context_next.respelled(names)
+}
+
+// The clauses are done: a Substitute where the context is not right, and the Create with its environment.
+pub fn linearize(
+    s: &[u8],
+    g: Frame,
+    i: usize,
+    free_vars_clauses: u64,
+    free_vars_next: u64,
+    context: Held,
+    in_scope: u8,
+    opened: Opened,
+    out: &mut [u8],
+    lengths: &mut [usize],
+    p: Progress,
+) -> Stepped
+    requires { ⌜ SourceAt g (now s) i 6 × (Workable context «in_scope» 1 × (OpenedAs (recordAt g (now s) i) «free_vars_clauses» «free_vars_next» (workOf context) opened × RoomAt p)) ⌝ }
+    ensures { λ r. ⌜ StepsAs (g .id) (recordAt g (now (s .entry)) i) «free_vars_clauses» «free_vars_next» (workOf context) «in_scope» (now (out .entry)) (now (out .exit)) (now (lengths .entry)) (now (lengths .exit)) p r ⌝ }
+{
+    let statement = create(s, g, i);
+    let captured = opened.context;
+    let right = opened.right;
+    let context_next = context.filter(free_vars_next);
+    let next = context_next.context();
+    let freshened = freshen_unless(right, next, captured.ids(), p.max_id);
+    let fresh = freshened.context;
+    let q = arrange_before(right, fresh, next, captured, g.id, out, lengths, p);
+    let var = statement.var;
+    let ty = statement.ty;
+    let place = put_create(
+        out,
+        q.at,
+        g.id,
+        var,
+        ty,
+        captured.context(),
+        statement.clauses,
+    );
+    let noted = note(lengths, q, place);
+    let chi = Chirality::Cns;
+    let binding = ContextBinding { var, chi, ty };
+    Stepped {
+        context: renamed(right, context_next, fresh).own(in_scope, binding),
+        in_scope: in_scope + 1,
+        progress: with_max_id(noted, freshened.max_id),
+    }
+}

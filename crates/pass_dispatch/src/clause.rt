@@ -1,0 +1,50 @@
+// clause.rs and def.rs: what stands before a body, a clause's or a definition's.
+use image_directory::Frame;
+use image_read_records::named;
+use image_write_directory::progress::Progress;
+use image_write_directory::progress::note;
+use image_write_records::records::put_headed;
+use pass_arrange::stepped::Stepped;
+use pass_context::Held;
+ghost use lib.ListN.{length};
+ghost use Rattle.image_read_parts.specs.Parts.{listOf};
+ghost use Rattle.scope_check.specs.Nodes.{recordAt};
+ghost use Rattle.pass_context.specs.Holding.{workOf};
+ghost use Rattle.pass_arrange.specs.Stepping.{RoomAt, SourceAt, Workable, Steps};
+ghost use Rattle.pass_dispatch.specs.Entering.{Enters, entering};
+
+// A clause or a definition is written as it is, and its parameters join the context: those of a Create's clauses come before it,
+// all others behind it.
+pub fn enter(
+    s: &[u8],
+    g: Frame,
+    i: usize,
+    kind: u8,
+    before: bool,
+    context: Held,
+    in_scope: u8,
+    out: &mut [u8],
+    lengths: &mut [usize],
+    p: Progress,
+) -> Stepped
+    requires { ⌜ SourceAt g (now s) i kind × (Enters kind × (Workable context «in_scope» (length (listOf (recordAt g (now s) i))) × RoomAt p)) ⌝ }
+    ensures { λ r. ⌜ Steps (g .id) (now (out .entry)) (now (out .exit)) (now (lengths .entry)) (now (lengths .exit)) p r (entering (recordAt g (now (s .entry)) i) before (workOf context) «in_scope» (p .«max_id»)) ⌝ }
+{
+    let record = named(s, g, i);
+    let params = record.list;
+    let next = put_headed(out, p.at, g.id, kind, record.name, params);
+    let progress = note(lengths, p, next);
+    let in_body = in_scope + (params.len as u8);
+    if before {
+        return Stepped {
+            context: context.under(in_scope, params),
+            in_scope: in_body,
+            progress,
+        };
+    }
+    Stepped {
+        context: context.owns(in_scope, params),
+        in_scope: in_body,
+        progress,
+    }
+}

@@ -1,0 +1,105 @@
+// program.rs: linearization of a whole image (questions 1 to 12).
+use image_directory::Frame;
+use image_open::Opened;
+use image_open::open;
+use image_spec::Answer;
+use image_spec::Layout;
+use image_write_directory::progress::Progress;
+use pass_finish::finish;
+use pass_walk::def::definitions;
+use scope_check::check::check_image;
+ghost use Prim.Native.Nat.{_*_, _≤_};
+ghost use lib.ListN.{length};
+ghost use Rattle.model.specs.Pass.{linearize};
+ghost use Rattle.image_directory.specs.Slots.{recordsIn};
+ghost use Rattle.image_open.specs.Opening.{Known};
+ghost use Rattle.image_places_spec.specs.Places.{Begins};
+ghost use Rattle.scope_spec.specs.FreeRows.{rowsDefs};
+ghost use Rattle.scope_spec.specs.Calls.{Replies};
+ghost use Rattle.scope_check.specs.Definitions.{defsIn};
+ghost use Rattle.scope_check.specs.Deciding.{programIn};
+ghost use Rattle.pass_answer_spec.specs.Calls.{linearizing, linearizeOf};
+ghost use Rattle.pass_finish.specs.Finishing.{closing};
+ghost use Rattle.pass_program.specs.Programs.{Read, Checked};
+
+// How many records a small image has at the most. What is worked with is cleared in each call, so a small image gets less of it.
+const FEW: usize = 64;
+
+// Questions 11 and 12, of an image that has passed 1 to 10. The records are written behind the place of a directory for as many records as the
+// source has; there may be up to twice as many. `rows` has two masks of each record of the source, `lengths` has room for the length of each that
+// is written.
+fn linearize_program(
+    s: &[u8],
+    l: Layout,
+    g: Frame,
+    d: usize,
+    max_id: u32,
+    rows: &[u64],
+    lengths: &mut [usize],
+    out: &mut [u8],
+) -> Answer
+    requires { ⌜ Checked l g (now s) d «max_id» × (Begins (now rows) 0 (rowsDefs (defsIn d (recordsIn g (now s)))) × (2 * g .count ≤ length (now lengths))) ⌝ }
+    ensures { λ r. ⌜ Replies (closing l (linearize (programIn d (recordsIn g (now (s .entry))) «max_id»)) (length (now (out .entry)))) r (now (out .entry)) (now (out .exit)) ⌝ }
+{
+    let start = g.start;
+    let p = Progress {
+        at: start,
+        count: 0,
+        max_id,
+    };
+    let q = definitions(s, g, rows, d, out, lengths, p);
+    finish(out, lengths, l, d, start, q)
+}
+
+// Questions 6 to 12, with what is worked with: room in `rows` and `lengths` for two of each record, if there are not more than question 7 allows.
+fn linearize_lent(
+    s: &[u8],
+    l: Layout,
+    g: Frame,
+    d: usize,
+    max_id: u32,
+    rows: &mut [u64],
+    lengths: &mut [usize],
+    out: &mut [u8],
+) -> Answer
+    requires { ⌜ Read l g (now s) d «max_id» × (g .count ≤ 2000 → (2 * g .count ≤ length (now rows)) × (2 * g .count ≤ length (now lengths))) ⌝ }
+    ensures { λ r. ⌜ Replies (linearizing l (programIn d (recordsIn g (now (s .entry))) «max_id») (length (now (out .entry)))) r (now (out .entry)) (now (out .exit)) ⌝ }
+{
+    match check_image(s, g, d, max_id, rows) {
+        Answer::Accepted {
+            length: _,
+            max_id: _,
+        } => linearize_program(s, l, g, d, max_id, rows, lengths, out),
+        Answer::Refused(question) => Answer::Refused(question),
+    }
+}
+
+// Questions 6 to 12.
+fn linearize_image(s: &[u8], l: Layout, g: Frame, d: usize, max_id: u32, out: &mut [u8]) -> Answer
+    requires { ⌜ Read l g (now s) d «max_id» ⌝ }
+    ensures { λ r. ⌜ Replies (linearizing l (programIn d (recordsIn g (now (s .entry))) «max_id») (length (now (out .entry)))) r (now (out .entry)) (now (out .exit)) ⌝ }
+{
+    if g.count <= FEW {
+        let mut rows = [0u64; 128];
+        let mut lengths = [0usize; 128];
+        return linearize_lent(s, l, g, d, max_id, &mut rows, &mut lengths, out);
+    }
+    let mut rows = [0u64; 4000];
+    let mut lengths = [0usize; 4000];
+    linearize_lent(s, l, g, d, max_id, &mut rows, &mut lengths, out)
+}
+
+// Linearizes an image of a layout whose IDs have at most two bytes.
+pub fn linearize(s: &[u8], l: Layout, out: &mut [u8]) -> Answer
+    requires { ⌜ Known l × (l .id ≤ 2) ⌝ }
+    ensures { λ r. ⌜ Replies (linearizeOf l (now (s .entry)) (length (now (out .entry)))) r (now (out .entry)) (now (out .exit)) ⌝ }
+{
+    match open(s, l) {
+        Opened::Image {
+            frame,
+            definitions: d,
+            max_id,
+        } => linearize_image(s, l, frame, d, max_id, out),
+        Opened::Closed(question) => Answer::Refused(question),
+    }
+}

@@ -1,0 +1,67 @@
+// ifc.rs
+use image_directory::Frame;
+use image_read_records::Second;
+use image_read_records::ifc;
+use image_write_directory::progress::Progress;
+use image_write_directory::progress::note;
+use image_write_records::records::put_ifc;
+use pass_context::Held;
+use syntax::names::Identifier;
+use syntax::names::Name;
+use syntax::names::VarId;
+ghost use Prim.Native.Nat.{_≤_};
+ghost use mathlib.Core.Path.{_≡_};
+ghost use Rattle.scope_check.specs.Nodes.{recordAt};
+ghost use Rattle.image_read_records.specs.Unpacked.{secondIs};
+ghost use Rattle.image_write_records.specs.Marks.{ifMarked};
+ghost use Rattle.pass_work_spec.specs.Work.{usedOption};
+ghost use Rattle.pass_context.specs.Holding.{workOf};
+ghost use Rattle.pass_arrange.specs.Stepping.{RoomAt, SourceAt, Workable, LeavesAs};
+
+// The second operand as it is written. It counts only if it is marked.
+pub struct Operand {
+    pub marked: bool,
+    pub var: Identifier,
+}
+
+fn second(context: Held, snd: Second) -> Operand
+    requires { ⌜ context .len ≤ 64 ⌝ }
+    ensures { λ r. ⌜ ifMarked (r .marked) (r .var) ≡ usedOption (workOf context) (secondIs snd) ⌝ }
+{
+    match snd {
+        Second::None => Operand {
+            marked: false,
+            var: Identifier {
+                name: Name(0),
+                id: VarId(0),
+            },
+        },
+        Second::Some(x) => Operand {
+            marked: true,
+            var: context.used(x),
+        },
+    }
+}
+
+// An IfC inserts no Substitute: it binds nothing, and each branch has its own.
+pub fn linearize(
+    s: &[u8],
+    g: Frame,
+    i: usize,
+    context: Held,
+    in_scope: u8,
+    out: &mut [u8],
+    lengths: &mut [usize],
+    p: Progress,
+) -> Progress
+    requires { ⌜ SourceAt g (now s) i 10 × (Workable context «in_scope» 0 × RoomAt p) ⌝ }
+    ensures { λ r. ⌜ LeavesAs (g .id) (recordAt g (now (s .entry)) i) 0 0 (workOf context) «in_scope» (now (out .entry)) (now (out .exit)) (now (lengths .entry)) (now (lengths .exit)) p r ⌝ }
+{
+    let statement = ifc(s, g, i);
+    let fst = context.used(statement.fst);
+    let operand = statement.snd;
+    let snd = second(context, operand);
+    let sort = statement.sort;
+    let next = put_ifc(out, p.at, g.id, sort, fst, snd.marked, snd.var);
+    note(lengths, p, next)
+}

@@ -1,0 +1,56 @@
+// invoke.rs
+use image_directory::Frame;
+use image_read_records::invoke;
+use image_write_directory::progress::Progress;
+use image_write_directory::progress::note;
+use image_write_records::records::put_invoke;
+use pass_arrange::arrange::arrange_closure;
+use pass_arrange::fresh::freshen_unless;
+use pass_arrange::fresh::with_max_id;
+use pass_context::Held;
+use syntax::context::Chirality;
+use syntax::context::ContextBinding;
+use syntax::context::TypingContext;
+use syntax::sets::IdSet;
+ghost use Rattle.scope_check.specs.Nodes.{recordAt};
+ghost use Rattle.pass_context.specs.Holding.{workOf};
+ghost use Rattle.pass_arrange.specs.Stepping.{RoomAt, SourceAt, Workable, LeavesAs};
+
+// An Invoke wants its arguments for the context, followed by its closure. Written it has no arguments: they are the context then.
+pub fn linearize(
+    s: &[u8],
+    g: Frame,
+    i: usize,
+    context: Held,
+    in_scope: u8,
+    out: &mut [u8],
+    lengths: &mut [usize],
+    p: Progress,
+) -> Progress
+    requires { ⌜ SourceAt g (now s) i 7 × (Workable context «in_scope» 0 × RoomAt p) ⌝ }
+    ensures { λ r. ⌜ LeavesAs (g .id) (recordAt g (now (s .entry)) i) 0 0 (workOf context) «in_scope» (now (out .entry)) (now (out .exit)) (now (lengths .entry)) (now (lengths .exit)) p r ⌝ }
+{
+    let statement = invoke(s, g, i);
+    // the context must consist of the arguments for the method ...
+    let args = context.used_all(statement.args);
+    // ... followed by the variable of the closure
+    let var = context.used(statement.var);
+    let ty = statement.ty;
+    let closure = ContextBinding {
+        var,
+        chi: Chirality::Cns,
+        ty,
+    };
+    let right = if context.len == args.len + 1 {
+        context.same(args, TypingContext::empty().push(closure))
+    } else {
+        false
+    };
+    let clashes = IdSet::empty().add(var.id);
+    let freshened = freshen_unless(right, args, clashes, p.max_id);
+    let fresh = freshened.context;
+    let q = arrange_closure(right, fresh, args, closure, g.id, out, lengths, p);
+    let next = put_invoke(out, q.at, g.id, var, statement.tag, ty);
+    let noted = note(lengths, q, next);
+    with_max_id(noted, freshened.max_id)
+}

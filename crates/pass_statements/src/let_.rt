@@ -1,0 +1,58 @@
+// let.rs
+use image_directory::Frame;
+use image_read_records::let_record;
+use image_write_directory::progress::Progress;
+use image_write_directory::progress::note;
+use image_write_records::records::put_let;
+use pass_arrange::arrange::arrange_behind;
+use pass_arrange::fresh::freshen_unless;
+use pass_arrange::fresh::with_max_id;
+use pass_arrange::stepped::Stepped;
+use pass_context::Held;
+use syntax::context::Chirality;
+use syntax::context::ContextBinding;
+ghost use Rattle.scope_check.specs.Nodes.{recordAt};
+ghost use Rattle.pass_context.specs.Holding.{workOf};
+ghost use Rattle.pass_arrange.specs.Stepping.{RoomAt, SourceAt, Workable, StepsAs};
+
+// A Let keeps what its next needs, with its arguments behind it, and binds its var in their place.
+pub fn linearize(
+    s: &[u8],
+    g: Frame,
+    i: usize,
+    free_vars_next: u64,
+    context: Held,
+    in_scope: u8,
+    out: &mut [u8],
+    lengths: &mut [usize],
+    p: Progress,
+) -> Stepped
+    requires { ⌜ SourceAt g (now s) i 4 × (Workable context «in_scope» 1 × RoomAt p) ⌝ }
+    ensures { λ r. ⌜ StepsAs (g .id) (recordAt g (now (s .entry)) i) 0 «free_vars_next» (workOf context) «in_scope» (now (out .entry)) (now (out .exit)) (now (lengths .entry)) (now (lengths .exit)) p r ⌝ }
+{
+    let statement = let_record(s, g, i);
+    let new_context = context.filter(free_vars_next);
+    let args = context.used_all(statement.args);
+    let var = statement.var;
+    let ty = statement.ty;
+    let new_binding = ContextBinding {
+        var,
+        chi: Chirality::Prd,
+        ty,
+    };
+    let right = if context.len == new_context.len + args.len {
+        context.same(new_context.context(), args)
+    } else {
+        false
+    };
+    let fresh = freshen_unless(right, args, new_context.ids(), p.max_id);
+    let freshened = fresh.context;
+    let q = arrange_behind(right, new_context, freshened, args, g.id, out, lengths, p);
+    let next = put_let(out, q.at, g.id, var, ty, statement.tag, freshened);
+    let noted = note(lengths, q, next);
+    Stepped {
+        context: new_context.own(in_scope, new_binding),
+        in_scope: in_scope + 1,
+        progress: with_max_id(noted, fresh.max_id),
+    }
+}

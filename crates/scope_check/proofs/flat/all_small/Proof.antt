@@ -1,0 +1,66 @@
+-- `all_small` meets its contract. Assumes nothing.
+use Prim.Native.Nat.{_+_, _-_, _≤_}
+use mathlib.Core.Path.{_≡_, refl, sym, _∙_}
+use mathlib.Core.Bool.{_&&_}
+use native.Mathlib.Omega.{arith}
+use lib.ListN.{drop}
+use denote.Ref.{now}
+use Rattle.image_directory.specs.Slots.{recordsIn}
+use Rattle.image_directory.proofs.Places.{records-length}
+use Rattle.scope_spec.specs.Flat.{allRecords, smallRecord}
+use Rattle.scope_check.proofs.TailLaws.{all-step, all-end}
+use Rattle.scope_check.proofs.flat.all_small.Statement.{statement}
+use Rattle.scope_check.proofs.flat.all_small.Tie as tie
+
+abbrev Inv-loop : tie.InvT-loop
+Inv-loop s g count i₀ i = (i ≤ count) × (allRecords smallRecord (recordsIn g s) ≡ allRecords smallRecord (drop i (recordsIn g s)))
+
+abbrev μ-loop : tie.MeasureT-loop
+μ-loop s g count i₀ i = count - i
+
+-- at a turn that asked the record at i
+turn : (c : tie.After-small-record Inv-loop μ-loop) →
+    let s = c .before .before .before in
+    allRecords smallRecord (recordsIn (s .before .args .g) (now (s .before .args .s))) ≡ (c .small-record .result && allRecords smallRecord (drop (c .before .before .loop .i + 1) (recordsIn (s .before .args .g) (now (s .before .args .s)))))
+turn c =
+    let s = c .before .before .before in
+    let rs = recordsIn (s .before .args .g) (now (s .before .args .s)) in
+    rw (c .small-record .ensures)
+    (c .before .before .loop .inv .1 ∙ all-step smallRecord rs (c .before .before .loop .i) (omega (arith, records-length (s .before .args .g) (now (s .before .args .s)) (s .before .pre), c .before .loop-test .taken)))
+
+loop-holds : tie.Need-loop-holds Inv-loop μ-loop
+loop-holds c = (omega arith, refl)
+
+small-record-requires : tie.Need-small-record-requires Inv-loop μ-loop
+small-record-requires c κs = (c .before .before .before .pre, c .loop-test .taken)
+
+add-i : tie.Need-add-i Inv-loop μ-loop
+add-i c = omega arith
+
+loop-less : tie.Need-loop-less Inv-loop μ-loop
+loop-less c = omega arith
+
+loop-again : tie.Need-loop-again Inv-loop μ-loop
+loop-again c = (omega arith, turn (c .before) ∙ rw (c .if1 .taken) refl)
+
+returns : tie.Need-returns Inv-loop μ-loop
+returns c = sym (turn (c .before) ∙ rw (c .if1 .left) refl)
+
+returns-2 : tie.Need-returns-2 Inv-loop μ-loop
+returns-2 c =
+    let a = c .before .before .before .args in
+    sym (c .before .loop .inv .1 ∙ all-end smallRecord (recordsIn (a .g) (now (a .s))) (c .before .loop .i) (omega (arith, records-length (a .g) (now (a .s)) (c .before .before .before .pre), c .loop-test .left)))
+
+pub all-small-spec : {M : Type 1} → statement M
+all-small-spec =
+    tie.close
+    (tie.spec
+    Inv-loop
+    μ-loop
+    loop-holds
+    small-record-requires
+    add-i
+    loop-less
+    loop-again
+    returns
+    returns-2)

@@ -1,0 +1,24 @@
+-- `operand` meets its contract. Assumes nothing.
+use Prim.Native.Nat.{_-_}
+use denote.Ref.{now}
+use Rattle.scope_check.proofs.NodeLaws.{identifier-room, operand-there}
+use borrow.Author.Needs.{needs}
+use Rattle.scope_check.proofs.nodes.operand.Statement.{statement}
+use Rattle.scope_check.proofs.nodes.operand.Tie as tie
+
+add-identifier : tie.Need-add-identifier
+add-identifier c = search needs
+
+identifier-requires : tie.Need-identifier-requires
+identifier-requires c κs =
+    let a = c .before .args in
+    let h = c .before .pre in
+    (h .ready, (h .inside, identifier-room (a .g) (now (a .s)) (a .i) _ (operand-there (a .g) (now (a .s)) (a .i) h)))
+
+returns : tie.Need-returns
+returns c =
+    let a = c .before .before .args in
+    c .identifier .ensures .is _ (operand-there (a .g) (now (a .s)) (a .i) (c .before .before .pre))
+
+pub operand-spec : {M : Type 1} → statement M
+operand-spec = tie.close (tie.spec add-identifier identifier-requires returns)

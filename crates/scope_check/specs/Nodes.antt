@@ -1,0 +1,107 @@
+-- The record at an index, and the parts of a record that the scope check reads.
+use Prim.Native.Nat.{ℕ, _<_}
+use mathlib.Core.Path.{_≡_}
+use mathlib.Core.Bool.{Bool, true, false, cond}
+use mathlib.Core.List.{List, [], _∷_}
+use mathlib.Core.Option.{Option, none}
+use lib.Dec.{leb, eqb}
+use lib.ListN.{drop, getD}
+use Rattle.syntax.specs.Context.{emptyBinding}
+use Rattle.syntax.specs.declared.names.Identifier.{Identifier}
+use Rattle.model.specs.Sizes.{countEnvironment}
+use Rattle.image_spec.specs.Records.{Record, definition, substitute, call, let', switch, create, invoke, literal, op, ifc, clause'}
+use Rattle.image_spec.specs.Kinds.{kindOf}
+use Rattle.image_directory.specs.Slots.{Ready, recordsIn}
+use Rattle.image_directory.specs.declared.Frame.{Frame}
+use Rattle.image_read_parts.specs.Standing.{headOf}
+
+abbrev pub recordAt : Frame → List ℕ → ℕ → Record
+recordAt g s i = headOf (drop i (recordsIn g s))
+
+-- the record at index i is of kind k
+pub record At (g : Frame) (s : List ℕ) (i k : ℕ) : Type 0 where
+  pub ready : Ready g s
+  pub inside : i < g .count
+  pub kind : kindOf (recordAt g s i) ≡ k
+
+-- has a Create's environment at most 32 bindings, if there is one?
+abbrev pub smallEnvironment : Record → Bool
+smallEnvironment (definition x Γ) = true
+smallEnvironment (substitute ps) = true
+smallEnvironment (call x Γ) = true
+smallEnvironment (let' v t g Γ) = true
+smallEnvironment (switch v t n) = true
+smallEnvironment (create v t e n) = leb (countEnvironment e) 32
+smallEnvironment (invoke v g t Γ) = true
+smallEnvironment (literal z v) = true
+smallEnvironment (op f o s v) = true
+smallEnvironment (ifc c f s) = true
+smallEnvironment (clause' x Γ) = true
+
+-- has a record of the kind a list as its tail?
+abbrev pub hasList : ℕ → Bool
+hasList k = getD (false ∷ true ∷ false ∷ true ∷ true ∷ false ∷ false ∷ true ∷ false ∷ false ∷ false ∷ true ∷ []) k false
+
+-- what stands for an identifier where there is none
+abbrev pub noIdentifier : Identifier
+noIdentifier = emptyBinding .var
+
+-- the first identifier of a record
+abbrev pub firstOf : Record → Identifier
+firstOf (definition x Γ) = x
+firstOf (substitute ps) = noIdentifier
+firstOf (call x Γ) = x
+firstOf (let' v t g Γ) = v
+firstOf (switch v t n) = v
+firstOf (create v t e n) = v
+firstOf (invoke v g t Γ) = v
+firstOf (literal z v) = v
+firstOf (op f o s v) = f
+firstOf (ifc c f s) = f
+firstOf (clause' x Γ) = x
+
+-- .. and where it stands
+abbrev pub firstAt : ℕ → ℕ
+firstAt k = cond (eqb k 8) 9 (cond (eqb k 10) 2 1)
+
+-- the second operand of an Op
+abbrev pub operandOf : Record → Identifier
+operandOf (definition x Γ) = noIdentifier
+operandOf (substitute ps) = noIdentifier
+operandOf (call x Γ) = noIdentifier
+operandOf (let' v t g Γ) = noIdentifier
+operandOf (switch v t n) = noIdentifier
+operandOf (create v t e n) = noIdentifier
+operandOf (invoke v g t Γ) = noIdentifier
+operandOf (literal z v) = noIdentifier
+operandOf (op f o s v) = s
+operandOf (ifc c f s) = noIdentifier
+operandOf (clause' x Γ) = noIdentifier
+
+-- the var of an Op
+abbrev pub targetOf : Record → Identifier
+targetOf (definition x Γ) = noIdentifier
+targetOf (substitute ps) = noIdentifier
+targetOf (call x Γ) = noIdentifier
+targetOf (let' v t g Γ) = noIdentifier
+targetOf (switch v t n) = noIdentifier
+targetOf (create v t e n) = noIdentifier
+targetOf (invoke v g t Γ) = noIdentifier
+targetOf (literal z v) = noIdentifier
+targetOf (op f o s v) = v
+targetOf (ifc c f s) = noIdentifier
+targetOf (clause' x Γ) = noIdentifier
+
+-- the second operand of an IfC, if there is one
+abbrev pub secondOf : Record → Option Identifier
+secondOf (definition x Γ) = none
+secondOf (substitute ps) = none
+secondOf (call x Γ) = none
+secondOf (let' v t g Γ) = none
+secondOf (switch v t n) = none
+secondOf (create v t e n) = none
+secondOf (invoke v g t Γ) = none
+secondOf (literal z v) = none
+secondOf (op f o s v) = none
+secondOf (ifc c f s) = s
+secondOf (clause' x Γ) = none

@@ -1,0 +1,81 @@
+// The definitions of an image: how deep they are (question 7), and the walk over them.
+use crate::mask::put_row;
+use crate::walk::Walked;
+use crate::walk::enter_head;
+use crate::walk::statement;
+use image_directory::Frame;
+use image_fields::Found;
+use image_shape::statement as shape_statement;
+use scope_spec::Verdict;
+use syntax::context::TypingContext;
+ghost use mathlib.Core.Path.{_≡_};
+ghost use lib.Dec.{leb};
+ghost use lib.Seq.{sets};
+ghost use Rattle.model.specs.Sizes.{depthDefs};
+ghost use Rattle.image_directory.specs.Slots.{Ready, recordsIn};
+ghost use Rattle.scope_spec.specs.Walk.{clean, walkDefs};
+ghost use Rattle.scope_spec.specs.FreeRows.{rowsDefs};
+ghost use Rattle.scope_check.specs.Definitions.{defsIn, DefsStand};
+ghost use Rattle.scope_check.specs.Masks.{SourcedDefs};
+
+// The depth of a source (question 7).
+pub const MAX_DEPTH: usize = 64;
+
+// Question 7: are the bodies of the d definitions at most 64 statements deep?
+pub fn all_shallow(s: &[u8], g: Frame, d: usize) -> bool
+    requires { ⌜ Ready g (now s) × DefsStand 128 d (recordsIn g (now s)) 0 (defsIn d (recordsIn g (now s))) ⌝ }
+    ensures { λ r. ⌜ r ≡ leb (depthDefs (defsIn d (recordsIn g (now (s .entry))))) 64 ⌝ }
+{
+    let mut at = 0;
+    let mut left = d;
+    while 0 < left {
+        match shape_statement(s, g, MAX_DEPTH, Found::At(at + 1)) {
+            Found::At(next) => {
+                at = next;
+                left = left - 1;
+            }
+            Found::Nothing => {
+                return false;
+            }
+        }
+    }
+    true
+}
+
+// The d definitions, each of depth at most 64. Stores two masks for each record. (A mask past the end of the rows is left out.)
+pub fn walk_definitions(s: &[u8], g: Frame, d: usize, max_id: u32, rows: &mut [u64]) -> Verdict
+    requires { ⌜ Ready g (now s) × DefsStand 64 d (recordsIn g (now s)) 0 (defsIn d (recordsIn g (now s))) ⌝ }
+    ensures { λ r. ⌜ (r ≡ walkDefs (defsIn d (recordsIn g (now (s .entry)))) «max_id» clean) × (SourcedDefs (defsIn d (recordsIn g (now (s .entry)))) → now (rows .exit) ≡ sets (now (rows .entry)) 0 (rowsDefs (defsIn d (recordsIn g (now (s .entry)))))) ⌝ }
+{
+    let mut scope = [0u32; TypingContext::MAX];
+    let verdict = Verdict {
+        room: true,
+        binders: true,
+        uses: true,
+        ids: true,
+    };
+    let mut here = Walked {
+        next: 0,
+        verdict,
+        free: 0,
+    };
+    let mut left = d;
+    while 0 < left {
+        let e = enter_head(s, g, 1, here, &mut scope, 0, max_id);
+        let b = statement(
+            s,
+            g,
+            MAX_DEPTH,
+            here.next + 1,
+            &mut scope,
+            e.n,
+            max_id,
+            e.verdict,
+            rows,
+        );
+        put_row(rows, here.next, 0, b.free);
+        here = b;
+        left = left - 1;
+    }
+    here.verdict
+}

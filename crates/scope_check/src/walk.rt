@@ -1,0 +1,247 @@
+// The walk of the questions 8, 9 and 10: the statements of a body, with the scope at each. On the way it finds the free variables of every
+// record, from the last one up: the mask of a statement comes from what its record uses and the masks of its clauses and of its bodies.
+use crate::mask::join;
+use crate::mask::put_row;
+use crate::nodes::enter_list;
+use crate::nodes::enter_node;
+use crate::nodes::use_node;
+use crate::scoping::Entering;
+use crate::scoping::Using;
+use image_directory::Frame;
+use image_fields::count;
+use image_kinds::kinds::Kind;
+use image_shape::Node;
+use image_shape::look;
+use scope_spec::Verdict;
+ghost use mathlib.Core.Path.{_≡_};
+ghost use mathlib.Core.Bool.{true};
+ghost use Prim.Native.Nat.{_+_, _*_, _<_};
+ghost use lib.ListN.{length};
+ghost use lib.Seq.{sets};
+ghost use Rattle.syntax.specs.Context.{ids};
+ghost use Rattle.model.specs.FreeVars.{freeVars, freeVarsClauses};
+ghost use Rattle.image_spec.specs.Parse.{each, All};
+ghost use Rattle.image_spec.specs.Shape.{flatten, flattenClauses};
+ghost use Rattle.image_directory.specs.Slots.{Ready, recordsIn};
+ghost use Rattle.image_places_spec.specs.Places.{stmtAt, clausesAt, bodiesAt, StmtStands, ClausesStand, BodiesStand};
+ghost use Rattle.image_places_spec.specs.Views.{binders};
+ghost use Rattle.scope_spec.specs.Walk.{enterAll, walkStmt, walkClauses, walkBodies};
+ghost use Rattle.scope_spec.specs.FreeRows.{maskOf, freeBodies, rowsStmt, rowsClauses, rowsBodies};
+ghost use Rattle.image_read_parts.specs.Parts.{listOf};
+ghost use Rattle.scope_check.specs.Nodes.{recordAt, At, hasList};
+ghost use Rattle.scope_check.specs.Scoping.{scopeIn, ScopeAt, Entered, Kept};
+ghost use Rattle.scope_check.specs.Walks.{Followed, WalkedTo};
+ghost use Rattle.scope_check.specs.Masks.{Sourced, SourcedClauses, MaskedTo};
+
+// The kind of a record, and what follows it: clauses, then bodies.
+pub struct Follows {
+    pub kind: u8,
+    pub clauses: usize,
+    pub bodies: usize,
+}
+
+// Where the walk has come to, its verdict so far, and the free variables of what it came through, as a mask over the places in scope.
+pub struct Walked {
+    pub next: usize,
+    pub verdict: Verdict,
+    pub free: u64,
+}
+
+// What follows the record at index i.
+pub fn parts_of(s: &[u8], g: Frame, i: usize) -> Follows
+    requires { ⌜ Ready g (now s) × (i < g .count) ⌝ }
+    ensures { λ r. ⌜ Followed g (now (s .entry)) i r ⌝ }
+{
+    match look(s, g, i) {
+        Node::Is { kind, clauses } => {
+            let c = count(clauses);
+            let b = Kind::bodies(kind);
+            Follows {
+                kind,
+                clauses: c,
+                bodies: b,
+            }
+        }
+        Node::End => Follows {
+            kind: 0,
+            clauses: 0,
+            bodies: 0,
+        },
+    }
+}
+
+// Binds what the list of the clause or definition at a place binds.
+pub fn enter_head(
+    s: &[u8],
+    g: Frame,
+    kind: u8,
+    here: Walked,
+    scope: &mut [u32],
+    n: usize,
+    max_id: u32,
+) -> Entering
+    requires { ⌜ At g (now s) (here .next) kind × ((hasList kind ≡ true) × ScopeAt (now scope) n) ⌝ }
+    ensures { λ r. ⌜ Entered n (now (scope .entry)) (now (scope .exit)) r (enterAll «max_id» (ids (listOf (recordAt g (now (s .entry)) (here .next)))) (record { scope = scopeIn n (now (scope .entry)); verdict = here .verdict })) ⌝ }
+{
+    let verdict = here.verdict;
+    let entering = Entering { n, verdict };
+    enter_list(s, g, here.next, kind, scope, entering, max_id)
+}
+
+// Binds what a statement binds, after its clauses.
+fn enter_next(
+    s: &[u8],
+    g: Frame,
+    i: usize,
+    kind: u8,
+    after: Walked,
+    scope: &mut [u32],
+    n: usize,
+    max_id: u32,
+) -> Entering
+    requires { ⌜ At g (now s) i kind × ScopeAt (now scope) n ⌝ }
+    ensures { λ r. ⌜ Entered n (now (scope .entry)) (now (scope .exit)) r (enterAll «max_id» (binders (recordAt g (now (s .entry)) i)) (record { scope = scopeIn n (now (scope .entry)); verdict = after .verdict })) ⌝ }
+{
+    let verdict = after.verdict;
+    let entering = Entering { n, verdict };
+    enter_node(s, g, i, kind, scope, entering, max_id)
+}
+
+// The statement at index i, of depth at most `depth`. The first n of the lent scope are in scope, and stay. Stores two masks for each record.
+pub fn statement(
+    s: &[u8],
+    g: Frame,
+    depth: usize,
+    i: usize,
+    scope: &mut [u32],
+    n: usize,
+    max_id: u32,
+    v: Verdict,
+    rows: &mut [u64],
+) -> Walked
+    requires { ⌜ Ready g (now s) × (StmtStands depth (recordsIn g (now s)) i (stmtAt depth (recordsIn g (now s)) i) × ScopeAt (now scope) n) ⌝ }
+    ensures { λ r. ⌜ WalkedTo r (i + length (flatten (stmtAt depth (recordsIn g (now (s .entry))) i))) (walkStmt (stmtAt depth (recordsIn g (now (s .entry))) i) «max_id» (scopeIn n (now (scope .entry))) v) × (Kept n (now (scope .entry)) (now (scope .exit)) × (Sourced (scopeIn n (now (scope .entry))) (stmtAt depth (recordsIn g (now (s .entry))) i) → MaskedTo r (now (rows .exit)) (maskOf (freeVars (stmtAt depth (recordsIn g (now (s .entry))) i)) (scopeIn n (now (scope .entry)))) (sets (now (rows .entry)) (2 * i) (rowsStmt (stmtAt depth (recordsIn g (now (s .entry))) i) (scopeIn n (now (scope .entry))))))) ⌝ }
+{
+    let f = parts_of(s, g, i);
+    let start = Using {
+        mask: 0,
+        verdict: v,
+    };
+    let own = use_node(s, g, i, f.kind, scope, n, start);
+    let c = clauses(
+        s,
+        g,
+        depth - 1,
+        f.clauses,
+        i + 1,
+        scope,
+        n,
+        max_id,
+        own.verdict,
+        rows,
+    );
+    let bound = enter_next(s, g, i, f.kind, c, scope, n, max_id);
+    let b = bodies(
+        s,
+        g,
+        depth - 1,
+        f.bodies,
+        c.next,
+        scope,
+        bound.n,
+        max_id,
+        bound.verdict,
+        rows,
+    );
+    put_row(rows, i, c.free, b.free);
+    let free = join(own.mask | c.free, b.free, n);
+    let verdict = b.verdict;
+    Walked {
+        next: b.next,
+        verdict,
+        free,
+    }
+}
+
+// The `count` clauses from index i on, with bodies of depth at most `depth`.
+fn clauses(
+    s: &[u8],
+    g: Frame,
+    depth: usize,
+    count: usize,
+    i: usize,
+    scope: &mut [u32],
+    n: usize,
+    max_id: u32,
+    v: Verdict,
+    rows: &mut [u64],
+) -> Walked
+    requires { ⌜ Ready g (now s) × (ClausesStand depth count (recordsIn g (now s)) i (clausesAt depth count (recordsIn g (now s)) i) × ScopeAt (now scope) n) ⌝ }
+    ensures { λ r. ⌜ WalkedTo r (i + length (flattenClauses (clausesAt depth count (recordsIn g (now (s .entry))) i))) (walkClauses (clausesAt depth count (recordsIn g (now (s .entry))) i) «max_id» (scopeIn n (now (scope .entry))) v) × (Kept n (now (scope .entry)) (now (scope .exit)) × (SourcedClauses (scopeIn n (now (scope .entry))) (clausesAt depth count (recordsIn g (now (s .entry))) i) → MaskedTo r (now (rows .exit)) (maskOf (freeVarsClauses (clausesAt depth count (recordsIn g (now (s .entry))) i)) (scopeIn n (now (scope .entry)))) (sets (now (rows .entry)) (2 * i) (rowsClauses (clausesAt depth count (recordsIn g (now (s .entry))) i) (scopeIn n (now (scope .entry))))))) ⌝ }
+{
+    let mut here = Walked {
+        next: i,
+        verdict: v,
+        free: 0,
+    };
+    let mut left = count;
+    while 0 < left {
+        let e = enter_head(s, g, 11, here, scope, n, max_id);
+        let b = statement(
+            s,
+            g,
+            depth,
+            here.next + 1,
+            scope,
+            e.n,
+            max_id,
+            e.verdict,
+            rows,
+        );
+        put_row(rows, here.next, 0, b.free);
+        let free = join(here.free, b.free, n);
+        let verdict = b.verdict;
+        here = Walked {
+            next: b.next,
+            verdict,
+            free,
+        };
+        left = left - 1;
+    }
+    here
+}
+
+// The `count` statements from index i on, each of depth at most `depth`.
+fn bodies(
+    s: &[u8],
+    g: Frame,
+    depth: usize,
+    count: usize,
+    i: usize,
+    scope: &mut [u32],
+    n: usize,
+    max_id: u32,
+    v: Verdict,
+    rows: &mut [u64],
+) -> Walked
+    requires { ⌜ Ready g (now s) × (BodiesStand depth count (recordsIn g (now s)) i (bodiesAt depth count (recordsIn g (now s)) i) × ScopeAt (now scope) n) ⌝ }
+    ensures { λ r. ⌜ WalkedTo r (i + length (each flatten (bodiesAt depth count (recordsIn g (now (s .entry))) i))) (walkBodies (bodiesAt depth count (recordsIn g (now (s .entry))) i) «max_id» (scopeIn n (now (scope .entry))) v) × (Kept n (now (scope .entry)) (now (scope .exit)) × (All (Sourced (scopeIn n (now (scope .entry)))) (bodiesAt depth count (recordsIn g (now (s .entry))) i) → MaskedTo r (now (rows .exit)) (maskOf (freeBodies (bodiesAt depth count (recordsIn g (now (s .entry))) i)) (scopeIn n (now (scope .entry)))) (sets (now (rows .entry)) (2 * i) (rowsBodies (bodiesAt depth count (recordsIn g (now (s .entry))) i) (scopeIn n (now (scope .entry))))))) ⌝ }
+{
+    let mut here = Walked {
+        next: i,
+        verdict: v,
+        free: 0,
+    };
+    let mut left = count;
+    while 0 < left {
+        let b = statement(s, g, depth, here.next, scope, n, max_id, here.verdict, rows);
+        let verdict = b.verdict;
+        here = Walked {
+            next: b.next,
+            verdict,
+            free: here.free | b.free,
+        };
+        left = left - 1;
+    }
+    here
+}

@@ -1,0 +1,288 @@
+// The command axcut, thin over the library's functions. A program in Rattle always ends with exit status 0, so bin/axcut calls this one with
+// --status before the other arguments, and it then writes the status, a digit, to descriptor 3, as the last thing it does.
+mod arguments;
+mod files;
+mod words;
+
+use arguments::Arguments;
+use arguments::Command;
+use arguments::Fault;
+use arguments::gather;
+use check::same;
+use files::Taken;
+use libc::STDERR_FILENO;
+use libc::STDOUT_FILENO;
+use tool_listing::annotation::sets;
+use tool_listing::book::Book;
+use tool_listing::book::index;
+use tool_listing::fields::begin;
+use tool_listing::page::Page;
+use tool_listing::page::flush;
+use tool_listing::page::put;
+use tool_listing::walk::listing;
+use try_building::text::byte;
+
+// Exit statuses.
+const ACCEPTED: u8 = 0;
+
+const REFUSED: u8 = 1;
+
+const TROUBLE: u8 = 2;
+
+// The descriptor for the exit status.
+const STATUS: i32 = 3;
+
+fn refuse(number: u32) -> u8 {
+    words::refused(number);
+    REFUSED
+}
+
+// The status of an output that is whole, or not.
+fn written(whole: bool) -> u8 {
+    if whole {
+        return ACCEPTED;
+    }
+    TROUBLE
+}
+
+// The answer of read and check.
+fn answer(number: u32, max_id: u32) -> u8 {
+    if number != 0 {
+        return refuse(number);
+    }
+    let said = io::write_all(STDOUT_FILENO, b"accepted, max_id ");
+    let counted = io::print_decimal(STDOUT_FILENO, max_id as u64);
+    let ended = io::write_all(STDOUT_FILENO, b"\n");
+    written(files::close(files::open(0), said && counted && ended))
+}
+
+fn read(image: &[u8]) -> u8 {
+    let mut length: usize = 0;
+    let mut max_id: u32 = 0;
+    let number = axcut::axcut_read(image, &mut length, &mut max_id);
+    answer(number, max_id)
+}
+
+fn check(image: &[u8]) -> u8 {
+    let mut length: usize = 0;
+    let mut max_id: u32 = 0;
+    let number = axcut::axcut_check(image, &mut length, &mut max_id);
+    answer(number, max_id)
+}
+
+// Writes bytes to the output that is asked for.
+fn write(got: Arguments, bytes: &[u8]) -> u8 {
+    let output = files::open(got.output);
+    if output.fd < 0 {
+        return TROUBLE;
+    }
+    let well = io::write_all(output.fd, bytes);
+    written(files::close(output, well))
+}
+
+// The first n bytes.
+fn write_first(got: Arguments, bytes: &[u8], n: usize) -> u8 {
+    if n <= bytes.len() {
+        return write(got, &bytes[0..n]);
+    }
+    TROUBLE
+}
+
+fn linearize(got: Arguments, image: &[u8]) -> u8 {
+    let mut out = io::large_buffer();
+    let mut length: usize = 0;
+    let mut max_id: u32 = 0;
+    let number = axcut::axcut_linearize(image, &mut out, &mut length, &mut max_id);
+    if number != 0 {
+        return refuse(number);
+    }
+    write_first(got, &out, length)
+}
+
+// Writes an annotation as text.
+fn annotation_text(got: Arguments, found: &[u8], kind: u8) -> u8 {
+    let output = files::open(got.output);
+    if output.fd < 0 {
+        return TROUBLE;
+    }
+    let mut room = io::buffer();
+    let told = sets(Page::start(output.fd), &mut room, found, kind);
+    let end = flush(put(told, &mut room, b'\n'), &room);
+    written(files::close(output, !end.failed))
+}
+
+fn annotate(got: Arguments, image: &[u8]) -> u8 {
+    let mut found = io::large_buffer();
+    let mut length: usize = 0;
+    let mut max_id: u32 = 0;
+    let number = axcut::axcut_annotate(image, got.record, &mut found, &mut length, &mut max_id);
+    if number != 0 {
+        return refuse(number);
+    }
+    if got.raw {
+        return write_first(got, &found, length);
+    }
+    annotation_text(got, &found, byte(image, begin(image, got.record)))
+}
+
+// The number of questions 1 to 7: that of an annotation, but for question 13, which comes behind them.
+fn first_seven(image: &[u8]) -> u32 {
+    let mut found = io::buffer();
+    let mut length: usize = 0;
+    let mut max_id: u32 = 0;
+    let number = axcut::axcut_annotate(image, 65535, &mut found, &mut length, &mut max_id);
+    if number == 13 {
+        return 0;
+    }
+    number
+}
+
+fn list(got: Arguments, image: &[u8], book: &[u8], max_id: u32) -> u8 {
+    let output = files::open(got.output);
+    if output.fd < 0 {
+        return TROUBLE;
+    }
+    let mut room = io::large_buffer();
+    let view = got.view;
+    let well = listing(output.fd, &mut room, book, image, view, max_id);
+    written(files::close(output, well))
+}
+
+// The listing with the spellings whose text has n bytes.
+fn list_spelled(got: Arguments, image: &[u8], book: &mut [u8], n: usize, max_id: u32) -> u8 {
+    if Book::MOST <= n {
+        words::too_long(got.names);
+        return TROUBLE;
+    }
+    let end = Book::TEXT + n;
+    if book.len() < end {
+        return TROUBLE;
+    }
+    let line = index(&mut book[0..end]);
+    if line != 0 {
+        words::faulty_line(got.names, line);
+        return TROUBLE;
+    }
+    list(got, image, &book[0..end], max_id)
+}
+
+// Reads the text of a book, behind the places of its spellings.
+fn take_book(got: Arguments, book: &mut [u8]) -> Taken {
+    if book.len() < Book::TEXT {
+        return Taken::Failed;
+    }
+    files::take(got.names, &mut book[Book::TEXT..])
+}
+
+fn list_from(got: Arguments, image: &[u8], book: &mut [u8], max_id: u32) -> u8 {
+    match take_book(got, book) {
+        Taken::Bytes(n) => list_spelled(got, image, book, n, max_id),
+        Taken::Failed => TROUBLE,
+    }
+}
+
+fn list_with_names(got: Arguments, image: &[u8], max_id: u32) -> u8 {
+    let mut book = [0u8; Book::BYTES];
+    list_from(got, image, &mut book, max_id)
+}
+
+// The listing of an image that was accepted.
+fn show(got: Arguments, image: &[u8], max_id: u32) -> u8 {
+    if got.names == 0 {
+        return list(got, image, b"", max_id);
+    }
+    list_with_names(got, image, max_id)
+}
+
+fn dump(got: Arguments, image: &[u8]) -> u8 {
+    let mut length: usize = 0;
+    let mut max_id: u32 = 0;
+    let number = axcut::axcut_read(image, &mut length, &mut max_id);
+    if number != 0 {
+        return refuse(number);
+    }
+    if got.view.annotations {
+        let asked = first_seven(image);
+        if asked != 0 {
+            return refuse(asked);
+        }
+    }
+    show(got, image, max_id)
+}
+
+fn call(got: Arguments, image: &[u8]) -> u8 {
+    let command = got.command.0;
+    match command {
+        Command::READ => read(image),
+        Command::CHECK => check(image),
+        Command::LINEARIZE => linearize(got, image),
+        Command::ANNOTATE => annotate(got, image),
+        _ => dump(got, image),
+    }
+}
+
+fn call_on_first(got: Arguments, image: &[u8], n: usize) -> u8 {
+    if n <= image.len() {
+        return call(got, &image[0..n]);
+    }
+    TROUBLE
+}
+
+fn on_image(got: Arguments) -> u8 {
+    let mut image = io::large_buffer();
+    match files::take(got.image, &mut image) {
+        Taken::Bytes(n) => call_on_first(got, &image, n),
+        Taken::Failed => TROUBLE,
+    }
+}
+
+fn complain(got: Arguments) -> u8 {
+    let fault = got.fault.0;
+    match fault {
+        Fault::NO_COMMAND => words::usage(STDERR_FILENO),
+        Fault::COMMAND => words::wrong(b"no such command: ", got.at),
+        Fault::CHOICE => words::wrong(b"no option of this command: ", got.at),
+        Fault::NO_VALUE => words::wrong(b"a file name is missing", 0),
+        Fault::TOO_MANY => words::wrong(b"one file too many: ", got.at),
+        Fault::NO_RECORD => words::wrong(b"annotate: which record?", 0),
+        Fault::NOT_A_RECORD => words::wrong(b"annotate: not a record's number: ", got.at),
+        _ => words::wrong(b"an argument is too long", 0),
+    }
+    TROUBLE
+}
+
+fn run(got: Arguments) -> u8 {
+    if got.fault.0 != Fault::NONE {
+        return complain(got);
+    }
+    let command = got.command.0;
+    match command {
+        Command::HELP => {
+            words::usage(STDOUT_FILENO);
+            ACCEPTED
+        }
+        Command::VERSION => {
+            words::version(STDOUT_FILENO);
+            ACCEPTED
+        }
+        _ => on_image(got),
+    }
+}
+
+// The first argument of the tool's own: the one behind --status, where that is there.
+fn first() -> usize {
+    let mut word = io::buffer();
+    let n = os::arg(1, &mut word);
+    if same(&word[..n], b"--status") {
+        return 2;
+    }
+    1
+}
+
+fn main() {
+    let from = first();
+    let status = run(gather(from));
+    if from == 2 {
+        io::print_decimal(STATUS, status as u64);
+    }
+}

@@ -1,0 +1,84 @@
+// The input. Its numbers are little-endian.
+use libc::STDIN_FILENO;
+use try_building::text::byte;
+
+// No image and no lent buffer has more bytes.
+pub const LARGEST: usize = 65536;
+
+// The bytes of a call's head.
+pub const HEAD: usize = 23;
+
+// Fills the buffer with what comes next; false where the input ends before.
+pub fn take(buffer: &mut [u8]) -> bool {
+    let n = buffer.len();
+    io::read_full(STDIN_FILENO, buffer) == n
+}
+
+// The same with the first n bytes of the buffer.
+pub fn take_part(buffer: &mut [u8], n: usize) -> bool {
+    if n <= buffer.len() {
+        return take(&mut buffer[0..n]);
+    }
+    false
+}
+
+pub fn at_end() -> bool {
+    let mut byte = [0u8; 1];
+    io::read_full(STDIN_FILENO, &mut byte) == 0
+}
+
+// A number with a byte below it. Eight bytes fit.
+fn with(above: usize, b: u8) -> usize {
+    if above < 72057594037927936 {
+        return above * 256 + b as usize;
+    }
+    above
+}
+
+// The number of the bytes from a place to another.
+pub fn number(bytes: &[u8], from: usize, end: usize) -> usize {
+    let mut value = 0;
+    let mut i = end;
+    while from < i {
+        i -= 1;
+        value = with(value, byte(bytes, i));
+    }
+    value
+}
+
+// A call, and the answer that is expected.
+pub struct Call {
+    // 0 reading, 1 the scope check, 2 linearization, 3 annotation.
+    pub function: usize,
+    // The record that is annotated.
+    pub index: usize,
+    // The length of the lent buffer, and the byte that it is full of before the call.
+    pub room: usize,
+    pub old: u8,
+    pub number: usize,
+    pub length: usize,
+    pub max_id: usize,
+}
+
+impl Call {
+    pub fn of(head: &[u8]) -> Call {
+        Call {
+            function: number(head, 0, 1),
+            index: number(head, 1, 9),
+            room: number(head, 9, 13),
+            old: byte(head, 13),
+            number: number(head, 14, 15),
+            length: number(head, 15, 19),
+            max_id: number(head, 19, 23),
+        }
+    }
+
+    // What stands past the length: 11 and 12 set the whole buffer to zero, the others leave it.
+    pub fn rest(self) -> u8 {
+        let number = self.number;
+        match number {
+            11 | 12 => 0,
+            _ => self.old,
+        }
+    }
+}

@@ -1,0 +1,44 @@
+// What is printed.
+use crate::file::Call;
+use crate::replay::Outcome;
+use try_building::show::count;
+use try_building::show::line;
+use try_building::show::say;
+
+pub fn function(n: usize) {
+    match n {
+        0 => say(b"axcut_read"),
+        1 => say(b"axcut_check"),
+        2 => say(b"axcut_linearize"),
+        _ => say(b"axcut_annotate"),
+    }
+}
+
+// A number behind some words.
+pub fn counted(words: &[u8], n: usize) {
+    say(words);
+    count(n);
+}
+
+fn answer(words: &[u8], given: usize, length: usize, max_id: usize) {
+    counted(words, given);
+    counted(b" ", length);
+    counted(b" ", max_id);
+}
+
+// A call that does not agree, by its image and its place among the calls of that.
+pub fn mismatch(image: usize, own: usize, call: Call, seen: Outcome) {
+    counted(b"image ", image);
+    counted(b" call ", own);
+    say(b": ");
+    function(call.function);
+    answer(b" answers ", seen.number, seen.length, seen.max_id);
+    answer(b", expected ", call.number, call.length, call.max_id);
+    if !seen.buffer {
+        say(b", other bytes in the buffer");
+    }
+    if !seen.image {
+        say(b", other bytes in the image");
+    }
+    line();
+}
