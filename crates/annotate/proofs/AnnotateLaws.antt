@@ -44,7 +44,7 @@ use Rattle.scope_spec.proofs.FlatLaws.{question6-flat, question7-flat}
 use Rattle.scope_spec.proofs.Inside.{Inside, inside, asked-parts}
 use Rattle.scope_spec.proofs.IdsFit.{all-left, stmt-ids-fit, clauses-ids-fit, two-bytes}
 use Rattle.scope_spec.proofs.MarkLaws.{FitRow, Marks, allUses, allUsesClauses, marks-stmt, marks-clauses, marked-ascending}
-use Rattle.scope_check.specs.Nodes.{recordAt}
+use Rattle.image_read_nodes.specs.Nodes.{recordAt}
 use Rattle.scope_check.specs.Deciding.{programIn}
 use Rattle.scope_check.proofs.ReplyLaws.{opened-replies, closed-replies}
 use Rattle.annotate_uses.specs.Sources.{Source}

@@ -18,7 +18,7 @@ use Rattle.image_write_parts.specs.Puts.{Puts}
 use Rattle.scope_spec.specs.Rooms.{inRoom}
 use Rattle.scope_spec.specs.Calls.{setBytes, hasAnnotation}
 use Rattle.scope_spec.specs.Marking.{markedFrom}
-use Rattle.scope_check.specs.Nodes.{recordAt}
+use Rattle.image_read_nodes.specs.Nodes.{recordAt}
 use Rattle.scope_check.specs.Definitions.{Defined}
 use Rattle.scope_check.specs.Deciding.{programIn}
 use Rattle.annotate_uses.specs.Sources.{Source}

@@ -3,7 +3,7 @@ use annotate_marks::mark_all;
 use annotate_uses::bind;
 use annotate_uses::uses;
 use image_directory::Frame;
-use scope_check::walk::parts_of;
+use image_read_nodes::parts_of;
 use syntax::sets::IdSet;
 ghost use Prim.Native.Nat.{_+_};
 ghost use lib.ListN.{length};

@@ -18,7 +18,7 @@ use Rattle.image_places_spec.proofs.Steps.{ClauseNext}
 use Rattle.scope_spec.specs.Rooms.{RoomFor, RoomForClauses}
 use Rattle.scope_spec.proofs.RoomLaws.{room-here, room-clause, room-binders}
 use Rattle.scope_check.specs.Scoping.{Scope}
-use Rattle.scope_check.proofs.StepLaws.{head-is}
+use Rattle.image_read_nodes.proofs.StepLaws.{head-is}
 use Rattle.annotate_uses.specs.Sets.{Room}
 use Rattle.annotate_uses.specs.Sources.{BoundBy}
 use Rattle.annotate_uses.proofs.CountLaws.{ids-length}

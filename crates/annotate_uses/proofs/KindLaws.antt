@@ -12,8 +12,8 @@ use Rattle.image_spec.specs.Records.{Record}
 use Rattle.image_spec.specs.Kinds.{kindOf}
 use Rattle.image_read_parts.specs.Parts.{listOf}
 use Rattle.image_places_spec.specs.Views.{binders, usesOf}
-use Rattle.scope_check.specs.Nodes.{firstOf, operandOf, targetOf, secondOf}
-use Rattle.scope_check.proofs.NodeLaws.{uses-are, binders-are}
+use Rattle.image_read_nodes.specs.Nodes.{firstOf, operandOf, targetOf, secondOf}
+use Rattle.image_read_nodes.proofs.NodeLaws.{uses-are, binders-are}
 
 abbrev pub usesBy : ℕ → Record → List VarId
 usesBy k r = cond (eqb k 3) (ids (listOf r)) (cond (eqb k 4) (ids (listOf r)) (cond (eqb k 5) (firstOf r .id ∷ [])

@@ -11,9 +11,9 @@ use Rattle.image_spec.specs.Records.{recordBytes}
 use Rattle.image_spec.specs.Kinds.{fixed, tailBytes}
 use Rattle.image_directory.specs.declared.Frame.{Frame}
 use Rattle.image_read_parts.specs.Standing.{Stands, ReadsAs, RoomIn}
-use Rattle.scope_check.specs.Nodes.{recordAt, At, secondOf}
-use Rattle.scope_check.proofs.TailLaws.{tail-byte, tail-room, tail-some}
-use Rattle.scope_check.proofs.NodeLaws.{record-ok, identifier-room, second-none, Second, second-some}
+use Rattle.image_read_nodes.specs.Nodes.{recordAt, At, secondOf}
+use Rattle.image_read_nodes.proofs.TailLaws.{tail-byte, tail-room, tail-some}
+use Rattle.image_read_nodes.proofs.NodeLaws.{record-ok, identifier-room, second-none, Second, second-some}
 
 module _ {g : Frame} {s : List ℕ} {i mark : ℕ} (a : At g s i 10) (m : mark ≡ fixed (g .id) 10) where
   some : 0 < length (tailBytes (g .id) (recordAt g s i))

@@ -15,7 +15,7 @@ use Rattle.image_spec.specs.Kinds.{kindOf}
 use Rattle.image_directory.specs.declared.Frame.{Frame}
 use Rattle.scope_spec.specs.Flat.{smallRecord}
 use Rattle.image_read_parts.specs.Parts.{listOf}
-use Rattle.scope_check.specs.Nodes.{recordAt, At, hasList}
+use Rattle.image_read_nodes.specs.Nodes.{recordAt, At, hasList}
 use Rattle.annotate_uses.specs.Sets.{Room}
 
 -- more IDs behind those that are there

@@ -29,7 +29,7 @@ use Rattle.image_read_parts.specs.Standing.{Stands, ReadsAs, IsCode}
 use Rattle.image_read_parts.proofs.StandingLaws.{inner, stands-in, stands-room, byte-run, second-run}
 use Rattle.image_read_parts.proofs.PartPlaces.{byteOf, switch-var, switch-ty, create-var, create-ty, literal-integer, literal-var, op-fst, op-code, op-snd, op-var, ifc-code, ifc-fst}
 use Rattle.image_read_parts.proofs.NamedPlaces.{identifier-room, byte-room}
-use Rattle.scope_check.specs.Nodes.{firstOf, operandOf, targetOf, secondOf}
+use Rattle.image_read_nodes.specs.Nodes.{firstOf, operandOf, targetOf, secondOf}
 use Rattle.image_read_records.specs.Unpacked.{SecondAt}
 use Rattle.image_read_records.proofs.MadeLaws.{partsOf, made-of}
 

@@ -15,7 +15,7 @@ use Rattle.image_spec.proofs.ParseLaws.{Exact}
 use Rattle.image_spec.proofs.FieldLaws.{list-exact}
 use Rattle.image_read_parts.specs.Standing.{Stands, ReadsAs}
 use Rattle.image_read_parts.proofs.StandingLaws.{first-run}
-use Rattle.scope_check.proofs.ListLaws.{Run, list-run, run-next}
+use Rattle.image_read_nodes.proofs.ListLaws.{Run, list-run, run-next}
 use Rattle.image_read_records.specs.Unpacked.{ListAt, HoldsAt}
 
 -- no two values stand at one place

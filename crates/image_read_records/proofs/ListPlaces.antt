@@ -22,9 +22,9 @@ use Rattle.image_read_parts.specs.Standing.{Stands}
 use Rattle.image_read_parts.specs.Parts.{listOf}
 use Rattle.image_read_parts.proofs.PartPlaces.{let-var, let-ty, let-tag, invoke-var, invoke-tag, invoke-ty}
 use Rattle.image_read_parts.proofs.NamedPlaces.{list-ok}
-use Rattle.scope_check.specs.Nodes.{recordAt, At, hasList, firstOf, firstAt}
-use Rattle.scope_check.proofs.NodeLaws.{first-stands}
-use Rattle.scope_check.proofs.ListLaws.{list-run, list-there}
+use Rattle.image_read_nodes.specs.Nodes.{recordAt, At, hasList, firstOf, firstAt}
+use Rattle.image_read_nodes.proofs.NodeLaws.{first-stands}
+use Rattle.image_read_nodes.proofs.ListLaws.{list-run, list-there}
 use Rattle.image_read_records.specs.Unpacked.{ListAt, Unpacked, NamedAt}
 use Rattle.image_read_records.proofs.FieldPlaces.{identifier-in, type-in, tail-in}
 use Rattle.image_read_records.proofs.MadeLaws.{partsOf, made, made-of}

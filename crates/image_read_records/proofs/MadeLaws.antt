@@ -16,7 +16,7 @@ use Rattle.syntax.specs.declared.ifc.IfSort.the-variants.{Equal}
 use Rattle.image_spec.specs.Records.{Record, definition, substitute, call, let', switch, create, invoke, literal, op, ifc, clause'}
 use Rattle.image_spec.specs.Kinds.{kindOf, clausesOf}
 use Rattle.image_read_parts.specs.Parts.{listOf}
-use Rattle.scope_check.specs.Nodes.{noIdentifier, firstOf, operandOf, targetOf, secondOf}
+use Rattle.image_read_nodes.specs.Nodes.{noIdentifier, firstOf, operandOf, targetOf, secondOf}
 
 -- the parts that have no name yet
 pub record Parts : Type 0 where

@@ -17,7 +17,7 @@ use Rattle.image_directory.specs.Slots.{Ready}
 use Rattle.image_directory.specs.declared.Frame.{Frame}
 use Rattle.image_read_parts.specs.Standing.{Stands}
 use Rattle.image_read_parts.specs.Parts.{listOf}
-use Rattle.scope_check.specs.Nodes.{recordAt, hasList, firstOf, firstAt}
+use Rattle.image_read_nodes.specs.Nodes.{recordAt, hasList, firstOf, firstAt}
 use Rattle.image_read_records.specs.declared.CallRecord.{CallRecord}
 use Rattle.image_read_records.specs.declared.LetRecord.{LetRecord}
 use Rattle.image_read_records.specs.declared.InvokeRecord.{InvokeRecord}

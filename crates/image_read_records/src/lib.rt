@@ -19,7 +19,7 @@ ghost use Rattle.image_spec.specs.Parse.{mark, Marked};
 ghost use Rattle.image_spec.specs.Fields.{identifierBytes, IdentifierOk};
 ghost use Rattle.scope_spec.specs.Flat.{plainRecord, smallRecord};
 ghost use Rattle.image_read_parts.specs.Standing.{ReadsAs};
-ghost use Rattle.scope_check.specs.Nodes.{recordAt, At};
+ghost use Rattle.image_read_nodes.specs.Nodes.{recordAt, At};
 ghost use Rattle.image_read_records.specs.Unpacked.{callOf, letOf, switchOf, createOf, invokeOf, literalOf, opOf, secondIs, ifcOf, Unpacked, ListAt, HoldsAt, SecondAt, NamedAt, NamedIs};
 
 pub struct CallRecord {

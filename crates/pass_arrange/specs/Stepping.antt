@@ -13,7 +13,7 @@ use Rattle.image_spec.specs.Records.{Record}
 use Rattle.image_write_directory.specs.Emitting.{Emits}
 use Rattle.image_write_directory.specs.declared.progress.Progress.{Progress}
 use Rattle.scope_spec.specs.Flat.{plainRecord, smallRecord}
-use Rattle.scope_check.specs.Nodes.{recordAt, At}
+use Rattle.image_read_nodes.specs.Nodes.{recordAt, At}
 use Rattle.pass_work_spec.specs.Work.{Work}
 use Rattle.pass_work_spec.specs.declared.Entry.{Entry}
 use Rattle.pass_context.specs.Holding.{workOf, HoldsWork}

@@ -19,7 +19,7 @@ ghost use Prim.Native.Nat.{_≤_};
 ghost use mathlib.Core.Path.{_≡_};
 ghost use lib.ListN.{length};
 ghost use Rattle.syntax.specs.Arrays.{contextOf};
-ghost use Rattle.scope_check.specs.Nodes.{recordAt};
+ghost use Rattle.image_read_nodes.specs.Nodes.{recordAt};
 ghost use Rattle.pass_work_spec.specs.Work.{movedBehind, respelledUnless};
 ghost use Rattle.pass_context.specs.Holding.{workOf, HoldsWork};
 ghost use Rattle.pass_context.specs.Masks.{keptByMask};

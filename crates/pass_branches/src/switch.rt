@@ -22,7 +22,7 @@ ghost use Prim.Native.Nat.{_+_, _<_, _≤_, _^_};
 ghost use Rattle.syntax.specs.Arrays.{setOf};
 ghost use Rattle.syntax.specs.declared.context.Chirality.the-variants.{Prd};
 ghost use Rattle.model.specs.Rules.{bind, freshVarUnless};
-ghost use Rattle.scope_check.specs.Nodes.{recordAt};
+ghost use Rattle.image_read_nodes.specs.Nodes.{recordAt};
 ghost use Rattle.pass_work_spec.specs.Work.{used};
 ghost use Rattle.pass_context.specs.Holding.{workOf};
 ghost use Rattle.pass_arrange.specs.Stepping.{RoomAt, SourceAt, Workable, OpensAs, OpenedAs, LeavesAs};

@@ -13,7 +13,7 @@ use Rattle.image_directory.specs.declared.Frame.{Frame}
 use Rattle.image_spec.specs.Records.{Record, definition, substitute, call, let', switch, create, invoke, literal, op, ifc, clause'}
 use Rattle.image_spec.specs.Kinds.{kindOf}
 use Rattle.image_write_directory.specs.declared.progress.Progress.{Progress}
-use Rattle.scope_check.specs.Nodes.{recordAt}
+use Rattle.image_read_nodes.specs.Nodes.{recordAt}
 use Rattle.image_read_records.proofs.ListPlaces.{at-made}
 use Rattle.pass_work_spec.specs.Work.{Work}
 use Rattle.pass_context.proofs.MaskLaws.{marked-past}

@@ -17,7 +17,7 @@ use Rattle.image_write_directory.specs.Emitting.{Noted}
 use Rattle.image_write_directory.specs.declared.progress.Progress.{Progress}
 use Rattle.image_write_directory.proofs.EmitLaws.{emits-one}
 use Rattle.image_read_parts.specs.Parts.{listOf}
-use Rattle.scope_check.specs.Nodes.{firstOf}
+use Rattle.image_read_nodes.specs.Nodes.{firstOf}
 use Rattle.image_read_records.specs.Unpacked.{NamedAt, NamedIs}
 use Rattle.image_read_records.specs.declared.NameAndList.{NameAndList}
 use Rattle.image_read_records.proofs.MadeLaws.{made-of}

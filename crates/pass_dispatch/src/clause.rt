@@ -8,7 +8,7 @@ use pass_arrange::stepped::Stepped;
 use pass_context::Held;
 ghost use lib.ListN.{length};
 ghost use Rattle.image_read_parts.specs.Parts.{listOf};
-ghost use Rattle.scope_check.specs.Nodes.{recordAt};
+ghost use Rattle.image_read_nodes.specs.Nodes.{recordAt};
 ghost use Rattle.pass_context.specs.Holding.{workOf};
 ghost use Rattle.pass_arrange.specs.Stepping.{RoomAt, SourceAt, Workable, Steps};
 ghost use Rattle.pass_dispatch.specs.Entering.{Enters, entering};

@@ -13,7 +13,7 @@ use pass_statements::let_;
 use pass_statements::literal;
 use pass_statements::op;
 ghost use Prim.Native.Nat.{_≤_};
-ghost use Rattle.scope_check.specs.Nodes.{recordAt};
+ghost use Rattle.image_read_nodes.specs.Nodes.{recordAt};
 ghost use Rattle.pass_context.specs.Holding.{workOf};
 ghost use Rattle.pass_arrange.specs.Stepping.{RoomAt, SourceAt, Workable, OpensAs, StepsAs, LeavesAs};
 ghost use Rattle.pass_dispatch.specs.Choices.{Binds, Settles};

@@ -10,7 +10,7 @@ use pass_arrange::fresh::with_max_id;
 use pass_context::Held;
 use syntax::context::TypingContext;
 use syntax::sets::IdSet;
-ghost use Rattle.scope_check.specs.Nodes.{recordAt};
+ghost use Rattle.image_read_nodes.specs.Nodes.{recordAt};
 ghost use Rattle.pass_context.specs.Holding.{workOf};
 ghost use Rattle.pass_arrange.specs.Stepping.{RoomAt, SourceAt, Workable, LeavesAs};
 

@@ -11,7 +11,7 @@ use syntax::names::Name;
 use syntax::names::VarId;
 ghost use Prim.Native.Nat.{_≤_};
 ghost use mathlib.Core.Path.{_≡_};
-ghost use Rattle.scope_check.specs.Nodes.{recordAt};
+ghost use Rattle.image_read_nodes.specs.Nodes.{recordAt};
 ghost use Rattle.image_read_records.specs.Unpacked.{secondIs};
 ghost use Rattle.image_write_records.specs.Marks.{ifMarked};
 ghost use Rattle.pass_work_spec.specs.Work.{usedOption};

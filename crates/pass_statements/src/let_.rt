@@ -11,7 +11,7 @@ use pass_arrange::stepped::Stepped;
 use pass_context::Held;
 use syntax::context::Chirality;
 use syntax::context::ContextBinding;
-ghost use Rattle.scope_check.specs.Nodes.{recordAt};
+ghost use Rattle.image_read_nodes.specs.Nodes.{recordAt};
 ghost use Rattle.pass_context.specs.Holding.{workOf};
 ghost use Rattle.pass_arrange.specs.Stepping.{RoomAt, SourceAt, Workable, StepsAs};
 

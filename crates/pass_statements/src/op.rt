@@ -15,7 +15,7 @@ use syntax::names::VarId;
 use syntax::types::Ty;
 ghost use Prim.Native.Nat.{_≤_};
 ghost use mathlib.Core.Path.{_≡_};
-ghost use Rattle.scope_check.specs.Nodes.{recordAt};
+ghost use Rattle.image_read_nodes.specs.Nodes.{recordAt};
 ghost use Rattle.pass_context.specs.Holding.{workOf, HoldsWork};
 ghost use Rattle.pass_statements.specs.Inputs.{inputOrMarked, keptWithInputs};
 ghost use Rattle.pass_arrange.specs.Stepping.{RoomAt, SourceAt, Workable, StepsAs};

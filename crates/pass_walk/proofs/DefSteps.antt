@@ -21,7 +21,7 @@ use Rattle.image_places_spec.specs.Places.{stmtAt, Begins}
 use Rattle.image_places_spec.proofs.PlaceLaws.{begins-left, begins-right}
 use Rattle.scope_spec.specs.FreeRows.{maskOf, rowUnder, rowsStmt, rowsDefs}
 use Rattle.scope_spec.proofs.FreeViews.{rows-length}
-use Rattle.scope_check.specs.Nodes.{recordAt}
+use Rattle.image_read_nodes.specs.Nodes.{recordAt}
 use Rattle.scope_check.proofs.DefLaws.{DefsLeft, DefNext, defOf, def-turn, def-kind, defs-end}
 use Rattle.pass_work_spec.specs.Work.{Work, owns, workStmt, workDefs}
 use Rattle.pass_work_spec.specs.Placed.{AllFitDefs}

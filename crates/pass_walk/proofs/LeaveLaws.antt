@@ -10,7 +10,7 @@ use Rattle.image_spec.specs.Records.{Record, definition, substitute, call, let'
 use Rattle.image_directory.specs.declared.Frame.{Frame}
 use Rattle.image_write_directory.specs.declared.progress.Progress.{Progress}
 use Rattle.image_places_spec.specs.Views.{binders}
-use Rattle.scope_check.specs.Nodes.{recordAt, At}
+use Rattle.image_read_nodes.specs.Nodes.{recordAt, At}
 use Rattle.image_read_records.proofs.ListPlaces.{at-made}
 use Rattle.pass_work_spec.specs.Work.{Work}
 use Rattle.pass_context.specs.Holding.{workOf}

@@ -24,8 +24,8 @@ use Rattle.image_places_spec.proofs.PlaceLaws.{begins-left, begins-right}
 use Rattle.image_places_spec.proofs.Steps.{ClausesLeft, ClauseNext, clause-turn, clauses-end, BodiesLeft, BodyNext, body-next, body-turn, bodies-end}
 use Rattle.scope_spec.specs.FreeRows.{maskOf, rowUnder, rowsStmt, rowsClauses, rowsBodies}
 use Rattle.scope_spec.proofs.FreeViews.{rows-length}
-use Rattle.scope_check.specs.Nodes.{recordAt}
-use Rattle.scope_check.proofs.StepLaws.{clause-kind}
+use Rattle.image_read_nodes.specs.Nodes.{recordAt}
+use Rattle.image_read_nodes.proofs.StepLaws.{clause-kind}
 use Rattle.pass_work_spec.specs.Work.{Work, owns, workStmt, workClauses}
 use Rattle.pass_work_spec.specs.Placed.{AllFit, AllFitClauses}
 use Rattle.pass_work_spec.proofs.Rooms.{here-fits, clauses-fit}

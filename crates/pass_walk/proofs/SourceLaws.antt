@@ -22,7 +22,7 @@ use Rattle.scope_spec.specs.Flat.{plainRecord, smallRecord}
 use Rattle.scope_spec.specs.FreeRows.{bit, maskOf}
 use Rattle.scope_spec.proofs.FreeViews.{Plain}
 use Rattle.scope_spec.proofs.RowLaws.{mask-at}
-use Rattle.scope_check.specs.Nodes.{At}
+use Rattle.image_read_nodes.specs.Nodes.{At}
 use Rattle.annotate_uses.proofs.CountLaws.{record-at}
 use Rattle.pass_work_spec.specs.Work.{Work}
 use Rattle.pass_work_spec.specs.Placed.{Placed, AllFit}

@@ -24,10 +24,10 @@ use Rattle.image_places_spec.proofs.Steps.{head-inside, Below}
 use Rattle.scope_spec.specs.Flat.{plainRecord}
 use Rattle.scope_spec.specs.FreeRows.{maskOf, rowOf, rowsClauses, rowsBodies}
 use Rattle.scope_spec.proofs.FreeViews.{Plain, rows-view, rows-clauses-length}
-use Rattle.scope_check.specs.Nodes.{recordAt}
-use Rattle.scope_check.specs.Walks.{Followed}
-use Rattle.scope_check.specs.declared.walk.Follows.{Follows}
-use Rattle.scope_check.proofs.StepLaws.{head-is, above-at, below-at}
+use Rattle.image_read_nodes.specs.Nodes.{recordAt}
+use Rattle.image_read_nodes.specs.Nodes.{Followed}
+use Rattle.image_read_nodes.specs.declared.Follows.{Follows}
+use Rattle.image_read_nodes.proofs.StepLaws.{head-is, above-at, below-at}
 use Rattle.annotate_uses.proofs.CountLaws.{record-at}
 use Rattle.pass_work_spec.specs.Work.{Work, workStmt}
 use Rattle.pass_work_spec.proofs.Rooms.{here-fits}

@@ -21,10 +21,10 @@ use Rattle.image_places_spec.specs.Views.{recordOf, clausesIn, binders}
 use Rattle.image_places_spec.specs.Places.{stmtAt, clausesAt, Begins}
 use Rattle.image_places_spec.proofs.Steps.{Above, Below}
 use Rattle.scope_spec.specs.FreeRows.{rowsClauses, rowsBodies}
-use Rattle.scope_check.specs.Nodes.{recordAt}
-use Rattle.scope_check.specs.Walks.{Followed}
-use Rattle.scope_check.specs.declared.walk.Follows.{Follows}
-use Rattle.scope_check.proofs.StepLaws.{above-at}
+use Rattle.image_read_nodes.specs.Nodes.{recordAt}
+use Rattle.image_read_nodes.specs.Nodes.{Followed}
+use Rattle.image_read_nodes.specs.declared.Follows.{Follows}
+use Rattle.image_read_nodes.proofs.StepLaws.{above-at}
 use Rattle.pass_work_spec.specs.Work.{Work, workStmt, workClauses}
 use Rattle.pass_context.specs.Holding.{workOf, HoldsWork}
 use Rattle.pass_context.specs.declared.Held.{Held}

@@ -2,6 +2,7 @@
 // step's; here is only the order: clauses first, then the step, then the bodies. What stands before the clauses is written once they are done,
 // for they draw first; its place is kept free.
 use image_directory::Frame;
+use image_read_nodes::parts_of;
 use image_write_directory::progress::Progress;
 use pass_arrange::fresh::with_max_id;
 use pass_branches::create;
@@ -11,7 +12,6 @@ use pass_dispatch::clause::enter;
 use pass_dispatch::step::bind;
 use pass_dispatch::step::open;
 use pass_dispatch::step::settle;
-use scope_check::walk::parts_of;
 use syntax::names::VarId;
 ghost use mathlib.Core.Path.{_≡_};
 ghost use mathlib.Core.Bool.{_&&_, _||_};

@@ -1,10 +1,8 @@
 -- The laws of the scope check's code.
-pub mod TailLaws
-pub mod NodeLaws
-pub mod ListLaws
+pub mod FlatLaws
 pub mod EnterLaws
 pub mod UseLaws
-pub mod StepLaws
+pub mod WalkViews
 pub mod MaskLaws
 pub mod SourceLaws
 pub mod MaskSteps

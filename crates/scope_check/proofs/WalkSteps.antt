@@ -29,7 +29,7 @@ use Rattle.scope_check.specs.declared.scoping.Entering.{Entering}
 use Rattle.scope_check.specs.declared.walk.Walked.{Walked}
 use Rattle.scope_check.proofs.EnterLaws.{entered-all}
 use Rattle.scope_check.proofs.SourceLaws.{clause-body}
-use Rattle.scope_check.proofs.StepLaws.{afterClauses, walk-view}
+use Rattle.scope_check.proofs.WalkViews.{afterClauses, walk-view}
 use Rattle.scope_check.proofs.MaskSteps.{binders-fit, MasksClauses, clause-masked, clauses-masked, MasksBodies, body-masked, bodies-masked}
 
 -- ── a statement ──

@@ -1,5 +1,5 @@
 -- What the functions of the scope check answer for one record, and for the records from a place on.
-pub mod Nodes
+pub mod Environments
 pub mod Scoping
 pub mod Walks
 pub mod Masks

@@ -12,7 +12,8 @@ ghost use lib.Dec.{leb};
 ghost use Rattle.image_spec.specs.Kinds.{clausesOf};
 ghost use Rattle.scope_spec.specs.Flat.{allRecords, plainRecord, smallRecord};
 ghost use Rattle.image_directory.specs.Slots.{Ready, recordsIn};
-ghost use Rattle.scope_check.specs.Nodes.{recordAt, At, smallEnvironment};
+ghost use Rattle.image_read_nodes.specs.Nodes.{recordAt, At};
+ghost use Rattle.scope_check.specs.Environments.{smallEnvironment};
 
 // The largest count in a record of a source (question 7).
 pub const MAX_COUNT: u8 = 32;

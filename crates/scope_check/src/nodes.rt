@@ -5,11 +5,13 @@ use crate::scoping::enter_one;
 use crate::scoping::use_one;
 use image_directory::Frame;
 use image_fields::count;
-use image_kinds::kinds::Kind;
+use image_read_nodes::first;
+use image_read_nodes::list_at;
+use image_read_nodes::operand;
+use image_read_nodes::target;
 use image_read_parts::byte;
 use image_read_parts::identifier;
 use image_read_parts::identifier_at;
-use image_read_parts::offset;
 use syntax::names::Identifier;
 ghost use mathlib.Core.Path.{_≡_};
 ghost use mathlib.Core.Bool.{true};
@@ -21,55 +23,8 @@ ghost use Rattle.image_read_parts.specs.Standing.{Stands};
 ghost use Rattle.image_places_spec.specs.Views.{binders, usesOf};
 ghost use Rattle.scope_spec.specs.Walk.{enterAll};
 ghost use Rattle.image_read_parts.specs.Parts.{listOf};
-ghost use Rattle.scope_check.specs.Nodes.{recordAt, At, hasList, firstAt, firstOf, operandOf, targetOf, secondOf};
+ghost use Rattle.image_read_nodes.specs.Nodes.{recordAt, At, hasList, firstAt, firstOf, operandOf, targetOf, secondOf};
 ghost use Rattle.scope_check.specs.Scoping.{scopeIn, ScopeAt, usedAll, scopedOf, Entered};
-
-// Where the list of the record at index i begins, with its count.
-pub fn list_at(s: &[u8], g: Frame, i: usize, kind: u8) -> usize
-    requires { ⌜ At g (now s) i kind × (hasList kind ≡ true) ⌝ }
-    ensures { λ r. ⌜ Stands (listBytes (g .id)) (ListOk (g .id)) (now (s .entry)) r (listOf (recordAt g (now (s .entry)) i)) ⌝ }
-{
-    let w = g.id;
-    offset(s, g, i) + Kind::fixed(kind, w)
-}
-
-fn first_at(kind: u8) -> usize
-    ensures { λ r. ⌜ r ≡ firstAt kind ⌝ }
-{
-    if kind == 8 {
-        return 9;
-    }
-    if kind == 10 {
-        return 2;
-    }
-    1
-}
-
-// The first identifier of the record at index i. (A Substitute has none.)
-pub fn first(s: &[u8], g: Frame, i: usize, kind: u8) -> Identifier
-    requires { ⌜ At g (now s) i kind × (kind ≡ 2 → ⊥) ⌝ }
-    ensures { λ r. ⌜ r ≡ firstOf (recordAt g (now (s .entry)) i) ⌝ }
-{
-    identifier(s, g, i, first_at(kind))
-}
-
-// The second operand of the Op at index i.
-pub fn operand(s: &[u8], g: Frame, i: usize) -> Identifier
-    requires { ⌜ At g (now s) i 9 ⌝ }
-    ensures { λ r. ⌜ r ≡ operandOf (recordAt g (now (s .entry)) i) ⌝ }
-{
-    let w = g.id;
-    identifier(s, g, i, 4 + w)
-}
-
-// The var of the Op at index i.
-pub fn target(s: &[u8], g: Frame, i: usize) -> Identifier
-    requires { ⌜ At g (now s) i 9 ⌝ }
-    ensures { λ r. ⌜ r ≡ targetOf (recordAt g (now (s .entry)) i) ⌝ }
-{
-    let w = g.id;
-    identifier(s, g, i, 6 + (w + w))
-}
 
 // Uses the bindings of a record's list.
 pub fn use_list(s: &[u8], g: Frame, i: usize, kind: u8, scope: &[u32], n: usize, u: Using) -> Using

@@ -8,10 +8,7 @@ use crate::nodes::use_node;
 use crate::scoping::Entering;
 use crate::scoping::Using;
 use image_directory::Frame;
-use image_fields::count;
-use image_kinds::kinds::Kind;
-use image_shape::Node;
-use image_shape::look;
+use image_read_nodes::parts_of;
 use scope_spec::Verdict;
 ghost use mathlib.Core.Path.{_≡_};
 ghost use mathlib.Core.Bool.{true};
@@ -28,46 +25,17 @@ ghost use Rattle.image_places_spec.specs.Views.{binders};
 ghost use Rattle.scope_spec.specs.Walk.{enterAll, walkStmt, walkClauses, walkBodies};
 ghost use Rattle.scope_spec.specs.FreeRows.{maskOf, freeBodies, rowsStmt, rowsClauses, rowsBodies};
 ghost use Rattle.image_read_parts.specs.Parts.{listOf};
-ghost use Rattle.scope_check.specs.Nodes.{recordAt, At, hasList};
+ghost use Rattle.image_read_nodes.specs.Nodes.{recordAt, At, hasList};
 ghost use Rattle.scope_check.specs.Scoping.{scopeIn, ScopeAt, Entered, Kept};
-ghost use Rattle.scope_check.specs.Walks.{Followed, WalkedTo};
+ghost use Rattle.image_read_nodes.specs.Nodes.{Followed};
+ghost use Rattle.scope_check.specs.Walks.{WalkedTo};
 ghost use Rattle.scope_check.specs.Masks.{Sourced, SourcedClauses, MaskedTo};
-
-// The kind of a record, and what follows it: clauses, then bodies.
-pub struct Follows {
-    pub kind: u8,
-    pub clauses: usize,
-    pub bodies: usize,
-}
 
 // Where the walk has come to, its verdict so far, and the free variables of what it came through, as a mask over the places in scope.
 pub struct Walked {
     pub next: usize,
     pub verdict: Verdict,
     pub free: u64,
-}
-
-// What follows the record at index i.
-pub fn parts_of(s: &[u8], g: Frame, i: usize) -> Follows
-    requires { ⌜ Ready g (now s) × (i < g .count) ⌝ }
-    ensures { λ r. ⌜ Followed g (now (s .entry)) i r ⌝ }
-{
-    match look(s, g, i) {
-        Node::Is { kind, clauses } => {
-            let c = count(clauses);
-            let b = Kind::bodies(kind);
-            Follows {
-                kind,
-                clauses: c,
-                bodies: b,
-            }
-        }
-        Node::End => Follows {
-            kind: 0,
-            clauses: 0,
-            bodies: 0,
-        },
-    }
 }
 
 // Binds what the list of the clause or definition at a place binds.

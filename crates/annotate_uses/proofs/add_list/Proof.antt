@@ -6,8 +6,8 @@ use Rattle.syntax.specs.Arrays.{setOf}
 use Rattle.syntax.specs.Context.{ids}
 use Rattle.syntax.proofs.Lists.{long}
 use Rattle.image_read_parts.specs.Parts.{listOf}
-use Rattle.scope_check.specs.Nodes.{recordAt}
-use Rattle.scope_check.proofs.ListLaws.{list-run, Left, left-start, left-inside, left-turn, left-end}
+use Rattle.image_read_nodes.specs.Nodes.{recordAt}
+use Rattle.image_read_nodes.proofs.ListLaws.{list-run, Left, left-start, left-inside, left-turn, left-end}
 use Rattle.annotate_uses.specs.Sets.{Room}
 use Rattle.annotate_uses.proofs.SetLaws.{behind, oneBehind, behind-step, behind-none, set-stored, room-more, room-holds}
 use Rattle.annotate_uses.proofs.add_list.Statement.{statement}

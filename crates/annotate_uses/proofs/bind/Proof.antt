@@ -6,7 +6,7 @@ use Rattle.syntax.specs.Arrays.{setOf, SetHolds}
 use Rattle.syntax.specs.declared.names.Identifier.{Identifier}
 use Rattle.syntax.specs.declared.names.VarId.{VarId}
 use Rattle.image_read_parts.specs.Parts.{listOf}
-use Rattle.scope_check.specs.Nodes.{recordAt}
+use Rattle.image_read_nodes.specs.Nodes.{recordAt}
 use Rattle.annotate_uses.proofs.SetLaws.{at-kind}
 use Rattle.annotate_uses.proofs.KindLaws.{binders-by, binders-none}
 use Rattle.annotate_uses.proofs.BindLaws.{bound-by, scope-room}

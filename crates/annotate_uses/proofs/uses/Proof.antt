@@ -9,7 +9,7 @@ use Rattle.syntax.specs.declared.names.Identifier.{Identifier}
 use Rattle.model.specs.FreeVars.{optionalId}
 use Rattle.image_places_spec.specs.Views.{usesOf}
 use Rattle.image_read_parts.specs.Parts.{listOf}
-use Rattle.scope_check.specs.Nodes.{recordAt, firstOf, operandOf, secondOf}
+use Rattle.image_read_nodes.specs.Nodes.{recordAt, firstOf, operandOf, secondOf}
 use Rattle.annotate_uses.proofs.SetLaws.{list-room, at-kind, room-of, set-then}
 use Rattle.annotate_uses.proofs.KindLaws.{uses-by, uses-none}
 use Rattle.annotate_uses.proofs.uses.Statement.{statement}

@@ -5,7 +5,7 @@ use mathlib.Core.Path.{sym, _∙_}
 use native.Mathlib.Omega.{arith}
 use denote.Ref.{now}
 use Rattle.image_spec.specs.Records.{create}
-use Rattle.scope_check.specs.Nodes.{recordAt}
+use Rattle.image_read_nodes.specs.Nodes.{recordAt}
 use Rattle.image_read_records.proofs.FieldPlaces.{HeadThere, create-there}
 use Rattle.image_read_records.proofs.create.Statement.{statement}
 use Rattle.image_read_records.proofs.create.Tie as tie

@@ -5,7 +5,7 @@ use denote.Ref.{now}
 use Rattle.image_spec.specs.Fields.{sorts, sortCode}
 use Rattle.image_spec.specs.Records.{ifc}
 use Rattle.image_spec.proofs.FieldLaws.{sort-exact}
-use Rattle.scope_check.specs.Nodes.{recordAt}
+use Rattle.image_read_nodes.specs.Nodes.{recordAt}
 use Rattle.image_read_records.proofs.FieldPlaces.{code-known, IfCThere, ifc-there}
 use Rattle.image_read_records.proofs.ifc.Statement.{statement}
 use Rattle.image_read_records.proofs.ifc.Tie as tie

@@ -4,7 +4,7 @@ use native.Mathlib.Omega.{arith}
 use denote.Ref.{now}
 use Rattle.image_spec.specs.Records.{invoke}
 use Rattle.scope_spec.specs.Flat.{smallRecord}
-use Rattle.scope_check.specs.Nodes.{recordAt}
+use Rattle.image_read_nodes.specs.Nodes.{recordAt}
 use Rattle.image_read_records.proofs.ListPlaces.{list-at, unpacked, InvokeThere, invoke-there}
 use Rattle.image_read_records.proofs.invoke.Statement.{statement}
 use Rattle.image_read_records.proofs.invoke.Tie as tie

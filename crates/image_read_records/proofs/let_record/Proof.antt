@@ -4,7 +4,7 @@ use native.Mathlib.Omega.{arith}
 use denote.Ref.{now}
 use Rattle.image_spec.specs.Records.{let'}
 use Rattle.scope_spec.specs.Flat.{smallRecord}
-use Rattle.scope_check.specs.Nodes.{recordAt}
+use Rattle.image_read_nodes.specs.Nodes.{recordAt}
 use Rattle.image_read_records.proofs.ListPlaces.{list-at, unpacked, LetThere, let-there}
 use Rattle.image_read_records.proofs.let_record.Statement.{statement}
 use Rattle.image_read_records.proofs.let_record.Tie as tie

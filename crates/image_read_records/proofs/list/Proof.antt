@@ -6,7 +6,7 @@ use Rattle.syntax.specs.Flat.{bindingOf}
 use Rattle.syntax.specs.Arrays.{bindingsIn}
 use Rattle.syntax.proofs.Lists.{long}
 use Rattle.syntax.proofs.Flats.{long-seen, seen-set}
-use Rattle.scope_check.proofs.ListLaws.{list-run}
+use Rattle.image_read_nodes.proofs.ListLaws.{list-run}
 use Rattle.image_read_records.proofs.FillLaws.{Filling, filling-start, filling-inside, filling-turn, filling-end}
 use Rattle.image_read_records.proofs.list.Statement.{statement}
 use Rattle.image_read_records.proofs.list.Tie as tie

@@ -7,7 +7,7 @@ use mir.Syntax.{w64}
 use mir.Val.{ofZ, toZ}
 use mir.ValLaws.{toZ-ofZ}
 use Rattle.image_spec.specs.Records.{literal}
-use Rattle.scope_check.specs.Nodes.{recordAt}
+use Rattle.image_read_nodes.specs.Nodes.{recordAt}
 use Rattle.image_read_records.proofs.FieldPlaces.{LiteralThere, literal-there}
 use Rattle.image_read_records.proofs.literal.Statement.{statement}
 use Rattle.image_read_records.proofs.literal.Tie as tie

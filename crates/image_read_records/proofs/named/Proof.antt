@@ -3,7 +3,7 @@ use Prim.Native.Nat.{_+_, _<_}
 use native.Mathlib.Omega.{arith}
 use lib.ListN.{length}
 use denote.Ref.{now}
-use Rattle.scope_check.proofs.ListLaws.{list-run}
+use Rattle.image_read_nodes.proofs.ListLaws.{list-run}
 use Rattle.image_read_records.proofs.ListPlaces.{named-first, named-list}
 use Rattle.image_read_records.proofs.named.Statement.{statement}
 use Rattle.image_read_records.proofs.named.Tie as tie

@@ -5,7 +5,7 @@ use denote.Ref.{now}
 use Rattle.image_spec.specs.Fields.{operators, operatorCode}
 use Rattle.image_spec.specs.Records.{op}
 use Rattle.image_spec.proofs.FieldLaws.{operator-exact}
-use Rattle.scope_check.specs.Nodes.{recordAt}
+use Rattle.image_read_nodes.specs.Nodes.{recordAt}
 use Rattle.image_read_records.proofs.FieldPlaces.{code-known, OpThere, op-there}
 use Rattle.image_read_records.proofs.op.Statement.{statement}
 use Rattle.image_read_records.proofs.op.Tie as tie

@@ -4,7 +4,7 @@ use mathlib.Core.Path.{sym, _∙_}
 use native.Mathlib.Omega.{arith}
 use denote.Ref.{now}
 use Rattle.image_spec.specs.Records.{switch}
-use Rattle.scope_check.specs.Nodes.{recordAt}
+use Rattle.image_read_nodes.specs.Nodes.{recordAt}
 use Rattle.image_read_records.proofs.FieldPlaces.{HeadThere, switch-there}
 use Rattle.image_read_records.proofs.switch.Statement.{statement}
 use Rattle.image_read_records.proofs.switch.Tie as tie

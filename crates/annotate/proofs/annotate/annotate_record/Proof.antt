@@ -4,7 +4,7 @@ use native.Mathlib.Omega.{arith}
 use borrow.Author.Needs.{needs}
 use denote.Ref.{now}
 use lib.ListN.{length-replicate}
-use Rattle.scope_check.specs.Nodes.{recordAt}
+use Rattle.image_read_nodes.specs.Nodes.{recordAt}
 use Rattle.annotate.specs.Annotating.{annotatedKind}
 use Rattle.annotate.proofs.AnnotateLaws.{has-kind, place-yes, place-no, limited-annotated, settled, misplaced}
 use Rattle.annotate.proofs.annotate.annotate_record.Statement.{statement}

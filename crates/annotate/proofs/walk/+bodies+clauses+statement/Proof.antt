@@ -16,8 +16,8 @@ use Rattle.image_places_spec.proofs.PlaceLaws.{stmt-parts}
 use Rattle.image_places_spec.proofs.Steps.{head-inside, ClausesLeft, clause-next, BodiesLeft, body-next}
 use Rattle.scope_spec.specs.Flat.{smallRecord}
 use Rattle.scope_spec.specs.Marking.{markAll, markClauses, markBodies}
-use Rattle.scope_check.specs.Nodes.{recordAt}
-use Rattle.scope_check.proofs.StepLaws.{above-at, below-at, clause-kind}
+use Rattle.image_read_nodes.specs.Nodes.{recordAt}
+use Rattle.image_read_nodes.proofs.StepLaws.{above-at, below-at, clause-kind}
 use Rattle.annotate_uses.proofs.BindLaws.{binders-room, clause-bound}
 use Rattle.annotate_uses.proofs.CountLaws.{record-at, uses-few}
 use Rattle.annotate.proofs.MarkSteps.{clauses-room, bodies-room, marked-stmt, MarksClauses, clause-room, clause-marked, marked-clauses, MarksBodies, body-marked, marked-bodies}
@@ -33,7 +33,7 @@ use Rattle.annotate.proofs.walk.statement.Reads as statement′
 use Rattle.annotate.proofs.walk.statement.Kinds as statement-kinds
 use Rattle.annotate.proofs.walk.+bodies+clauses+statement.Lts-statement as statement-lts
 use Rattle.annotate_uses.proofs.bind.Reads as bind-reads
-use Rattle.scope_check.proofs.walk.parts_of.Reads as parts-of-reads
+use Rattle.image_read_nodes.proofs.parts_of.Reads as parts-of-reads
 use Rattle.annotate_marks.proofs.mark_all.Reads as mark-all-reads
 use Rattle.annotate_uses.proofs.uses.Reads as uses-reads
 use Rattle.annotate.proofs.walk.+bodies+clauses+statement.{statement}

@@ -8,7 +8,7 @@ use denote.Ref.{now}
 use lib.ListN.{length}
 use Rattle.syntax.specs.Context.{sameContext}
 use Rattle.syntax.specs.Arrays.{contextOf, setOf}
-use Rattle.scope_check.specs.Nodes.{recordAt}
+use Rattle.image_read_nodes.specs.Nodes.{recordAt}
 use Rattle.pass_work_spec.specs.Work.{bindings}
 use Rattle.pass_context.specs.Holding.{workOf}
 use Rattle.pass_arrange.specs.Stepping.{Paired}

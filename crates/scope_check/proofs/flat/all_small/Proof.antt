@@ -8,7 +8,7 @@ use denote.Ref.{now}
 use Rattle.image_directory.specs.Slots.{recordsIn}
 use Rattle.image_directory.proofs.Places.{records-length}
 use Rattle.scope_spec.specs.Flat.{allRecords, smallRecord}
-use Rattle.scope_check.proofs.TailLaws.{all-step, all-end}
+use Rattle.scope_check.proofs.FlatLaws.{all-step, all-end}
 use Rattle.scope_check.proofs.flat.all_small.Statement.{statement}
 use Rattle.scope_check.proofs.flat.all_small.Tie as tie
 

@@ -7,9 +7,10 @@ use borrow.Author.Needs.{needs}
 use denote.Ref.{now}
 use lib.ListN.{getD}
 use Rattle.image_spec.specs.Kinds.{kindOf}
-use Rattle.scope_check.specs.Nodes.{recordAt, At}
+use Rattle.image_read_nodes.specs.Nodes.{recordAt, At}
 use Rattle.image_read_parts.proofs.StandingLaws.{kind-stands}
-use Rattle.scope_check.proofs.TailLaws.{of-kind, mark-more, plain-is, kind-there, TailAt, tail-there}
+use Rattle.image_read_nodes.proofs.TailLaws.{of-kind, mark-more, kind-there, TailAt, tail-there}
+use Rattle.scope_check.proofs.FlatLaws.{plain-is}
 use Rattle.scope_check.proofs.flat.plain_record.Statement.{statement}
 use Rattle.scope_check.proofs.flat.plain_record.Tie as tie
 

@@ -2,7 +2,7 @@
 use mathlib.Core.Path.{refl, sym, _∙_}
 use borrow.Author.Needs.{needs}
 use denote.Ref.{now}
-use Rattle.scope_check.proofs.TailLaws.{looked, not-nowhere}
+use Rattle.image_read_nodes.proofs.TailLaws.{looked, not-nowhere}
 use Rattle.scope_check.proofs.flat.small_create.Statement.{statement}
 use Rattle.scope_check.proofs.flat.small_create.Tie as tie
 

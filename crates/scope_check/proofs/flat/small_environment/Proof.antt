@@ -5,8 +5,9 @@ use native.Mathlib.Omega.{arith}
 use borrow.Author.Tests.{eq-eqb, ne-eqb}
 use denote.Ref.{now}
 use Rattle.image_spec.specs.Kinds.{fixed}
-use Rattle.scope_check.specs.Nodes.{recordAt}
-use Rattle.scope_check.proofs.TailLaws.{tail-byte, tail-room, mark-more, environment-is}
+use Rattle.image_read_nodes.specs.Nodes.{recordAt}
+use Rattle.image_read_nodes.proofs.TailLaws.{tail-byte, tail-room, mark-more}
+use Rattle.scope_check.proofs.FlatLaws.{environment-is}
 use borrow.Author.Needs.{needs}
 use Rattle.scope_check.proofs.flat.small_environment.Statement.{statement}
 use Rattle.scope_check.proofs.flat.small_environment.Tie as tie

@@ -7,10 +7,11 @@ use borrow.Author.Needs.{needs}
 use denote.Ref.{now}
 use lib.ListN.{getD}
 use Rattle.image_spec.specs.Kinds.{kindOf}
-use Rattle.scope_check.specs.Nodes.{recordAt, At}
+use Rattle.image_read_nodes.specs.Nodes.{recordAt, At}
 use Rattle.image_read_parts.proofs.StandingLaws.{kind-stands}
-use Rattle.scope_check.proofs.TailLaws.{of-kind, tail-some, small-is, kind-there, TailAt, tail-there}
-use Rattle.scope_check.proofs.NodeLaws.{kind-below}
+use Rattle.image_read_nodes.proofs.TailLaws.{of-kind, tail-some, kind-there, TailAt, tail-there}
+use Rattle.scope_check.proofs.FlatLaws.{small-is}
+use Rattle.image_read_nodes.proofs.NodeLaws.{kind-below}
 use Rattle.scope_check.proofs.flat.small_record.Statement.{statement}
 use Rattle.scope_check.proofs.flat.small_record.Tie as tie
 

@@ -6,9 +6,9 @@ use denote.Ref.{now}
 use Rattle.syntax.specs.Context.{ids}
 use Rattle.scope_spec.specs.Walk.{enterOne, enterAll}
 use Rattle.image_read_parts.specs.Parts.{listOf}
-use Rattle.scope_check.specs.Nodes.{recordAt}
+use Rattle.image_read_nodes.specs.Nodes.{recordAt}
 use Rattle.scope_check.specs.Scoping.{ScopeAt, Kept, scopedOf}
-use Rattle.scope_check.proofs.ListLaws.{list-run, Left, left-start, left-inside, left-turn, left-end}
+use Rattle.image_read_nodes.proofs.ListLaws.{list-run, Left, left-start, left-inside, left-turn, left-end}
 use Rattle.scope_check.proofs.EnterLaws.{kept-all, kept-then}
 use Rattle.scope_check.proofs.nodes.enter_list.Statement.{statement}
 use Rattle.scope_check.proofs.nodes.enter_list.Tie as tie

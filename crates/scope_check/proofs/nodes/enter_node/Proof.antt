@@ -10,9 +10,9 @@ use Rattle.syntax.specs.declared.names.Identifier.{Identifier}
 use Rattle.image_spec.specs.Kinds.{kindOf}
 use Rattle.image_places_spec.specs.Views.{binders}
 use Rattle.image_read_parts.specs.Parts.{listOf}
-use Rattle.scope_check.specs.Nodes.{recordAt, firstOf, targetOf}
+use Rattle.image_read_nodes.specs.Nodes.{recordAt, firstOf, targetOf}
 use Rattle.scope_check.specs.Scoping.{scopedOf}
-use Rattle.scope_check.proofs.NodeLaws.{binders-are}
+use Rattle.image_read_nodes.proofs.NodeLaws.{binders-are}
 use Rattle.scope_check.proofs.EnterLaws.{entered-none, entered-same}
 use Rattle.scope_check.proofs.nodes.enter_node.Statement.{statement}
 use Rattle.scope_check.proofs.nodes.enter_node.Tie as tie

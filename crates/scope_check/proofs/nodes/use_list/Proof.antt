@@ -5,9 +5,9 @@ use native.Mathlib.Omega.{arith}
 use denote.Ref.{now}
 use Rattle.syntax.specs.Context.{ids}
 use Rattle.image_read_parts.specs.Parts.{listOf}
-use Rattle.scope_check.specs.Nodes.{recordAt}
+use Rattle.image_read_nodes.specs.Nodes.{recordAt}
 use Rattle.scope_check.specs.Scoping.{scopeIn, usedAll}
-use Rattle.scope_check.proofs.ListLaws.{list-run, Left, left-start, left-inside, left-turn, left-end}
+use Rattle.image_read_nodes.proofs.ListLaws.{list-run, Left, left-start, left-inside, left-turn, left-end}
 use Rattle.scope_check.proofs.UseLaws.{used-none, used-more}
 use Rattle.scope_check.proofs.nodes.use_list.Statement.{statement}
 use Rattle.scope_check.proofs.nodes.use_list.Tie as tie

@@ -9,9 +9,9 @@ use Rattle.model.specs.FreeVars.{optionalId}
 use Rattle.image_spec.specs.Kinds.{kindOf}
 use Rattle.image_places_spec.specs.Views.{usesOf}
 use Rattle.image_read_parts.specs.Parts.{listOf}
-use Rattle.scope_check.specs.Nodes.{recordAt, firstOf, operandOf, secondOf}
+use Rattle.image_read_nodes.specs.Nodes.{recordAt, firstOf, operandOf, secondOf}
 use Rattle.scope_check.specs.Scoping.{scopeIn}
-use Rattle.scope_check.proofs.NodeLaws.{uses-are}
+use Rattle.image_read_nodes.proofs.NodeLaws.{uses-are}
 use Rattle.scope_check.proofs.UseLaws.{used-none, used-same, used-then}
 use borrow.Author.Needs.{needs}
 use Rattle.scope_check.proofs.nodes.use_node.Statement.{statement}

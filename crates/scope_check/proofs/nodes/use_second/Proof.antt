@@ -10,10 +10,10 @@ use Rattle.image_spec.specs.Fields.{identifierBytes, IdentifierOk}
 use Rattle.image_spec.specs.Records.{recordBytes}
 use Rattle.image_read_parts.specs.Standing.{Stands}
 use Rattle.image_spec.specs.Kinds.{fixed}
-use Rattle.scope_check.specs.Nodes.{recordAt}
+use Rattle.image_read_nodes.specs.Nodes.{recordAt}
 use Rattle.scope_check.specs.Scoping.{scopeIn, usedAll}
-use Rattle.scope_check.proofs.TailLaws.{tail-byte, tail-room, tail-some}
-use Rattle.scope_check.proofs.NodeLaws.{record-ok, identifier-room, second-none, Second, second-some}
+use Rattle.image_read_nodes.proofs.TailLaws.{tail-byte, tail-room, tail-some}
+use Rattle.image_read_nodes.proofs.NodeLaws.{record-ok, identifier-room, second-none, Second, second-some}
 use Rattle.scope_check.proofs.UseLaws.{used-none}
 use borrow.Author.Needs.{needs}
 use Rattle.scope_check.proofs.nodes.use_second.Statement.{statement}

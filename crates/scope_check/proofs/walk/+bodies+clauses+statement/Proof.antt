@@ -19,7 +19,7 @@ use Rattle.scope_check.specs.Scoping.{scopeIn, Kept}
 use Rattle.scope_check.specs.Masks.{Sourced, SourcedClauses}
 use Rattle.scope_check.specs.declared.scoping.Using.{Using}
 use Rattle.scope_check.proofs.EnterLaws.{scope-count, kept-all, kept-then, kept-scope, kept-ids}
-use Rattle.scope_check.proofs.StepLaws.{above-at, below-at, clause-kind}
+use Rattle.image_read_nodes.proofs.StepLaws.{above-at, below-at, clause-kind}
 use Rattle.scope_check.proofs.MaskSteps.{clauses-sourced, bodies-sourced, masked-stmt, clauses-begun, bodies-begun}
 use Rattle.scope_check.proofs.WalkSteps.{walked, bound-here, WalksClauses, clause-walked, walked-clauses, WalksBodies, body-walked, walked-bodies}
 use borrow.Fn.Kinds.{In}
@@ -38,7 +38,7 @@ use Rattle.scope_check.proofs.mask.put_row.Reads as put-row-reads
 use Rattle.scope_check.proofs.nodes.use_node.Reads as use-node-reads
 use Rattle.scope_check.proofs.walk.enter_head.Reads as enter-head-reads
 use Rattle.scope_check.proofs.walk.enter_next.Reads as enter-next-reads
-use Rattle.scope_check.proofs.walk.parts_of.Reads as parts-of-reads
+use Rattle.image_read_nodes.proofs.parts_of.Reads as parts-of-reads
 use Rattle.scope_check.proofs.walk.+bodies+clauses+statement.{statement}
 use Rattle.scope_check.proofs.walk.+bodies+clauses+statement.Tie.{close}
 

@@ -24,7 +24,7 @@ use Rattle.pass_walk.proofs.walk.statement.Kinds as statement-kinds
 use Rattle.pass_walk.proofs.walk.+bodies+clauses+statement.Lts-statement as statement-lts
 use Rattle.pass_branches.proofs.create.linearize.Reads as create-linearize-reads
 use Rattle.pass_branches.proofs.switch.linearize.Reads as switch-linearize-reads
-use Rattle.scope_check.proofs.walk.parts_of.Reads as parts-of-reads
+use Rattle.image_read_nodes.proofs.parts_of.Reads as parts-of-reads
 use Rattle.pass_dispatch.proofs.clause.enter.Reads as enter-reads
 use Rattle.pass_dispatch.proofs.step.bind.Reads as bind-reads
 use Rattle.pass_dispatch.proofs.step.open.Reads as open-reads

@@ -1,10 +1,10 @@
 -- `operand` meets its contract. Assumes nothing.
 use Prim.Native.Nat.{_-_}
 use denote.Ref.{now}
-use Rattle.scope_check.proofs.NodeLaws.{identifier-room, operand-there}
+use Rattle.image_read_nodes.proofs.NodeLaws.{identifier-room, operand-there}
 use borrow.Author.Needs.{needs}
-use Rattle.scope_check.proofs.nodes.operand.Statement.{statement}
-use Rattle.scope_check.proofs.nodes.operand.Tie as tie
+use Rattle.image_read_nodes.proofs.operand.Statement.{statement}
+use Rattle.image_read_nodes.proofs.operand.Tie as tie
 
 add-identifier : tie.Need-add-identifier
 add-identifier c = search needs

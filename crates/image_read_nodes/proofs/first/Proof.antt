@@ -1,10 +1,10 @@
 -- `first` meets its contract. Assumes nothing.
 use Prim.Native.Nat.{_-_}
 use denote.Ref.{now}
-use Rattle.scope_check.proofs.NodeLaws.{identifier-room, first-there}
+use Rattle.image_read_nodes.proofs.NodeLaws.{identifier-room, first-there}
 use borrow.Author.Needs.{needs}
-use Rattle.scope_check.proofs.nodes.first.Statement.{statement}
-use Rattle.scope_check.proofs.nodes.first.Tie as tie
+use Rattle.image_read_nodes.proofs.first.Statement.{statement}
+use Rattle.image_read_nodes.proofs.first.Tie as tie
 
 first-at-requires : tie.Need-first-at-requires
 first-at-requires c κs = search needs

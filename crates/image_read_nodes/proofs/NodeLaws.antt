@@ -26,7 +26,7 @@ use Rattle.image_read_parts.specs.Standing.{Stands, RoomIn, headOf}
 use Rattle.image_read_parts.proofs.StandingLaws.{stands-room}
 use Rattle.image_places_spec.specs.Views.{binders, usesOf}
 use Rattle.image_read_parts.specs.Parts.{listOf}
-use Rattle.scope_check.specs.Nodes.{recordAt, At, firstAt, firstOf, operandOf, targetOf, secondOf}
+use Rattle.image_read_nodes.specs.Nodes.{recordAt, At, firstAt, firstOf, operandOf, targetOf, secondOf}
 
 -- the record at an index is within the limits of the layout
 pub record-ok : (g : Frame) (s : List ℕ) (i k : ℕ) → At g s i k → RecordOk (g .id) (recordAt g s i)

@@ -1,4 +1,4 @@
--- What the first bytes of a record's tail say: its mark and its counts, by its kind; and the questions of each record. Assumes nothing.
+-- What the first bytes of a record's tail say: its mark and its counts, by its kind. Assumes nothing.
 use Prim.Native.Nat.{ℕ, suc, _+_, _-_, _≤_, _<_}
 use mathlib.Core.Path.{_≡_, refl, sym, ap, _∙_}
 use mathlib.Core.Bool.{Bool, true, false, _&&_, cond}
@@ -20,8 +20,8 @@ use Rattle.image_shape.specs.declared.Node.the-variants.{Is, End}
 use Rattle.image_shape.proofs.Heads.{place, kind-small}
 use Rattle.image_read_parts.specs.Standing.{Stands, ReadsAs, RoomIn, headOf}
 use Rattle.image_read_parts.proofs.StandingLaws.{part-room, part-reads, byte-reads, kind-stands}
-use Rattle.scope_spec.specs.Flat.{allRecords, plainRecord, smallRecord}
-use Rattle.scope_check.specs.Nodes.{recordAt, At, smallEnvironment}
+use Rattle.image_read_nodes.specs.Nodes.{recordAt, At}
+use Rattle.scope_check.specs.Environments.{smallEnvironment}
 
 -- ── the record that was looked at ──
 
@@ -116,62 +116,3 @@ mark-more w (literal z v) a = absurd (omega arith)
 mark-more w (op f o s v) a = absurd (omega arith)
 mark-more w (ifc c f x) a = absurd (omega arith)
 mark-more w (clause' x Γ) a = absurd (omega arith)
-
--- ── the questions of a record, by its kind and the bytes of its tail ──
-
-pub plain-is : (w : ℕ) (r : Record) → plainRecord r ≡ cond (eqb (kindOf r) 2) false (cond (eqb (kindOf r) 6) (eqb (getD (tailBytes w r) 0 0) 0) true)
-plain-is w (definition x Γ) = refl
-plain-is w (substitute ps) = refl
-plain-is w (call x Γ) = refl
-plain-is w (let' v t g Γ) = refl
-plain-is w (switch v t n) = refl
-plain-is w (create v t none n) = refl
-plain-is w (create v t (some Γ) n) = refl
-plain-is w (invoke v g t Γ) = refl
-plain-is w (literal z v) = refl
-plain-is w (op f o s v) = refl
-plain-is w (ifc c f x) = refl
-plain-is w (clause' x Γ) = refl
-
-pub environment-is : (w : ℕ) (r : Record) → kindOf r ≡ 6 → smallEnvironment r ≡ cond (eqb (getD (tailBytes w r) 0 0) 0) true (leb (getD (tailBytes w r) 1 0) 32)
-environment-is w (definition x Γ) a = absurd (omega arith)
-environment-is w (substitute ps) a = absurd (omega arith)
-environment-is w (call x Γ) a = absurd (omega arith)
-environment-is w (let' v t g Γ) a = absurd (omega arith)
-environment-is w (switch v t n) a = absurd (omega arith)
-environment-is w (create v t none n) a = refl
-environment-is w (create v t (some Γ) n) a = refl
-environment-is w (invoke v g t Γ) a = absurd (omega arith)
-environment-is w (literal z v) a = absurd (omega arith)
-environment-is w (op f o s v) a = absurd (omega arith)
-environment-is w (ifc c f x) a = absurd (omega arith)
-environment-is w (clause' x Γ) a = absurd (omega arith)
-
-pub small-is : (w : ℕ) (r : Record)
-    → smallRecord r ≡ cond (eqb (kindOf r) 8) true (cond (eqb (kindOf r) 9) true (cond (eqb (kindOf r) 10) true
-    (cond (eqb (kindOf r) 6) (smallEnvironment r && leb (clausesOf r) 32) (leb (getD (tailBytes w r) 0 0) 32))))
-small-is w (definition x Γ) = refl
-small-is w (substitute ps) = refl
-small-is w (call x Γ) = refl
-small-is w (let' v t g Γ) = refl
-small-is w (switch v t n) = refl
-small-is w (create v t e n) = refl
-small-is w (invoke v g t Γ) = refl
-small-is w (literal z v) = refl
-small-is w (op f o s v) = refl
-small-is w (ifc c f x) = refl
-small-is w (clause' x Γ) = refl
-
--- ── over all records ──
-
-pub all-step : (f : Record → Bool) (rs : List Record) (i : ℕ) → i < length rs → allRecords f (drop i rs) ≡ f (headOf (drop i rs)) && allRecords f (drop (i + 1) rs)
-all-step f rs i h =
-    let d : Record = headOf [] in
-    rw (add-one, drop-cons rs i d h) refl
-
-pub all-end : (f : Record → Bool) (rs : List Record) (i : ℕ) → length rs ≤ i → allRecords f (drop i rs) ≡ true
-all-end f rs i h = go (drop i rs) (omega (arith, length-drop i rs))
-  where
-    go : (l : List Record) → length l ≡ 0 → allRecords f l ≡ true
-    go [] e = refl
-    go (r ∷ l) e = absurd (omega arith)

@@ -20,9 +20,9 @@ use Rattle.image_directory.specs.declared.Frame.{Frame}
 use Rattle.image_read_parts.specs.Standing.{Stands, ReadsAs}
 use Rattle.image_read_parts.proofs.StandingLaws.{byte-run, first-run, second-run, stands-in, stands-room}
 use Rattle.image_read_parts.specs.Parts.{listOf}
-use Rattle.scope_check.specs.Nodes.{recordAt, At, hasList}
-use Rattle.scope_check.proofs.TailLaws.{tail-from}
-use Rattle.scope_check.proofs.NodeLaws.{record-ok}
+use Rattle.image_read_nodes.specs.Nodes.{recordAt, At, hasList}
+use Rattle.image_read_nodes.proofs.TailLaws.{tail-from}
+use Rattle.image_read_nodes.proofs.NodeLaws.{record-ok}
 
 no : {A : Type 0} → false ≡ true → A
 no e = let z : _≡_ {A = ℕ} 0 1 = cc (e) in absurd (omega arith)

@@ -1,10 +1,10 @@
 -- `target` meets its contract. Assumes nothing.
 use Prim.Native.Nat.{_-_}
 use denote.Ref.{now}
-use Rattle.scope_check.proofs.NodeLaws.{identifier-room, target-there}
+use Rattle.image_read_nodes.proofs.NodeLaws.{identifier-room, target-there}
 use borrow.Author.Needs.{needs}
-use Rattle.scope_check.proofs.nodes.target.Statement.{statement}
-use Rattle.scope_check.proofs.nodes.target.Tie as tie
+use Rattle.image_read_nodes.proofs.target.Statement.{statement}
+use Rattle.image_read_nodes.proofs.target.Tie as tie
 
 add-identifier : tie.Need-add-identifier
 add-identifier c = search needs

@@ -6,12 +6,12 @@ use Rattle.image_spec.specs.Fields.{listBytes, ListOk}
 use Rattle.image_read_parts.specs.Standing.{Stands}
 use Rattle.image_spec.specs.Kinds.{fixed}
 use Rattle.image_read_parts.specs.Parts.{listOf}
-use Rattle.scope_check.specs.Nodes.{recordAt}
-use Rattle.scope_check.proofs.NodeLaws.{kind-below}
-use Rattle.scope_check.proofs.ListLaws.{list-there, list-run}
+use Rattle.image_read_nodes.specs.Nodes.{recordAt}
+use Rattle.image_read_nodes.proofs.NodeLaws.{kind-below}
+use Rattle.image_read_nodes.proofs.ListLaws.{list-there, list-run}
 use borrow.Author.Needs.{needs}
-use Rattle.scope_check.proofs.nodes.list_at.Statement.{statement}
-use Rattle.scope_check.proofs.nodes.list_at.Tie as tie
+use Rattle.image_read_nodes.proofs.list_at.Statement.{statement}
+use Rattle.image_read_nodes.proofs.list_at.Tie as tie
 
 offset-requires : tie.Need-offset-requires
 offset-requires c κs = search needs

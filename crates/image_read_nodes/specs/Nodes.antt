@@ -1,19 +1,19 @@
--- The record at an index, and the parts of a record that the scope check reads.
+-- The record at an index, what follows it, and the identifiers that stand in it.
 use Prim.Native.Nat.{ℕ, _<_}
 use mathlib.Core.Path.{_≡_}
 use mathlib.Core.Bool.{Bool, true, false, cond}
 use mathlib.Core.List.{List, [], _∷_}
 use mathlib.Core.Option.{Option, none}
-use lib.Dec.{leb, eqb}
+use lib.Dec.{eqb}
 use lib.ListN.{drop, getD}
 use Rattle.syntax.specs.Context.{emptyBinding}
 use Rattle.syntax.specs.declared.names.Identifier.{Identifier}
-use Rattle.model.specs.Sizes.{countEnvironment}
 use Rattle.image_spec.specs.Records.{Record, definition, substitute, call, let', switch, create, invoke, literal, op, ifc, clause'}
-use Rattle.image_spec.specs.Kinds.{kindOf}
+use Rattle.image_spec.specs.Kinds.{kindOf, clausesOf, bodies}
 use Rattle.image_directory.specs.Slots.{Ready, recordsIn}
 use Rattle.image_directory.specs.declared.Frame.{Frame}
 use Rattle.image_read_parts.specs.Standing.{headOf}
+use Rattle.image_read_nodes.specs.declared.Follows.{Follows}
 
 abbrev pub recordAt : Frame → List ℕ → ℕ → Record
 recordAt g s i = headOf (drop i (recordsIn g s))
@@ -24,19 +24,11 @@ pub record At (g : Frame) (s : List ℕ) (i k : ℕ) : Type 0 where
   pub inside : i < g .count
   pub kind : kindOf (recordAt g s i) ≡ k
 
--- has a Create's environment at most 32 bindings, if there is one?
-abbrev pub smallEnvironment : Record → Bool
-smallEnvironment (definition x Γ) = true
-smallEnvironment (substitute ps) = true
-smallEnvironment (call x Γ) = true
-smallEnvironment (let' v t g Γ) = true
-smallEnvironment (switch v t n) = true
-smallEnvironment (create v t e n) = leb (countEnvironment e) 32
-smallEnvironment (invoke v g t Γ) = true
-smallEnvironment (literal z v) = true
-smallEnvironment (op f o s v) = true
-smallEnvironment (ifc c f s) = true
-smallEnvironment (clause' x Γ) = true
+-- what is said to follow the record at index i: its clauses, then its bodies
+pub record Followed (g : Frame) (s : List ℕ) (i : ℕ) (f : Follows) : Type 0 where
+  pub at : At g s i (f .kind)
+  pub clauses : f .clauses ≡ clausesOf (recordAt g s i)
+  pub bodies : f .bodies ≡ bodies (kindOf (recordAt g s i))
 
 -- has a record of the kind a list as its tail?
 abbrev pub hasList : ℕ → Bool

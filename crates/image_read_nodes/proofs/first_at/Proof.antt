@@ -2,8 +2,8 @@
 use Prim.Native.Nat.{_-_}
 use mathlib.Core.Path.{sym}
 use borrow.Author.Tests.{eq-eqb, ne-eqb}
-use Rattle.scope_check.proofs.nodes.first_at.Statement.{statement}
-use Rattle.scope_check.proofs.nodes.first_at.Tie as tie
+use Rattle.image_read_nodes.proofs.first_at.Statement.{statement}
+use Rattle.image_read_nodes.proofs.first_at.Tie as tie
 
 returns : tie.Need-returns
 returns c = sym (rw (eq-eqb _ 8 (c .if1 .taken)))

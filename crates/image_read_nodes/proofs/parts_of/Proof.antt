@@ -2,10 +2,10 @@
 use mathlib.Core.Path.{sym, ap, _∙_}
 use denote.Ref.{now}
 use Rattle.image_spec.specs.Kinds.{bodies}
-use Rattle.scope_check.proofs.TailLaws.{Looked, looked, not-nowhere}
+use Rattle.image_read_nodes.proofs.TailLaws.{Looked, looked, not-nowhere}
 use borrow.Author.Needs.{needs}
-use Rattle.scope_check.proofs.walk.parts_of.Statement.{statement}
-use Rattle.scope_check.proofs.walk.parts_of.Tie as tie
+use Rattle.image_read_nodes.proofs.parts_of.Statement.{statement}
+use Rattle.image_read_nodes.proofs.parts_of.Tie as tie
 
 -- the record that was looked at
 here : (c : tie.After-kind) → Looked (c .before .before .before .before .args .g) (now (c .before .before .before .before .args .s)) (c .before .before .before .before .args .i) (c .kind .given .0 .0) (c .kind .given .0 .1 .0)
