@@ -59,49 +59,56 @@ fn has_annotation(kind: u8) -> bool
 }
 
 // Writes the free variables of the statement at index i.
-fn put_statement(s: &[u8], g: Frame, i: usize, row: &mut [u8], out: &mut [u8], at: usize) -> Written
-    requires { ⌜ Source g (now s) × (StmtStands 127 (recordsIn g (now s)) i (stmtAt 127 (recordsIn g (now s)) i) × (RoomFor [] (stmtAt 127 (recordsIn g (now s)) i) × ((length (now row) ≡ 65536) × (at + 1000000 < 2 ^ 64)))) ⌝ }
-    ensures { λ r. ⌜ Wrote r (now (out .entry)) (now (out .exit)) at (i + length (flatten (stmtAt 127 (recordsIn g (now (s .entry))) i))) (g .id) (markStmt (stmtAt 127 (recordsIn g (now (s .entry))) i) [] (replicate (length (now (row .entry))) 0)) ⌝ }
+fn put_statement(
+    image: &[u8],
+    frame: Frame,
+    i: usize,
+    row: &mut [u8],
+    out: &mut [u8],
+    at: usize,
+) -> Written
+    requires { ⌜ Source frame (now image) × (StmtStands 127 (recordsIn frame (now image)) i (stmtAt 127 (recordsIn frame (now image)) i) × (RoomFor [] (stmtAt 127 (recordsIn frame (now image)) i) × ((length (now row) ≡ 65536) × (at + 1000000 < 2 ^ 64)))) ⌝ }
+    ensures { λ r. ⌜ Wrote r (now (out .entry)) (now (out .exit)) at (i + length (flatten (stmtAt 127 (recordsIn frame (now (image .entry))) i))) (frame .id) (markStmt (stmtAt 127 (recordsIn frame (now (image .entry))) i) [] (replicate (length (now (row .entry))) 0)) ⌝ }
 {
     clear(row);
-    let next = statement(s, g, BELOW, i, IdSet::empty(), row);
-    let end = put_set(row, out, at, g.id);
+    let next = statement(image, frame, BELOW, i, IdSet::empty(), row);
+    let end = put_set(row, out, at, frame.id);
     Written { next, end }
 }
 
 // Writes the free variables of the n clauses from index i on.
 fn put_clauses(
-    s: &[u8],
-    g: Frame,
+    image: &[u8],
+    frame: Frame,
     n: usize,
     i: usize,
     row: &mut [u8],
     out: &mut [u8],
     at: usize,
 ) -> Written
-    requires { ⌜ Source g (now s) × (ClausesStand 127 n (recordsIn g (now s)) i (clausesAt 127 n (recordsIn g (now s)) i) × (RoomForClauses [] (clausesAt 127 n (recordsIn g (now s)) i) × ((length (now row) ≡ 65536) × (at + 1000000 < 2 ^ 64)))) ⌝ }
-    ensures { λ r. ⌜ Wrote r (now (out .entry)) (now (out .exit)) at (i + length (flattenClauses (clausesAt 127 n (recordsIn g (now (s .entry))) i))) (g .id) (markClauses (clausesAt 127 n (recordsIn g (now (s .entry))) i) [] (replicate (length (now (row .entry))) 0)) ⌝ }
+    requires { ⌜ Source frame (now image) × (ClausesStand 127 n (recordsIn frame (now image)) i (clausesAt 127 n (recordsIn frame (now image)) i) × (RoomForClauses [] (clausesAt 127 n (recordsIn frame (now image)) i) × ((length (now row) ≡ 65536) × (at + 1000000 < 2 ^ 64)))) ⌝ }
+    ensures { λ r. ⌜ Wrote r (now (out .entry)) (now (out .exit)) at (i + length (flattenClauses (clausesAt 127 n (recordsIn frame (now (image .entry))) i))) (frame .id) (markClauses (clausesAt 127 n (recordsIn frame (now (image .entry))) i) [] (replicate (length (now (row .entry))) 0)) ⌝ }
 {
     clear(row);
-    let next = clauses(s, g, BELOW, n, i, IdSet::empty(), row);
-    let end = put_set(row, out, at, g.id);
+    let next = clauses(image, frame, BELOW, n, i, IdSet::empty(), row);
+    let end = put_set(row, out, at, frame.id);
     Written { next, end }
 }
 
 // Writes the annotation of the record at index i: the set of its clauses, then the set of its next.
-fn put_annotation(s: &[u8], g: Frame, i: usize, row: &mut [u8], out: &mut [u8]) -> usize
-    requires { ⌜ Annotated g (now s) i × (length (now row) ≡ 65536) ⌝ }
-    ensures { λ r. ⌜ Puts (now (out .entry)) (now (out .exit)) 0 r (each (setBytes (g .id)) (annotations (stmtAt maxDepth (recordsIn g (now (s .entry))) i))) ⌝ }
+fn put_annotation(image: &[u8], frame: Frame, i: usize, row: &mut [u8], out: &mut [u8]) -> usize
+    requires { ⌜ Annotated frame (now image) i × (length (now row) ≡ 65536) ⌝ }
+    ensures { λ r. ⌜ Puts (now (out .entry)) (now (out .exit)) 0 r (each (setBytes (frame .id)) (annotations (stmtAt maxDepth (recordsIn frame (now (image .entry))) i))) ⌝ }
 {
-    let f = parts_of(s, g, i);
+    let f = parts_of(image, frame, i);
     if f.kind == 5 {
-        return put_clauses(s, g, f.clauses, i + 1, row, out, 0).end;
+        return put_clauses(image, frame, f.clauses, i + 1, row, out, 0).end;
     }
     if f.kind == 6 {
-        let c = put_clauses(s, g, f.clauses, i + 1, row, out, 0);
-        return put_statement(s, g, c.next, row, out, c.end).end;
+        let c = put_clauses(image, frame, f.clauses, i + 1, row, out, 0);
+        return put_statement(image, frame, c.next, row, out, c.end).end;
     }
-    put_statement(s, g, i + 1, row, out, 0).end
+    put_statement(image, frame, i + 1, row, out, 0).end
 }
 
 // Question 12, of the bytes that were to be written.
@@ -119,16 +126,23 @@ fn settle(out: &mut [u8], written: usize, max_id: u32) -> Answer
 }
 
 // Questions 13 and 12, of an image that has passed 1 to 7.
-fn annotate_record(s: &[u8], g: Frame, d: usize, max_id: u32, i: usize, out: &mut [u8]) -> Answer
-    requires { ⌜ Limited g (now s) d «max_id» ⌝ }
-    ensures { λ r. ⌜ Replies (placing (g .id) (programIn d (recordsIn g (now (s .entry))) «max_id») i (length (now (out .entry)))) r (now (out .entry)) (now (out .exit)) ⌝ }
+fn annotate_record(
+    image: &[u8],
+    frame: Frame,
+    defs: usize,
+    max_id: u32,
+    i: usize,
+    out: &mut [u8],
+) -> Answer
+    requires { ⌜ Limited frame (now image) defs «max_id» ⌝ }
+    ensures { λ r. ⌜ Replies (placing (frame .id) (programIn defs (recordsIn frame (now (image .entry))) «max_id») i (length (now (out .entry)))) r (now (out .entry)) (now (out .exit)) ⌝ }
 {
-    let count = g.count;
+    let count = frame.count;
     if i < count {
-        let f = parts_of(s, g, i);
+        let f = parts_of(image, frame, i);
         if has_annotation(f.kind) {
             let mut row = [0u8; 65536];
-            let written = put_annotation(s, g, i, &mut row, out);
+            let written = put_annotation(image, frame, i, &mut row, out);
             return settle(out, written, max_id);
         }
     }
@@ -136,26 +150,33 @@ fn annotate_record(s: &[u8], g: Frame, d: usize, max_id: u32, i: usize, out: &mu
 }
 
 // Question 7, of an image that is opened, with d definitions.
-fn in_limits(s: &[u8], g: Frame, d: usize, max_id: u32) -> bool
-    requires { ⌜ Ready g (now s) × Defined d (recordsIn g (now s)) ⌝ }
-    ensures { λ r. ⌜ r ≡ question7 (programIn d (recordsIn g (now (s .entry))) «max_id») ⌝ }
+fn in_limits(image: &[u8], frame: Frame, defs: usize, max_id: u32) -> bool
+    requires { ⌜ Ready frame (now image) × Defined defs (recordsIn frame (now image)) ⌝ }
+    ensures { λ r. ⌜ r ≡ question7 (programIn defs (recordsIn frame (now (image .entry))) «max_id») ⌝ }
 {
-    if within_limits(s, g, d) {
+    if within_limits(image, frame, defs) {
         let mut none = [0u64; 1];
-        let v = walk_definitions(s, g, d, max_id, &mut none);
+        let v = walk_definitions(image, frame, defs, max_id, &mut none);
         return v.room;
     }
     false
 }
 
 // Questions 6, 7, 13 and 12.
-fn annotate_image(s: &[u8], g: Frame, d: usize, max_id: u32, i: usize, out: &mut [u8]) -> Answer
-    requires { ⌜ Ready g (now s) × (Defined d (recordsIn g (now s)) × (g .id ≤ 2)) ⌝ }
-    ensures { λ r. ⌜ Replies (annotating (g .id) (programIn d (recordsIn g (now (s .entry))) «max_id») i (length (now (out .entry)))) r (now (out .entry)) (now (out .exit)) ⌝ }
+fn annotate_image(
+    image: &[u8],
+    frame: Frame,
+    defs: usize,
+    max_id: u32,
+    i: usize,
+    out: &mut [u8],
+) -> Answer
+    requires { ⌜ Ready frame (now image) × (Defined defs (recordsIn frame (now image)) × (frame .id ≤ 2)) ⌝ }
+    ensures { λ r. ⌜ Replies (annotating (frame .id) (programIn defs (recordsIn frame (now (image .entry))) «max_id») i (length (now (out .entry)))) r (now (out .entry)) (now (out .exit)) ⌝ }
 {
-    if all_plain(s, g) {
-        if in_limits(s, g, d, max_id) {
-            return annotate_record(s, g, d, max_id, i, out);
+    if all_plain(image, frame) {
+        if in_limits(image, frame, defs, max_id) {
+            return annotate_record(image, frame, defs, max_id, i, out);
         }
         return Answer::Refused(Refusal::Limits);
     }
@@ -163,16 +184,16 @@ fn annotate_image(s: &[u8], g: Frame, d: usize, max_id: u32, i: usize, out: &mut
 }
 
 // Annotates the record at index i of an image of a layout whose IDs have at most two bytes.
-pub fn annotate(s: &[u8], l: Layout, i: usize, out: &mut [u8]) -> Answer
-    requires { ⌜ Known l × (l .id ≤ 2) ⌝ }
-    ensures { λ r. ⌜ Replies (annotateOf l (now (s .entry)) i (length (now (out .entry)))) r (now (out .entry)) (now (out .exit)) ⌝ }
+pub fn annotate(image: &[u8], layout: Layout, i: usize, out: &mut [u8]) -> Answer
+    requires { ⌜ Known layout × (layout .id ≤ 2) ⌝ }
+    ensures { λ r. ⌜ Replies (annotateOf layout (now (image .entry)) i (length (now (out .entry)))) r (now (out .entry)) (now (out .exit)) ⌝ }
 {
-    match open(s, l) {
+    match open(image, layout) {
         Opened::Image {
             frame,
             definitions,
             max_id,
-        } => annotate_image(s, frame, definitions, max_id, i, out),
+        } => annotate_image(image, frame, definitions, max_id, i, out),
         Opened::Closed(question) => Answer::Refused(question),
     }
 }

@@ -19,36 +19,43 @@ ghost use Rattle.annotate_uses.specs.Sources.{Source};
 ghost use Rattle.annotate.specs.Marks.{MarkedTo};
 
 // The statement at index i, of depth at most `depth`.
-pub fn statement(s: &[u8], g: Frame, depth: usize, i: usize, bound: IdSet, row: &mut [u8]) -> usize
-    requires { ⌜ Source g (now s) × (StmtStands depth (recordsIn g (now s)) i (stmtAt depth (recordsIn g (now s)) i) × (Scope bound × RoomFor (setOf bound) (stmtAt depth (recordsIn g (now s)) i))) ⌝ }
-    ensures { λ r. ⌜ MarkedTo r (now (row .exit)) (i + length (flatten (stmtAt depth (recordsIn g (now (s .entry))) i))) (markStmt (stmtAt depth (recordsIn g (now (s .entry))) i) (setOf bound) (now (row .entry))) ⌝ }
+pub fn statement(
+    image: &[u8],
+    frame: Frame,
+    depth: usize,
+    i: usize,
+    bound: IdSet,
+    row: &mut [u8],
+) -> usize
+    requires { ⌜ Source frame (now image) × (StmtStands depth (recordsIn frame (now image)) i (stmtAt depth (recordsIn frame (now image)) i) × (Scope bound × RoomFor (setOf bound) (stmtAt depth (recordsIn frame (now image)) i))) ⌝ }
+    ensures { λ r. ⌜ MarkedTo r (now (row .exit)) (i + length (flatten (stmtAt depth (recordsIn frame (now (image .entry))) i))) (markStmt (stmtAt depth (recordsIn frame (now (image .entry))) i) (setOf bound) (now (row .entry))) ⌝ }
 {
-    let f = parts_of(s, g, i);
-    let used = uses(s, g, i, f.kind);
+    let f = parts_of(image, frame, i);
+    let used = uses(image, frame, i, f.kind);
     mark_all(row, bound, used);
-    let next = clauses(s, g, depth - 1, f.clauses, i + 1, bound, row);
-    let inner = bind(s, g, i, f.kind, bound);
-    bodies(s, g, depth - 1, f.bodies, next, inner, row)
+    let next = clauses(image, frame, depth - 1, f.clauses, i + 1, bound, row);
+    let inner = bind(image, frame, i, f.kind, bound);
+    bodies(image, frame, depth - 1, f.bodies, next, inner, row)
 }
 
 // The n clauses from index i on, with bodies of depth at most `depth`.
 pub fn clauses(
-    s: &[u8],
-    g: Frame,
+    image: &[u8],
+    frame: Frame,
     depth: usize,
     n: usize,
     i: usize,
     bound: IdSet,
     row: &mut [u8],
 ) -> usize
-    requires { ⌜ Source g (now s) × (ClausesStand depth n (recordsIn g (now s)) i (clausesAt depth n (recordsIn g (now s)) i) × (Scope bound × RoomForClauses (setOf bound) (clausesAt depth n (recordsIn g (now s)) i))) ⌝ }
-    ensures { λ r. ⌜ MarkedTo r (now (row .exit)) (i + length (flattenClauses (clausesAt depth n (recordsIn g (now (s .entry))) i))) (markClauses (clausesAt depth n (recordsIn g (now (s .entry))) i) (setOf bound) (now (row .entry))) ⌝ }
+    requires { ⌜ Source frame (now image) × (ClausesStand depth n (recordsIn frame (now image)) i (clausesAt depth n (recordsIn frame (now image)) i) × (Scope bound × RoomForClauses (setOf bound) (clausesAt depth n (recordsIn frame (now image)) i))) ⌝ }
+    ensures { λ r. ⌜ MarkedTo r (now (row .exit)) (i + length (flattenClauses (clausesAt depth n (recordsIn frame (now (image .entry))) i))) (markClauses (clausesAt depth n (recordsIn frame (now (image .entry))) i) (setOf bound) (now (row .entry))) ⌝ }
 {
     let mut here = i;
     let mut left = n;
     while 0 < left {
-        let inner = bind(s, g, here, 11, bound);
-        here = statement(s, g, depth, here + 1, inner, row);
+        let inner = bind(image, frame, here, 11, bound);
+        here = statement(image, frame, depth, here + 1, inner, row);
         left = left - 1;
     }
     here
@@ -56,21 +63,21 @@ pub fn clauses(
 
 // The n statements from index i on, each of depth at most `depth`.
 fn bodies(
-    s: &[u8],
-    g: Frame,
+    image: &[u8],
+    frame: Frame,
     depth: usize,
     n: usize,
     i: usize,
     bound: IdSet,
     row: &mut [u8],
 ) -> usize
-    requires { ⌜ Source g (now s) × (BodiesStand depth n (recordsIn g (now s)) i (bodiesAt depth n (recordsIn g (now s)) i) × (Scope bound × All (RoomFor (setOf bound)) (bodiesAt depth n (recordsIn g (now s)) i))) ⌝ }
-    ensures { λ r. ⌜ MarkedTo r (now (row .exit)) (i + length (each flatten (bodiesAt depth n (recordsIn g (now (s .entry))) i))) (markBodies (bodiesAt depth n (recordsIn g (now (s .entry))) i) (setOf bound) (now (row .entry))) ⌝ }
+    requires { ⌜ Source frame (now image) × (BodiesStand depth n (recordsIn frame (now image)) i (bodiesAt depth n (recordsIn frame (now image)) i) × (Scope bound × All (RoomFor (setOf bound)) (bodiesAt depth n (recordsIn frame (now image)) i))) ⌝ }
+    ensures { λ r. ⌜ MarkedTo r (now (row .exit)) (i + length (each flatten (bodiesAt depth n (recordsIn frame (now (image .entry))) i))) (markBodies (bodiesAt depth n (recordsIn frame (now (image .entry))) i) (setOf bound) (now (row .entry))) ⌝ }
 {
     let mut here = i;
     let mut left = n;
     while 0 < left {
-        here = statement(s, g, depth, here, bound, row);
+        here = statement(image, frame, depth, here, bound, row);
         left = left - 1;
     }
     here

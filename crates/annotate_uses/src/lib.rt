@@ -28,18 +28,18 @@ ghost use Rattle.annotate_uses.specs.Sets.{Room};
 ghost use Rattle.annotate_uses.specs.Sources.{BoundBy};
 
 // The set, with the bindings of a record's list behind.
-fn add_list(s: &[u8], g: Frame, i: usize, kind: u8, set: IdSet) -> IdSet
-    requires { ⌜ At g (now s) i kind × ((hasList kind ≡ true) × Room set (length (listOf (recordAt g (now s) i)))) ⌝ }
-    ensures { λ r. ⌜ SetHolds r (setOf set ++ ids (listOf (recordAt g (now (s .entry)) i))) ⌝ }
+fn add_list(image: &[u8], frame: Frame, i: usize, kind: u8, set: IdSet) -> IdSet
+    requires { ⌜ At frame (now image) i kind × ((hasList kind ≡ true) × Room set (length (listOf (recordAt frame (now image) i)))) ⌝ }
+    ensures { λ r. ⌜ SetHolds r (setOf set ++ ids (listOf (recordAt frame (now (image .entry)) i))) ⌝ }
 {
-    let w = g.id;
+    let w = frame.id;
     let size = 6 + (w + w);
-    let start = list_at(s, g, i, kind);
-    let mut left = count(s[start]);
+    let start = list_at(image, frame, i, kind);
+    let mut left = count(image[start]);
     let mut at = start + 1;
     let mut all = set;
     while 0 < left {
-        let x = identifier_at(s, g.id, at);
+        let x = identifier_at(image, frame.id, at);
         let id = x.id;
         let end = all.len;
         all.ids[end] = id;
@@ -58,80 +58,80 @@ fn only(id: Identifier) -> IdSet
 }
 
 // The set, with the second operand of the Op at index i behind.
-fn add_operand(s: &[u8], g: Frame, i: usize, set: IdSet) -> IdSet
-    requires { ⌜ At g (now s) i 9 × Room set 1 ⌝ }
-    ensures { λ r. ⌜ SetHolds r (setOf set ++ (operandOf (recordAt g (now (s .entry)) i) .id ∷ [])) ⌝ }
+fn add_operand(image: &[u8], frame: Frame, i: usize, set: IdSet) -> IdSet
+    requires { ⌜ At frame (now image) i 9 × Room set 1 ⌝ }
+    ensures { λ r. ⌜ SetHolds r (setOf set ++ (operandOf (recordAt frame (now (image .entry)) i) .id ∷ [])) ⌝ }
 {
-    let x = operand(s, g, i);
+    let x = operand(image, frame, i);
     set.add(x.id)
 }
 
 // The set, with the second operand of the IfC at index i behind, if there is one.
-fn add_second(s: &[u8], g: Frame, i: usize, set: IdSet) -> IdSet
-    requires { ⌜ At g (now s) i 10 × Room set 1 ⌝ }
-    ensures { λ r. ⌜ SetHolds r (setOf set ++ optionalId (secondOf (recordAt g (now (s .entry)) i))) ⌝ }
+fn add_second(image: &[u8], frame: Frame, i: usize, set: IdSet) -> IdSet
+    requires { ⌜ At frame (now image) i 10 × Room set 1 ⌝ }
+    ensures { λ r. ⌜ SetHolds r (setOf set ++ optionalId (secondOf (recordAt frame (now (image .entry)) i))) ⌝ }
 {
-    let w = g.id;
+    let w = frame.id;
     let mark = Kind::fixed(10, w);
-    if byte(s, g, i, mark) == 0 {
+    if byte(image, frame, i, mark) == 0 {
         return set;
     }
-    let x = identifier(s, g, i, mark + 1);
+    let x = identifier(image, frame, i, mark + 1);
     set.add(x.id)
 }
 
 // The IDs that the record at index i uses. (Its counts have passed question 7.)
-pub fn uses(s: &[u8], g: Frame, i: usize, kind: u8) -> IdSet
-    requires { ⌜ At g (now s) i kind × (smallRecord (recordAt g (now s) i) ≡ true) ⌝ }
-    ensures { λ r. ⌜ SetHolds r (usesOf (recordAt g (now (s .entry)) i)) ⌝ }
+pub fn uses(image: &[u8], frame: Frame, i: usize, kind: u8) -> IdSet
+    requires { ⌜ At frame (now image) i kind × (smallRecord (recordAt frame (now image) i) ≡ true) ⌝ }
+    ensures { λ r. ⌜ SetHolds r (usesOf (recordAt frame (now (image .entry)) i)) ⌝ }
 {
     if kind == 3 {
-        return add_list(s, g, i, 3, IdSet::empty());
+        return add_list(image, frame, i, 3, IdSet::empty());
     }
     if kind == 4 {
-        return add_list(s, g, i, 4, IdSet::empty());
+        return add_list(image, frame, i, 4, IdSet::empty());
     }
     if kind == 5 {
-        return only(first(s, g, i, 5));
+        return only(first(image, frame, i, 5));
     }
     if kind == 7 {
-        return add_list(s, g, i, 7, only(first(s, g, i, 7)));
+        return add_list(image, frame, i, 7, only(first(image, frame, i, 7)));
     }
     if kind == 9 {
-        return add_operand(s, g, i, only(first(s, g, i, 9)));
+        return add_operand(image, frame, i, only(first(image, frame, i, 9)));
     }
     if kind == 10 {
-        return add_second(s, g, i, only(first(s, g, i, 10)));
+        return add_second(image, frame, i, only(first(image, frame, i, 10)));
     }
     IdSet::empty()
 }
 
 // Binds what the record at index i binds.
-pub fn bind(s: &[u8], g: Frame, i: usize, kind: u8, bound: IdSet) -> IdSet
-    requires { ⌜ At g (now s) i kind × (Scope bound × (length (setOf bound ++ binders (recordAt g (now s) i)) ≤ 64)) ⌝ }
-    ensures { λ r. ⌜ BoundBy r (setOf bound ++ binders (recordAt g (now (s .entry)) i)) ⌝ }
+pub fn bind(image: &[u8], frame: Frame, i: usize, kind: u8, bound: IdSet) -> IdSet
+    requires { ⌜ At frame (now image) i kind × (Scope bound × (length (setOf bound ++ binders (recordAt frame (now image) i)) ≤ 64)) ⌝ }
+    ensures { λ r. ⌜ BoundBy r (setOf bound ++ binders (recordAt frame (now (image .entry)) i)) ⌝ }
 {
     if kind == 4 {
-        let x = first(s, g, i, 4);
+        let x = first(image, frame, i, 4);
         return bound.add(x.id);
     }
     if kind == 6 {
-        let x = first(s, g, i, 6);
+        let x = first(image, frame, i, 6);
         return bound.add(x.id);
     }
     if kind == 8 {
-        let x = first(s, g, i, 8);
+        let x = first(image, frame, i, 8);
         return bound.add(x.id);
     }
     if kind == 9 {
-        let x = target(s, g, i);
+        let x = target(image, frame, i);
         return bound.add(x.id);
     }
     if kind == 1 {
-        return add_list(s, g, i, 1, bound);
+        return add_list(image, frame, i, 1, bound);
     }
     if kind == 11 {
-        return add_list(s, g, i, 11, bound);
+        return add_list(image, frame, i, 11, bound);
     }
     bound
 }

@@ -29,29 +29,26 @@ pub fn long(x: u32) -> usize
 }
 
 // The pair from at, with numbers of `place` bytes.
-pub fn read_slot(s: &[u8], place: usize, at: usize) -> Slot
+pub fn read_slot(image: &[u8], place: usize, at: usize) -> Slot
     requires { ⌜ Width place ⌝ }
-    ensures { λ r. ⌜ r ≡ slotAt place at (now (s .entry)) ⌝ }
+    ensures { λ r. ⌜ r ≡ slotAt place at (now (image .entry)) ⌝ }
 {
-    if at <= s.len() {
-        if place + place <= s.len() - at {
-            let offset = long(number(s, at, place));
-            let size = long(number(s, at + place, place));
-            return Slot::Here {
-                offset: offset,
-                size: size,
-            };
+    if at <= image.len() {
+        if place + place <= image.len() - at {
+            let offset = long(number(image, at, place));
+            let size = long(number(image, at + place, place));
+            return Slot::Here { offset, size };
         }
     }
     Slot::Short
 }
 
 // Question 3: do the n pairs from `from`, with numbers of `place` bytes, tile s from `start` to its end?
-pub fn tiled(s: &[u8], place: usize, n: usize, from: usize, start: usize) -> bool
+pub fn tiled(image: &[u8], place: usize, n: usize, from: usize, start: usize) -> bool
     requires { ⌜ Width place ⌝ }
-    ensures { λ r. ⌜ r ≡ tiledFrom place n from start (now (s .entry)) ⌝ }
+    ensures { λ r. ⌜ r ≡ tiledFrom place n from start (now (image .entry)) ⌝ }
 {
-    let len = s.len();
+    let len = image.len();
     if len < start {
         return false;
     }
@@ -59,7 +56,7 @@ pub fn tiled(s: &[u8], place: usize, n: usize, from: usize, start: usize) -> boo
     let mut here = start;
     let mut left = n;
     while 0 < left {
-        match read_slot(s, place, at) {
+        match read_slot(image, place, at) {
             Slot::Here { offset, size } => {
                 if offset != here {
                     return false;
@@ -80,18 +77,18 @@ pub fn tiled(s: &[u8], place: usize, n: usize, from: usize, start: usize) -> boo
 }
 
 // Question 4: are the records of the n pairs from `from`, which tile s from `start`, formed, with IDs of w bytes?
-pub fn all_formed(s: &[u8], w: usize, place: usize, n: usize, from: usize, start: usize) -> bool
-    requires { ⌜ (w ≤ 8) × (Width place × (tiledFrom place n from start (now s) ≡ true)) ⌝ }
-    ensures { λ r. ⌜ r ≡ formedFrom w place n from start (now (s .entry)) ⌝ }
+pub fn all_formed(image: &[u8], w: usize, place: usize, n: usize, from: usize, start: usize) -> bool
+    requires { ⌜ (w ≤ 8) × (Width place × (tiledFrom place n from start (now image) ≡ true)) ⌝ }
+    ensures { λ r. ⌜ r ≡ formedFrom w place n from start (now (image .entry)) ⌝ }
 {
     let mut at = from;
     let mut here = start;
     let mut left = n;
     while 0 < left {
-        match read_slot(s, place, at) {
+        match read_slot(image, place, at) {
             Slot::Here { offset: _, size } => {
                 let end = here + size;
-                if record_formed(&s[here..end], w) {
+                if record_formed(&image[here..end], w) {
                     here = end;
                     at = at + (place + place);
                     left = left - 1;

@@ -29,17 +29,17 @@ pub fn count(b: u8) -> usize
 }
 
 // The number in the w bytes from at, the lowest first.
-pub fn number(s: &[u8], at: usize, w: usize) -> u32
-    requires { ⌜ (at + w ≤ length (now s)) × (w ≤ 4) ⌝ }
-    ensures { λ r. ⌜ «number» w (drop at (now (s .entry))) ≡ got r (drop (at + w) (now (s .entry))) ⌝ }
+pub fn number(bytes: &[u8], at: usize, w: usize) -> u32
+    requires { ⌜ (at + w ≤ length (now bytes)) × (w ≤ 4) ⌝ }
+    ensures { λ r. ⌜ «number» w (drop at (now (bytes .entry))) ≡ got r (drop (at + w) (now (bytes .entry))) ⌝ }
 {
     if w == 2 {
-        return wide(s[at]) + 256 * wide(s[at + 1]);
+        return wide(bytes[at]) + 256 * wide(bytes[at + 1]);
     }
     let mut n: u32 = 0;
     let mut i = w;
     while 0 < i {
-        n = n * 256 + wide(s[at + (i - 1)]);
+        n = n * 256 + wide(bytes[at + (i - 1)]);
         i = i - 1;
     }
     n
@@ -58,13 +58,13 @@ pub fn room(len: usize, at: usize, w: usize) -> bool
 }
 
 // Past w bytes of any value.
-pub fn skip(s: &[u8], w: usize, f: Found) -> Found
+pub fn skip(bytes: &[u8], w: usize, f: Found) -> Found
     requires { ⌜ w ≤ 8 ⌝ }
-    ensures { λ r. ⌜ r ≡ stop («number» w) (now (s .entry)) f ⌝ }
+    ensures { λ r. ⌜ r ≡ stop («number» w) (now (bytes .entry)) f ⌝ }
 {
     match f {
         Found::At(at) => {
-            if room(s.len(), at, w) {
+            if room(bytes.len(), at, w) {
                 Found::At(at + w)
             } else {
                 Found::Nothing
@@ -75,21 +75,21 @@ pub fn skip(s: &[u8], w: usize, f: Found) -> Found
 }
 
 // Past a name and an ID of w bytes.
-pub fn skip_identifier(s: &[u8], w: usize, f: Found) -> Found
+pub fn skip_identifier(bytes: &[u8], w: usize, f: Found) -> Found
     requires { ⌜ w ≤ 8 ⌝ }
-    ensures { λ r. ⌜ r ≡ stop (identifier w) (now (s .entry)) f ⌝ }
+    ensures { λ r. ⌜ r ≡ stop (identifier w) (now (bytes .entry)) f ⌝ }
 {
-    skip(s, w, skip(s, 2, f))
+    skip(bytes, w, skip(bytes, 2, f))
 }
 
 // Past a byte of at most `most`.
-pub fn skip_code(s: &[u8], most: u8, f: Found) -> Found
-    ensures { λ r. ⌜ r ≡ stop (code most) (now (s .entry)) f ⌝ }
+pub fn skip_code(bytes: &[u8], most: u8, f: Found) -> Found
+    ensures { λ r. ⌜ r ≡ stop (code most) (now (bytes .entry)) f ⌝ }
 {
     match f {
         Found::At(at) => {
-            if at < s.len() {
-                if s[at] <= most {
+            if at < bytes.len() {
+                if bytes[at] <= most {
                     return Found::At(at + 1);
                 }
             }
@@ -100,33 +100,33 @@ pub fn skip_code(s: &[u8], most: u8, f: Found) -> Found
 }
 
 // Past n zero bytes.
-fn skip_zeros(s: &[u8], n: usize, f: Found) -> Found
-    requires { ⌜ Within (length (now s)) f ⌝ }
-    ensures { λ r. ⌜ r ≡ stop (zeros n) (now (s .entry)) f ⌝ }
+fn skip_zeros(bytes: &[u8], n: usize, f: Found) -> Found
+    requires { ⌜ Within (length (now bytes)) f ⌝ }
+    ensures { λ r. ⌜ r ≡ stop (zeros n) (now (bytes .entry)) f ⌝ }
 {
     let mut here = f;
     let mut left = n;
     while 0 < left {
-        here = skip_code(s, 0, here);
+        here = skip_code(bytes, 0, here);
         left = left - 1;
     }
     here
 }
 
 // Past a type: 0 and as many zero bytes as an identifier has, or 1 and an identifier.
-pub fn skip_type(s: &[u8], w: usize, f: Found) -> Found
+pub fn skip_type(bytes: &[u8], w: usize, f: Found) -> Found
     requires { ⌜ w ≤ 8 ⌝ }
-    ensures { λ r. ⌜ r ≡ stop (type w) (now (s .entry)) f ⌝ }
+    ensures { λ r. ⌜ r ≡ stop (type w) (now (bytes .entry)) f ⌝ }
 {
     match f {
         Found::At(at) => {
-            if at < s.len() {
-                let b = s[at];
+            if at < bytes.len() {
+                let b = bytes[at];
                 if b == 0 {
-                    return skip_zeros(s, 2 + w, Found::At(at + 1));
+                    return skip_zeros(bytes, 2 + w, Found::At(at + 1));
                 }
                 if b == 1 {
-                    return skip_identifier(s, w, Found::At(at + 1));
+                    return skip_identifier(bytes, w, Found::At(at + 1));
                 }
             }
             Found::Nothing
@@ -136,75 +136,79 @@ pub fn skip_type(s: &[u8], w: usize, f: Found) -> Found
 }
 
 // Are IDs of two bytes, and the ten bytes from at a binding? A no decides nothing.
-fn short_binding(s: &[u8], w: usize, at: usize) -> bool
-    ensures { λ r. ⌜ (r ≡ true → (at + 10 ≤ length (now (s .entry))) × (stop (binding w) (now (s .entry)) (At at) ≡ At (at + 10))) ⌝ }
+fn short_binding(bytes: &[u8], w: usize, at: usize) -> bool
+    ensures { λ r. ⌜ (r ≡ true → (at + 10 ≤ length (now (bytes .entry))) × (stop (binding w) (now (bytes .entry)) (At at) ≡ At (at + 10))) ⌝ }
 {
     if w != 2 {
         return false;
     }
-    if s.len() < at {
+    if bytes.len() < at {
         return false;
     }
-    if s.len() - at < 10 {
+    if bytes.len() - at < 10 {
         return false;
     }
-    if 2 < s[at + 4] {
+    if 2 < bytes[at + 4] {
         return false;
     }
-    let tag = s[at + 5];
+    let tag = bytes[at + 5];
     if tag == 1 {
         return true;
     }
     if tag != 0 {
         return false;
     }
-    if number(s, at + 6, 2) != 0 {
+    if number(bytes, at + 6, 2) != 0 {
         return false;
     }
-    number(s, at + 8, 2) == 0
+    number(bytes, at + 8, 2) == 0
 }
 
 // Past a binding: an identifier, a chirality and a type.
-pub fn skip_binding(s: &[u8], w: usize, f: Found) -> Found
+pub fn skip_binding(bytes: &[u8], w: usize, f: Found) -> Found
     requires { ⌜ w ≤ 8 ⌝ }
-    ensures { λ r. ⌜ r ≡ stop (binding w) (now (s .entry)) f ⌝ }
+    ensures { λ r. ⌜ r ≡ stop (binding w) (now (bytes .entry)) f ⌝ }
 {
     match f {
         Found::At(at) => {
-            if short_binding(s, w, at) {
+            if short_binding(bytes, w, at) {
                 return Found::At(at + 10);
             }
-            skip_type(s, w, skip_code(s, 2, skip_identifier(s, w, Found::At(at))))
+            skip_type(
+                bytes,
+                w,
+                skip_code(bytes, 2, skip_identifier(bytes, w, Found::At(at))),
+            )
         }
         Found::Nothing => Found::Nothing,
     }
 }
 
 // Past n bindings.
-fn skip_bindings(s: &[u8], w: usize, n: usize, f: Found) -> Found
-    requires { ⌜ (w ≤ 8) × Within (length (now s)) f ⌝ }
-    ensures { λ r. ⌜ r ≡ stop (times n (binding w)) (now (s .entry)) f ⌝ }
+fn skip_bindings(bytes: &[u8], w: usize, n: usize, f: Found) -> Found
+    requires { ⌜ (w ≤ 8) × Within (length (now bytes)) f ⌝ }
+    ensures { λ r. ⌜ r ≡ stop (times n (binding w)) (now (bytes .entry)) f ⌝ }
 {
     let mut here = f;
     let mut left = n;
     while 0 < left {
-        here = skip_binding(s, w, here);
+        here = skip_binding(bytes, w, here);
         left = left - 1;
     }
     here
 }
 
 // Past a count and as many bindings.
-pub fn skip_list(s: &[u8], w: usize, f: Found) -> Found
+pub fn skip_list(bytes: &[u8], w: usize, f: Found) -> Found
     requires { ⌜ w ≤ 8 ⌝ }
-    ensures { λ r. ⌜ r ≡ stop (list w) (now (s .entry)) f ⌝ }
+    ensures { λ r. ⌜ r ≡ stop (list w) (now (bytes .entry)) f ⌝ }
 {
     match f {
         Found::At(at) => {
-            if at < s.len() {
-                let b = s[at];
+            if at < bytes.len() {
+                let b = bytes[at];
                 if b <= Layout::MAX_COUNT {
-                    return skip_bindings(s, w, count(b), Found::At(at + 1));
+                    return skip_bindings(bytes, w, count(b), Found::At(at + 1));
                 }
             }
             Found::Nothing
@@ -214,30 +218,30 @@ pub fn skip_list(s: &[u8], w: usize, f: Found) -> Found
 }
 
 // Past n pairs of a binding and an identifier.
-fn skip_pairs(s: &[u8], w: usize, n: usize, f: Found) -> Found
-    requires { ⌜ (w ≤ 8) × Within (length (now s)) f ⌝ }
-    ensures { λ r. ⌜ r ≡ stop (times n (pair w)) (now (s .entry)) f ⌝ }
+fn skip_pairs(bytes: &[u8], w: usize, n: usize, f: Found) -> Found
+    requires { ⌜ (w ≤ 8) × Within (length (now bytes)) f ⌝ }
+    ensures { λ r. ⌜ r ≡ stop (times n (pair w)) (now (bytes .entry)) f ⌝ }
 {
     let mut here = f;
     let mut left = n;
     while 0 < left {
-        here = skip_identifier(s, w, skip_binding(s, w, here));
+        here = skip_identifier(bytes, w, skip_binding(bytes, w, here));
         left = left - 1;
     }
     here
 }
 
 // Past a count and as many pairs.
-pub fn skip_substitution(s: &[u8], w: usize, f: Found) -> Found
+pub fn skip_substitution(bytes: &[u8], w: usize, f: Found) -> Found
     requires { ⌜ w ≤ 8 ⌝ }
-    ensures { λ r. ⌜ r ≡ stop (counted maxCount (pair w)) (now (s .entry)) f ⌝ }
+    ensures { λ r. ⌜ r ≡ stop (counted maxCount (pair w)) (now (bytes .entry)) f ⌝ }
 {
     match f {
         Found::At(at) => {
-            if at < s.len() {
-                let pairs = s[at];
+            if at < bytes.len() {
+                let pairs = bytes[at];
                 if pairs <= Layout::MAX_COUNT {
-                    return skip_pairs(s, w, count(pairs), Found::At(at + 1));
+                    return skip_pairs(bytes, w, count(pairs), Found::At(at + 1));
                 }
             }
             Found::Nothing
@@ -247,19 +251,19 @@ pub fn skip_substitution(s: &[u8], w: usize, f: Found) -> Found
 }
 
 // Past the mark of an environment, and its list where it has one.
-pub fn skip_environment(s: &[u8], w: usize, f: Found) -> Found
+pub fn skip_environment(bytes: &[u8], w: usize, f: Found) -> Found
     requires { ⌜ w ≤ 8 ⌝ }
-    ensures { λ r. ⌜ r ≡ stop (marked (list w)) (now (s .entry)) f ⌝ }
+    ensures { λ r. ⌜ r ≡ stop (marked (list w)) (now (bytes .entry)) f ⌝ }
 {
     match f {
         Found::At(at) => {
-            if at < s.len() {
-                let b = s[at];
+            if at < bytes.len() {
+                let b = bytes[at];
                 if b == 0 {
                     return Found::At(at + 1);
                 }
                 if b == 1 {
-                    return skip_list(s, w, Found::At(at + 1));
+                    return skip_list(bytes, w, Found::At(at + 1));
                 }
             }
             Found::Nothing
@@ -269,19 +273,19 @@ pub fn skip_environment(s: &[u8], w: usize, f: Found) -> Found
 }
 
 // Past the mark of a second operand, and the operand where there is one.
-pub fn skip_second(s: &[u8], w: usize, f: Found) -> Found
+pub fn skip_second(bytes: &[u8], w: usize, f: Found) -> Found
     requires { ⌜ w ≤ 8 ⌝ }
-    ensures { λ r. ⌜ r ≡ stop (marked (identifier w)) (now (s .entry)) f ⌝ }
+    ensures { λ r. ⌜ r ≡ stop (marked (identifier w)) (now (bytes .entry)) f ⌝ }
 {
     match f {
         Found::At(at) => {
-            if at < s.len() {
-                let b = s[at];
+            if at < bytes.len() {
+                let b = bytes[at];
                 if b == 0 {
                     return Found::At(at + 1);
                 }
                 if b == 1 {
-                    return skip_identifier(s, w, Found::At(at + 1));
+                    return skip_identifier(bytes, w, Found::At(at + 1));
                 }
             }
             Found::Nothing

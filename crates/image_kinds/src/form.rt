@@ -18,64 +18,68 @@ ghost use Rattle.image_fields.specs.Found.{stop};
 ghost use Rattle.image_fields.specs.declared.Found.the-variants.{At};
 
 // Past what follows the kind byte k in a record.
-pub fn skip_content(s: &[u8], w: usize, k: u8) -> Found
+pub fn skip_content(bytes: &[u8], w: usize, k: u8) -> Found
     requires { ⌜ w ≤ 8 ⌝ }
-    ensures { λ r. ⌜ r ≡ stop (content w k) (now (s .entry)) (At 1) ⌝ }
+    ensures { λ r. ⌜ r ≡ stop (content w k) (now (bytes .entry)) (At 1) ⌝ }
 {
     let f = Found::At(1);
     match k {
-        1 => skip_list(s, w, skip_identifier(s, w, f)),
-        2 => skip_substitution(s, w, f),
-        3 => skip_list(s, w, skip_identifier(s, w, f)),
+        1 => skip_list(bytes, w, skip_identifier(bytes, w, f)),
+        2 => skip_substitution(bytes, w, f),
+        3 => skip_list(bytes, w, skip_identifier(bytes, w, f)),
         4 => skip_list(
-            s,
+            bytes,
             w,
-            skip_identifier(s, w, skip_type(s, w, skip_identifier(s, w, f))),
+            skip_identifier(bytes, w, skip_type(bytes, w, skip_identifier(bytes, w, f))),
         ),
         5 => skip_code(
-            s,
+            bytes,
             Layout::MAX_COUNT,
-            skip_type(s, w, skip_identifier(s, w, f)),
+            skip_type(bytes, w, skip_identifier(bytes, w, f)),
         ),
         6 => skip_code(
-            s,
+            bytes,
             Layout::MAX_COUNT,
-            skip_environment(s, w, skip_type(s, w, skip_identifier(s, w, f))),
+            skip_environment(bytes, w, skip_type(bytes, w, skip_identifier(bytes, w, f))),
         ),
         7 => skip_list(
-            s,
+            bytes,
             w,
-            skip_type(s, w, skip_identifier(s, w, skip_identifier(s, w, f))),
+            skip_type(
+                bytes,
+                w,
+                skip_identifier(bytes, w, skip_identifier(bytes, w, f)),
+            ),
         ),
-        8 => skip_identifier(s, w, skip(s, 8, f)),
+        8 => skip_identifier(bytes, w, skip(bytes, 8, f)),
         9 => skip_identifier(
-            s,
+            bytes,
             w,
-            skip_identifier(s, w, skip_code(s, 4, skip_identifier(s, w, f))),
+            skip_identifier(bytes, w, skip_code(bytes, 4, skip_identifier(bytes, w, f))),
         ),
-        10 => skip_second(s, w, skip_identifier(s, w, skip_code(s, 5, f))),
-        11 => skip_list(s, w, skip_identifier(s, w, f)),
+        10 => skip_second(bytes, w, skip_identifier(bytes, w, skip_code(bytes, 5, f))),
+        11 => skip_list(bytes, w, skip_identifier(bytes, w, f)),
         _ => Found::Nothing,
     }
 }
 
 // Is s a record of a known kind, of exactly its length, with every count, code and mark in range, and I64's bytes zero?
-pub fn record_formed(s: &[u8], w: usize) -> bool
+pub fn record_formed(bytes: &[u8], w: usize) -> bool
     requires { ⌜ w ≤ 8 ⌝ }
-    ensures { λ r. ⌜ r ≡ isSome (decodeRecord w (now (s .entry))) ⌝ }
+    ensures { λ r. ⌜ r ≡ isSome (decodeRecord w (now (bytes .entry))) ⌝ }
 {
-    let n = s.len();
+    let n = bytes.len();
     if n == 0 {
         return false;
     }
-    let kind = s[0];
+    let kind = bytes[0];
     if Kind::COUNT <= kind {
         return false;
     }
     if n < Kind::fixed(kind, w) {
         return false;
     }
-    let end = skip_content(s, w, kind);
+    let end = skip_content(bytes, w, kind);
     match end {
         Found::At(e) => {
             if e == n {

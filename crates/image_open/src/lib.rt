@@ -24,44 +24,50 @@ pub enum Opened {
 }
 
 // Asks the questions of an image of a layout, in their order.
-pub fn open(s: &[u8], l: Layout) -> Opened
-    requires { ⌜ Known l ⌝ }
-    ensures { λ r. ⌜ r ≡ openedOf l (now (s .entry)) ⌝ }
+pub fn open(image: &[u8], layout: Layout) -> Opened
+    requires { ⌜ Known layout ⌝ }
+    ensures { λ r. ⌜ r ≡ openedOf layout (now (image .entry)) ⌝ }
 {
-    let len = s.len();
-    let id = l.id;
-    let place = l.place;
+    let len = image.len();
+    let id = layout.id;
+    let place = layout.place;
     if len < 2 + (2 + (id + place)) {
         return Opened::Closed(Refusal::Size);
     }
-    let largest = l.largest;
+    let largest = layout.largest;
     if largest < len {
         return Opened::Closed(Refusal::Size);
     }
-    let wanted = l.number;
-    if number(s, 0, 2) != wanted {
+    let wanted = layout.number;
+    if number(image, 0, 2) != wanted {
         return Opened::Closed(Refusal::LayoutNumber);
     }
-    let definitions = long(number(s, 2, 2));
-    let max_id = number(s, 4, id);
-    let count = long(number(s, 4 + id, place));
-    open_records(s, l, definitions, max_id, count)
+    let definitions = long(number(image, 2, 2));
+    let max_id = number(image, 4, id);
+    let count = long(number(image, 4 + id, place));
+    open_records(image, layout, definitions, max_id, count)
 }
 
 // Questions 3 to 5, after the header was read.
-fn open_records(s: &[u8], l: Layout, definitions: usize, max_id: u32, count: usize) -> Opened
-    requires { ⌜ Known l × Head l (now s) definitions «max_id» count ⌝ }
-    ensures { λ r. ⌜ r ≡ openedOf l (now (s .entry)) ⌝ }
+fn open_records(
+    image: &[u8],
+    layout: Layout,
+    definitions: usize,
+    max_id: u32,
+    count: usize,
+) -> Opened
+    requires { ⌜ Known layout × Head layout (now image) definitions «max_id» count ⌝ }
+    ensures { λ r. ⌜ r ≡ openedOf layout (now (image .entry)) ⌝ }
 {
     if Layout::MAX_RECORDS < count {
         return Opened::Closed(Refusal::Directory);
     }
-    let id = l.id;
-    let place = l.place;
+    let id = layout.id;
+    let place = layout.place;
     let from = 2 + (2 + (id + place));
     let start = from + count * (place + place);
-    if tiled(s, place, count, from, start) {
-        if all_formed(s, id, place, count, from, start) {
+    if tiled(image, place, count, from, start) {
+        if all_formed(image, id, place, count, from, start) {
             let frame = Frame {
                 id,
                 place,
@@ -69,7 +75,7 @@ fn open_records(s: &[u8], l: Layout, definitions: usize, max_id: u32, count: usi
                 from,
                 start,
             };
-            if shaped(s, frame, definitions) {
+            if shaped(image, frame, definitions) {
                 return Opened::Image {
                     frame,
                     definitions,
@@ -84,10 +90,10 @@ fn open_records(s: &[u8], l: Layout, definitions: usize, max_id: u32, count: usi
 }
 
 // Reads an image of layout 1.
-pub fn read(s: &[u8]) -> Answer
-    ensures { λ r. ⌜ r ≡ answerOf (reading layout1 (now (s .entry))) ⌝ }
+pub fn read(image: &[u8]) -> Answer
+    ensures { λ r. ⌜ r ≡ answerOf (reading layout1 (now (image .entry))) ⌝ }
 {
-    match open(s, Layout::one()) {
+    match open(image, Layout::one()) {
         Opened::Image {
             frame: _,
             definitions: _,

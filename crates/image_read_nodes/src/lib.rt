@@ -24,11 +24,11 @@ pub struct Follows {
 }
 
 // What follows the record at index i.
-pub fn parts_of(s: &[u8], g: Frame, i: usize) -> Follows
-    requires { ⌜ Ready g (now s) × (i < g .count) ⌝ }
-    ensures { λ r. ⌜ Followed g (now (s .entry)) i r ⌝ }
+pub fn parts_of(image: &[u8], frame: Frame, i: usize) -> Follows
+    requires { ⌜ Ready frame (now image) × (i < frame .count) ⌝ }
+    ensures { λ r. ⌜ Followed frame (now (image .entry)) i r ⌝ }
 {
-    match look(s, g, i) {
+    match look(image, frame, i) {
         Node::Is { kind, clauses } => {
             let c = count(clauses);
             let b = Kind::bodies(kind);
@@ -47,12 +47,12 @@ pub fn parts_of(s: &[u8], g: Frame, i: usize) -> Follows
 }
 
 // Where the list of the record at index i begins, with its count.
-pub fn list_at(s: &[u8], g: Frame, i: usize, kind: u8) -> usize
-    requires { ⌜ At g (now s) i kind × (hasList kind ≡ true) ⌝ }
-    ensures { λ r. ⌜ Stands (listBytes (g .id)) (ListOk (g .id)) (now (s .entry)) r (listOf (recordAt g (now (s .entry)) i)) ⌝ }
+pub fn list_at(image: &[u8], frame: Frame, i: usize, kind: u8) -> usize
+    requires { ⌜ At frame (now image) i kind × (hasList kind ≡ true) ⌝ }
+    ensures { λ r. ⌜ Stands (listBytes (frame .id)) (ListOk (frame .id)) (now (image .entry)) r (listOf (recordAt frame (now (image .entry)) i)) ⌝ }
 {
-    let w = g.id;
-    offset(s, g, i) + Kind::fixed(kind, w)
+    let w = frame.id;
+    offset(image, frame, i) + Kind::fixed(kind, w)
 }
 
 fn first_at(kind: u8) -> usize
@@ -68,27 +68,27 @@ fn first_at(kind: u8) -> usize
 }
 
 // The first identifier of the record at index i. (A Substitute has none.)
-pub fn first(s: &[u8], g: Frame, i: usize, kind: u8) -> Identifier
-    requires { ⌜ At g (now s) i kind × (kind ≡ 2 → ⊥) ⌝ }
-    ensures { λ r. ⌜ r ≡ firstOf (recordAt g (now (s .entry)) i) ⌝ }
+pub fn first(image: &[u8], frame: Frame, i: usize, kind: u8) -> Identifier
+    requires { ⌜ At frame (now image) i kind × (kind ≡ 2 → ⊥) ⌝ }
+    ensures { λ r. ⌜ r ≡ firstOf (recordAt frame (now (image .entry)) i) ⌝ }
 {
-    identifier(s, g, i, first_at(kind))
+    identifier(image, frame, i, first_at(kind))
 }
 
 // The second operand of the Op at index i.
-pub fn operand(s: &[u8], g: Frame, i: usize) -> Identifier
-    requires { ⌜ At g (now s) i 9 ⌝ }
-    ensures { λ r. ⌜ r ≡ operandOf (recordAt g (now (s .entry)) i) ⌝ }
+pub fn operand(image: &[u8], frame: Frame, i: usize) -> Identifier
+    requires { ⌜ At frame (now image) i 9 ⌝ }
+    ensures { λ r. ⌜ r ≡ operandOf (recordAt frame (now (image .entry)) i) ⌝ }
 {
-    let w = g.id;
-    identifier(s, g, i, 4 + w)
+    let w = frame.id;
+    identifier(image, frame, i, 4 + w)
 }
 
 // The var of the Op at index i.
-pub fn target(s: &[u8], g: Frame, i: usize) -> Identifier
-    requires { ⌜ At g (now s) i 9 ⌝ }
-    ensures { λ r. ⌜ r ≡ targetOf (recordAt g (now (s .entry)) i) ⌝ }
+pub fn target(image: &[u8], frame: Frame, i: usize) -> Identifier
+    requires { ⌜ At frame (now image) i 9 ⌝ }
+    ensures { λ r. ⌜ r ≡ targetOf (recordAt frame (now (image .entry)) i) ⌝ }
 {
-    let w = g.id;
-    identifier(s, g, i, 6 + (w + w))
+    let w = frame.id;
+    identifier(image, frame, i, 6 + (w + w))
 }

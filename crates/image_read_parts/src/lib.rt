@@ -35,26 +35,26 @@ fn half(n: u32) -> u16
 }
 
 // An identifier whose ID has w bytes.
-pub fn identifier_at(s: &[u8], w: usize, at: usize) -> Identifier
-    requires { ⌜ Room w at (2 + w) (now s) ⌝ }
-    ensures { λ r. ⌜ ReadsAs (identifierBytes w) (IdentifierOk w) (now (s .entry)) at r ⌝ }
+pub fn identifier_at(image: &[u8], w: usize, at: usize) -> Identifier
+    requires { ⌜ Room w at (2 + w) (now image) ⌝ }
+    ensures { λ r. ⌜ ReadsAs (identifierBytes w) (IdentifierOk w) (now (image .entry)) at r ⌝ }
 {
-    let name = number(s, at, 2);
-    let id = number(s, at + 2, w);
+    let name = number(image, at, 2);
+    let id = number(image, at + 2, w);
     Identifier {
         name: Name(half(name)),
         id: VarId(id),
     }
 }
 
-pub fn type_at(s: &[u8], w: usize, at: usize) -> Ty
-    requires { ⌜ Room w at (3 + w) (now s) ⌝ }
-    ensures { λ r. ⌜ ReadsAs (typeBytes w) (TypeOk w) (now (s .entry)) at r ⌝ }
+pub fn type_at(image: &[u8], w: usize, at: usize) -> Ty
+    requires { ⌜ Room w at (3 + w) (now image) ⌝ }
+    ensures { λ r. ⌜ ReadsAs (typeBytes w) (TypeOk w) (now (image .entry)) at r ⌝ }
 {
-    if s[at] == 0 {
+    if image[at] == 0 {
         return Ty::I64;
     }
-    let x = identifier_at(s, w, at + 1);
+    let x = identifier_at(image, w, at + 1);
     Ty::Decl(x)
 }
 
@@ -93,13 +93,13 @@ pub fn sort_of(b: u8) -> IfSort
     }
 }
 
-pub fn binding_at(s: &[u8], w: usize, at: usize) -> ContextBinding
-    requires { ⌜ Room w at (6 + (w + w)) (now s) ⌝ }
-    ensures { λ r. ⌜ ReadsAs (bindingBytes w) (BindingOk w) (now (s .entry)) at r ⌝ }
+pub fn binding_at(image: &[u8], w: usize, at: usize) -> ContextBinding
+    requires { ⌜ Room w at (6 + (w + w)) (now image) ⌝ }
+    ensures { λ r. ⌜ ReadsAs (bindingBytes w) (BindingOk w) (now (image .entry)) at r ⌝ }
 {
-    let var = identifier_at(s, w, at);
-    let chi = chirality_of(s[at + (2 + w)]);
-    let ty = type_at(s, w, at + (3 + w));
+    let var = identifier_at(image, w, at);
+    let chi = chirality_of(image[at + (2 + w)]);
+    let ty = type_at(image, w, at + (3 + w));
     ContextBinding { var, chi, ty }
 }
 
@@ -110,102 +110,102 @@ fn joined(low: u32, high: u32) -> u64
 }
 
 // A signed number of eight bytes.
-pub fn integer_at(s: &[u8], at: usize) -> i64
-    requires { ⌜ at + 8 ≤ length (now s) ⌝ }
-    ensures { λ r. ⌜ ReadsAs integerBytes (SFits w64) (now (s .entry)) at r ⌝ }
+pub fn integer_at(image: &[u8], at: usize) -> i64
+    requires { ⌜ at + 8 ≤ length (now image) ⌝ }
+    ensures { λ r. ⌜ ReadsAs integerBytes (SFits w64) (now (image .entry)) at r ⌝ }
 {
-    let low = number(s, at, 4);
-    let high = number(s, at + 4, 4);
+    let low = number(image, at, 4);
+    let high = number(image, at + 4, 4);
     from_bits(joined(low, high))
 }
 
 // Where the bytes of the record at index i begin.
-pub fn offset(s: &[u8], g: Frame, i: usize) -> usize
-    requires { ⌜ Ready g (now s) × (i < g .count) ⌝ }
-    ensures { λ r. ⌜ Stands (recordBytes (g .id)) (RecordOk (g .id)) (now (s .entry)) r (headOf (drop i (recordsIn g (now (s .entry))))) ⌝ }
+pub fn offset(image: &[u8], frame: Frame, i: usize) -> usize
+    requires { ⌜ Ready frame (now image) × (i < frame .count) ⌝ }
+    ensures { λ r. ⌜ Stands (recordBytes (frame .id)) (RecordOk (frame .id)) (now (image .entry)) r (headOf (drop i (recordsIn frame (now (image .entry))))) ⌝ }
 {
-    let place = g.place;
-    let from = g.from;
-    match read_slot(s, place, from + i * (place + place)) {
+    let place = frame.place;
+    let from = frame.from;
+    match read_slot(image, place, from + i * (place + place)) {
         Slot::Here { offset, size: _ } => offset,
         Slot::Short => 0,
     }
 }
 
 // The byte at a place of the record at index i: a code, a mark or a count.
-pub fn byte(s: &[u8], g: Frame, i: usize, at: usize) -> u8
-    requires { ⌜ Ready g (now s) × ((i < g .count) × RoomIn g i at 1 (now s)) ⌝ }
-    ensures { λ r. ⌜ ReadsAs (λ (b : ℕ). b ∷ []) (λ _. Unit {0}) (recordBytes (g .id) (headOf (drop i (recordsIn g (now (s .entry)))))) at r ⌝ }
+pub fn byte(image: &[u8], frame: Frame, i: usize, at: usize) -> u8
+    requires { ⌜ Ready frame (now image) × ((i < frame .count) × RoomIn frame i at 1 (now image)) ⌝ }
+    ensures { λ r. ⌜ ReadsAs (λ (b : ℕ). b ∷ []) (λ _. Unit {0}) (recordBytes (frame .id) (headOf (drop i (recordsIn frame (now (image .entry)))))) at r ⌝ }
 {
-    let start = offset(s, g, i);
-    s[start + at]
+    let start = offset(image, frame, i);
+    image[start + at]
 }
 
 // The identifier at a place of the record at index i.
-pub fn identifier(s: &[u8], g: Frame, i: usize, at: usize) -> Identifier
-    requires { ⌜ Ready g (now s) × ((i < g .count) × RoomIn g i at (2 + g .id) (now s)) ⌝ }
-    ensures { λ r. ⌜ ReadsAs (identifierBytes (g .id)) (IdentifierOk (g .id)) (recordBytes (g .id) (headOf (drop i (recordsIn g (now (s .entry)))))) at r ⌝ }
+pub fn identifier(image: &[u8], frame: Frame, i: usize, at: usize) -> Identifier
+    requires { ⌜ Ready frame (now image) × ((i < frame .count) × RoomIn frame i at (2 + frame .id) (now image)) ⌝ }
+    ensures { λ r. ⌜ ReadsAs (identifierBytes (frame .id)) (IdentifierOk (frame .id)) (recordBytes (frame .id) (headOf (drop i (recordsIn frame (now (image .entry)))))) at r ⌝ }
 {
-    let w = g.id;
-    let start = offset(s, g, i);
-    identifier_at(s, w, start + at)
+    let w = frame.id;
+    let start = offset(image, frame, i);
+    identifier_at(image, w, start + at)
 }
 
 // The type at a place of the record at index i.
-pub fn ty(s: &[u8], g: Frame, i: usize, at: usize) -> Ty
-    requires { ⌜ Ready g (now s) × ((i < g .count) × RoomIn g i at (3 + g .id) (now s)) ⌝ }
-    ensures { λ r. ⌜ ReadsAs (typeBytes (g .id)) (TypeOk (g .id)) (recordBytes (g .id) (headOf (drop i (recordsIn g (now (s .entry)))))) at r ⌝ }
+pub fn ty(image: &[u8], frame: Frame, i: usize, at: usize) -> Ty
+    requires { ⌜ Ready frame (now image) × ((i < frame .count) × RoomIn frame i at (3 + frame .id) (now image)) ⌝ }
+    ensures { λ r. ⌜ ReadsAs (typeBytes (frame .id)) (TypeOk (frame .id)) (recordBytes (frame .id) (headOf (drop i (recordsIn frame (now (image .entry)))))) at r ⌝ }
 {
-    let w = g.id;
-    let start = offset(s, g, i);
-    type_at(s, w, start + at)
+    let w = frame.id;
+    let start = offset(image, frame, i);
+    type_at(image, w, start + at)
 }
 
 // The binding at a place of the record at index i.
-pub fn binding(s: &[u8], g: Frame, i: usize, at: usize) -> ContextBinding
-    requires { ⌜ Ready g (now s) × ((i < g .count) × RoomIn g i at (6 + (g .id + g .id)) (now s)) ⌝ }
-    ensures { λ r. ⌜ ReadsAs (bindingBytes (g .id)) (BindingOk (g .id)) (recordBytes (g .id) (headOf (drop i (recordsIn g (now (s .entry)))))) at r ⌝ }
+pub fn binding(image: &[u8], frame: Frame, i: usize, at: usize) -> ContextBinding
+    requires { ⌜ Ready frame (now image) × ((i < frame .count) × RoomIn frame i at (6 + (frame .id + frame .id)) (now image)) ⌝ }
+    ensures { λ r. ⌜ ReadsAs (bindingBytes (frame .id)) (BindingOk (frame .id)) (recordBytes (frame .id) (headOf (drop i (recordsIn frame (now (image .entry)))))) at r ⌝ }
 {
-    let w = g.id;
-    let start = offset(s, g, i);
-    binding_at(s, w, start + at)
+    let w = frame.id;
+    let start = offset(image, frame, i);
+    binding_at(image, w, start + at)
 }
 
 // The var of the record at index i, which is that of a Let, Switch, Create, Invoke, Literal or Op.
-pub fn var(s: &[u8], g: Frame, i: usize) -> Identifier
-    requires { ⌜ Ready g (now s) × ((i < g .count) × HasVar (headOf (drop i (recordsIn g (now s))))) ⌝ }
-    ensures { λ r. ⌜ r ≡ varOf (headOf (drop i (recordsIn g (now (s .entry))))) ⌝ }
+pub fn var(image: &[u8], frame: Frame, i: usize) -> Identifier
+    requires { ⌜ Ready frame (now image) × ((i < frame .count) × HasVar (headOf (drop i (recordsIn frame (now image))))) ⌝ }
+    ensures { λ r. ⌜ r ≡ varOf (headOf (drop i (recordsIn frame (now (image .entry))))) ⌝ }
 {
-    let w = g.id;
-    let start = offset(s, g, i);
-    let kind = s[start];
+    let w = frame.id;
+    let start = offset(image, frame, i);
+    let kind = image[start];
     if kind == 8 {
-        return identifier_at(s, w, start + 9);
+        return identifier_at(image, w, start + 9);
     }
     if kind == 9 {
-        return identifier_at(s, w, start + (6 + (w + w)));
+        return identifier_at(image, w, start + (6 + (w + w)));
     }
-    identifier_at(s, w, start + 1)
+    identifier_at(image, w, start + 1)
 }
 
 // How many bindings the list of the record at index i has, which is a definition, Call, Let, Invoke or clause.
-pub fn list_count(s: &[u8], g: Frame, i: usize) -> usize
-    requires { ⌜ Ready g (now s) × ((i < g .count) × HasList (headOf (drop i (recordsIn g (now s))))) ⌝ }
-    ensures { λ r. ⌜ r ≡ length (listOf (headOf (drop i (recordsIn g (now (s .entry)))))) ⌝ }
+pub fn list_count(image: &[u8], frame: Frame, i: usize) -> usize
+    requires { ⌜ Ready frame (now image) × ((i < frame .count) × HasList (headOf (drop i (recordsIn frame (now image))))) ⌝ }
+    ensures { λ r. ⌜ r ≡ length (listOf (headOf (drop i (recordsIn frame (now (image .entry)))))) ⌝ }
 {
-    let w = g.id;
-    let start = offset(s, g, i);
-    let at = Kind::fixed(s[start], w);
-    count(s[start + at])
+    let w = frame.id;
+    let start = offset(image, frame, i);
+    let at = Kind::fixed(image[start], w);
+    count(image[start + at])
 }
 
 // The binding at place j of that list.
-pub fn list_binding(s: &[u8], g: Frame, i: usize, j: usize) -> ContextBinding
-    requires { ⌜ Ready g (now s) × ((i < g .count) × (HasList (headOf (drop i (recordsIn g (now s)))) × (j < length (listOf (headOf (drop i (recordsIn g (now s)))))))) ⌝ }
-    ensures { λ r. ⌜ r ≡ getD (listOf (headOf (drop i (recordsIn g (now (s .entry)))))) j emptyBinding ⌝ }
+pub fn list_binding(image: &[u8], frame: Frame, i: usize, j: usize) -> ContextBinding
+    requires { ⌜ Ready frame (now image) × ((i < frame .count) × (HasList (headOf (drop i (recordsIn frame (now image)))) × (j < length (listOf (headOf (drop i (recordsIn frame (now image)))))))) ⌝ }
+    ensures { λ r. ⌜ r ≡ getD (listOf (headOf (drop i (recordsIn frame (now (image .entry)))))) j emptyBinding ⌝ }
 {
-    let w = g.id;
-    let start = offset(s, g, i);
-    let at = Kind::fixed(s[start], w);
-    binding_at(s, w, start + (at + (1 + j * (6 + (w + w)))))
+    let w = frame.id;
+    let start = offset(image, frame, i);
+    let at = Kind::fixed(image[start], w);
+    binding_at(image, w, start + (at + (1 + j * (6 + (w + w)))))
 }

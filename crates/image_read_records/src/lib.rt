@@ -85,17 +85,17 @@ pub struct NameAndList {
 }
 
 // The list of bindings at a place.
-pub fn list(s: &[u8], w: usize, at: usize) -> TypingContext
-    requires { ⌜ ListAt w (now s) at ⌝ }
-    ensures { λ r. ⌜ HoldsAt w (now (s .entry)) at r ⌝ }
+pub fn list(image: &[u8], w: usize, at: usize) -> TypingContext
+    requires { ⌜ ListAt w (now image) at ⌝ }
+    ensures { λ r. ⌜ HoldsAt w (now (image .entry)) at r ⌝ }
 {
     let size = 6 + (w + w);
-    let n = count(s[at]);
+    let n = count(image[at]);
     let mut out = TypingContext::empty();
     let mut from = at + 1;
     let mut j = 0;
     while j < n {
-        let b = binding_at(s, w, from);
+        let b = binding_at(image, w, from);
         out.bindings[j] = b.flat();
         from = from + size;
         j = j + 1;
@@ -105,14 +105,14 @@ pub fn list(s: &[u8], w: usize, at: usize) -> TypingContext
 }
 
 // The definition, the Call or the clause at index i. (Here and below the counts have passed question 7.)
-pub fn named(s: &[u8], g: Frame, i: usize) -> NameAndList
-    requires { ⌜ NamedAt g (now s) i ⌝ }
-    ensures { λ r. ⌜ NamedIs r (recordAt g (now (s .entry)) i) ⌝ }
+pub fn named(image: &[u8], frame: Frame, i: usize) -> NameAndList
+    requires { ⌜ NamedAt frame (now image) i ⌝ }
+    ensures { λ r. ⌜ NamedIs r (recordAt frame (now (image .entry)) i) ⌝ }
 {
-    let w = g.id;
-    let start = offset(s, g, i);
-    let name = identifier_at(s, w, start + 1);
-    let bindings = list(s, w, start + (3 + w));
+    let w = frame.id;
+    let start = offset(image, frame, i);
+    let name = identifier_at(image, w, start + 1);
+    let bindings = list(image, w, start + (3 + w));
     NameAndList {
         name,
         list: bindings,
@@ -120,116 +120,116 @@ pub fn named(s: &[u8], g: Frame, i: usize) -> NameAndList
 }
 
 // The Call at index i.
-pub fn call(s: &[u8], g: Frame, i: usize) -> CallRecord
-    requires { ⌜ At g (now s) i 3 × (smallRecord (recordAt g (now s) i) ≡ true) ⌝ }
-    ensures { λ r. ⌜ Unpacked (recordAt g (now (s .entry)) i) (callOf r) (r .args) ⌝ }
+pub fn call(image: &[u8], frame: Frame, i: usize) -> CallRecord
+    requires { ⌜ At frame (now image) i 3 × (smallRecord (recordAt frame (now image) i) ≡ true) ⌝ }
+    ensures { λ r. ⌜ Unpacked (recordAt frame (now (image .entry)) i) (callOf r) (r .args) ⌝ }
 {
-    let all = named(s, g, i);
+    let all = named(image, frame, i);
     let label = all.name;
     let args = all.list;
     CallRecord { label, args }
 }
 
 // The Let at index i.
-pub fn let_record(s: &[u8], g: Frame, i: usize) -> LetRecord
-    requires { ⌜ At g (now s) i 4 × (smallRecord (recordAt g (now s) i) ≡ true) ⌝ }
-    ensures { λ r. ⌜ Unpacked (recordAt g (now (s .entry)) i) (letOf r) (r .args) ⌝ }
+pub fn let_record(image: &[u8], frame: Frame, i: usize) -> LetRecord
+    requires { ⌜ At frame (now image) i 4 × (smallRecord (recordAt frame (now image) i) ≡ true) ⌝ }
+    ensures { λ r. ⌜ Unpacked (recordAt frame (now (image .entry)) i) (letOf r) (r .args) ⌝ }
 {
-    let w = g.id;
-    let start = offset(s, g, i);
-    let var = identifier_at(s, w, start + 1);
-    let ty = type_at(s, w, start + (3 + w));
-    let tag = identifier_at(s, w, start + (6 + (w + w)));
-    let args = list(s, w, start + (8 + (w + (w + w))));
+    let w = frame.id;
+    let start = offset(image, frame, i);
+    let var = identifier_at(image, w, start + 1);
+    let ty = type_at(image, w, start + (3 + w));
+    let tag = identifier_at(image, w, start + (6 + (w + w)));
+    let args = list(image, w, start + (8 + (w + (w + w))));
     LetRecord { var, ty, tag, args }
 }
 
 // The Switch at index i.
-pub fn switch(s: &[u8], g: Frame, i: usize) -> SwitchRecord
-    requires { ⌜ At g (now s) i 5 ⌝ }
-    ensures { λ r. ⌜ recordAt g (now (s .entry)) i ≡ switchOf r ⌝ }
+pub fn switch(image: &[u8], frame: Frame, i: usize) -> SwitchRecord
+    requires { ⌜ At frame (now image) i 5 ⌝ }
+    ensures { λ r. ⌜ recordAt frame (now (image .entry)) i ≡ switchOf r ⌝ }
 {
-    let w = g.id;
-    let start = offset(s, g, i);
-    let var = identifier_at(s, w, start + 1);
-    let ty = type_at(s, w, start + (3 + w));
-    let clauses = s[start + (6 + (w + w))];
+    let w = frame.id;
+    let start = offset(image, frame, i);
+    let var = identifier_at(image, w, start + 1);
+    let ty = type_at(image, w, start + (3 + w));
+    let clauses = image[start + (6 + (w + w))];
     SwitchRecord { var, ty, clauses }
 }
 
 // The Create at index i. (It has passed question 6.)
-pub fn create(s: &[u8], g: Frame, i: usize) -> CreateRecord
-    requires { ⌜ At g (now s) i 6 × (plainRecord (recordAt g (now s) i) ≡ true) ⌝ }
-    ensures { λ r. ⌜ recordAt g (now (s .entry)) i ≡ createOf r ⌝ }
+pub fn create(image: &[u8], frame: Frame, i: usize) -> CreateRecord
+    requires { ⌜ At frame (now image) i 6 × (plainRecord (recordAt frame (now image) i) ≡ true) ⌝ }
+    ensures { λ r. ⌜ recordAt frame (now (image .entry)) i ≡ createOf r ⌝ }
 {
-    let w = g.id;
-    let start = offset(s, g, i);
-    let var = identifier_at(s, w, start + 1);
-    let ty = type_at(s, w, start + (3 + w));
-    let clauses = s[start + (7 + (w + w))];
+    let w = frame.id;
+    let start = offset(image, frame, i);
+    let var = identifier_at(image, w, start + 1);
+    let ty = type_at(image, w, start + (3 + w));
+    let clauses = image[start + (7 + (w + w))];
     CreateRecord { var, ty, clauses }
 }
 
 // The Invoke at index i.
-pub fn invoke(s: &[u8], g: Frame, i: usize) -> InvokeRecord
-    requires { ⌜ At g (now s) i 7 × (smallRecord (recordAt g (now s) i) ≡ true) ⌝ }
-    ensures { λ r. ⌜ Unpacked (recordAt g (now (s .entry)) i) (invokeOf r) (r .args) ⌝ }
+pub fn invoke(image: &[u8], frame: Frame, i: usize) -> InvokeRecord
+    requires { ⌜ At frame (now image) i 7 × (smallRecord (recordAt frame (now image) i) ≡ true) ⌝ }
+    ensures { λ r. ⌜ Unpacked (recordAt frame (now (image .entry)) i) (invokeOf r) (r .args) ⌝ }
 {
-    let w = g.id;
-    let start = offset(s, g, i);
-    let var = identifier_at(s, w, start + 1);
-    let tag = identifier_at(s, w, start + (3 + w));
-    let ty = type_at(s, w, start + (5 + (w + w)));
-    let args = list(s, w, start + (8 + (w + (w + w))));
+    let w = frame.id;
+    let start = offset(image, frame, i);
+    let var = identifier_at(image, w, start + 1);
+    let tag = identifier_at(image, w, start + (3 + w));
+    let ty = type_at(image, w, start + (5 + (w + w)));
+    let args = list(image, w, start + (8 + (w + (w + w))));
     InvokeRecord { var, tag, ty, args }
 }
 
 // The Literal at index i.
-pub fn literal(s: &[u8], g: Frame, i: usize) -> LiteralRecord
-    requires { ⌜ At g (now s) i 8 ⌝ }
-    ensures { λ r. ⌜ recordAt g (now (s .entry)) i ≡ literalOf r ⌝ }
+pub fn literal(image: &[u8], frame: Frame, i: usize) -> LiteralRecord
+    requires { ⌜ At frame (now image) i 8 ⌝ }
+    ensures { λ r. ⌜ recordAt frame (now (image .entry)) i ≡ literalOf r ⌝ }
 {
-    let w = g.id;
-    let start = offset(s, g, i);
-    let lit = integer_at(s, start + 1);
-    let var = identifier_at(s, w, start + 9);
+    let w = frame.id;
+    let start = offset(image, frame, i);
+    let lit = integer_at(image, start + 1);
+    let var = identifier_at(image, w, start + 9);
     LiteralRecord { lit, var }
 }
 
 // The Op at index i.
-pub fn op(s: &[u8], g: Frame, i: usize) -> OpRecord
-    requires { ⌜ At g (now s) i 9 ⌝ }
-    ensures { λ r. ⌜ recordAt g (now (s .entry)) i ≡ opOf r ⌝ }
+pub fn op(image: &[u8], frame: Frame, i: usize) -> OpRecord
+    requires { ⌜ At frame (now image) i 9 ⌝ }
+    ensures { λ r. ⌜ recordAt frame (now (image .entry)) i ≡ opOf r ⌝ }
 {
-    let w = g.id;
-    let start = offset(s, g, i);
-    let fst = identifier_at(s, w, start + 1);
-    let op = operator_of(s[start + (3 + w)]);
-    let snd = identifier_at(s, w, start + (4 + w));
-    let var = identifier_at(s, w, start + (6 + (w + w)));
+    let w = frame.id;
+    let start = offset(image, frame, i);
+    let fst = identifier_at(image, w, start + 1);
+    let op = operator_of(image[start + (3 + w)]);
+    let snd = identifier_at(image, w, start + (4 + w));
+    let var = identifier_at(image, w, start + (6 + (w + w)));
     OpRecord { fst, op, snd, var }
 }
 
-fn second_at(s: &[u8], w: usize, at: usize) -> Second
-    requires { ⌜ SecondAt w (now s) at ⌝ }
-    ensures { λ r. ⌜ ReadsAs (mark (identifierBytes w)) (Marked (IdentifierOk w)) (now (s .entry)) at (secondIs r) ⌝ }
+fn second_at(image: &[u8], w: usize, at: usize) -> Second
+    requires { ⌜ SecondAt w (now image) at ⌝ }
+    ensures { λ r. ⌜ ReadsAs (mark (identifierBytes w)) (Marked (IdentifierOk w)) (now (image .entry)) at (secondIs r) ⌝ }
 {
-    if s[at] == 0 {
+    if image[at] == 0 {
         return Second::None;
     }
-    let x = identifier_at(s, w, at + 1);
+    let x = identifier_at(image, w, at + 1);
     Second::Some(x)
 }
 
 // The IfC at index i.
-pub fn ifc(s: &[u8], g: Frame, i: usize) -> IfCRecord
-    requires { ⌜ At g (now s) i 10 ⌝ }
-    ensures { λ r. ⌜ recordAt g (now (s .entry)) i ≡ ifcOf r ⌝ }
+pub fn ifc(image: &[u8], frame: Frame, i: usize) -> IfCRecord
+    requires { ⌜ At frame (now image) i 10 ⌝ }
+    ensures { λ r. ⌜ recordAt frame (now (image .entry)) i ≡ ifcOf r ⌝ }
 {
-    let w = g.id;
-    let start = offset(s, g, i);
-    let sort = sort_of(s[start + 1]);
-    let fst = identifier_at(s, w, start + 2);
-    let snd = second_at(s, w, start + (4 + w));
+    let w = frame.id;
+    let start = offset(image, frame, i);
+    let sort = sort_of(image[start + 1]);
+    let fst = identifier_at(image, w, start + 2);
+    let snd = second_at(image, w, start + (4 + w));
     IfCRecord { sort, fst, snd }
 }

@@ -23,47 +23,44 @@ pub enum Node {
 }
 
 // The record at place i.
-pub fn look(s: &[u8], g: Frame, i: usize) -> Node
-    requires { ⌜ Ready g (now s) ⌝ }
-    ensures { λ r. ⌜ r ≡ nodeOf (drop i (recordsIn g (now (s .entry)))) ⌝ }
+pub fn look(image: &[u8], frame: Frame, i: usize) -> Node
+    requires { ⌜ Ready frame (now image) ⌝ }
+    ensures { λ r. ⌜ r ≡ nodeOf (drop i (recordsIn frame (now (image .entry)))) ⌝ }
 {
-    let count = g.count;
+    let count = frame.count;
     if count <= i {
         return Node::End;
     }
-    let place = g.place;
-    let from = g.from;
-    match read_slot(s, place, from + i * (place + place)) {
+    let place = frame.place;
+    let from = frame.from;
+    match read_slot(image, place, from + i * (place + place)) {
         Slot::Here { offset, size } => {
-            let kind = s[offset];
+            let kind = image[offset];
             if kind == 5 {
                 return Node::Is {
-                    kind: kind,
-                    clauses: s[offset + size - 1],
+                    kind,
+                    clauses: image[offset + size - 1],
                 };
             }
             if kind == 6 {
                 return Node::Is {
-                    kind: kind,
-                    clauses: s[offset + size - 1],
+                    kind,
+                    clauses: image[offset + size - 1],
                 };
             }
-            Node::Is {
-                kind: kind,
-                clauses: 0,
-            }
+            Node::Is { kind, clauses: 0 }
         }
         Slot::Short => Node::End,
     }
 }
 
 // Past the record of a clause.
-fn clause_head(s: &[u8], g: Frame, f: Found) -> Found
-    requires { ⌜ Ready g (now s) ⌝ }
-    ensures { λ r. ⌜ r ≡ stop clauseHead (recordsIn g (now (s .entry))) f ⌝ }
+fn clause_head(image: &[u8], frame: Frame, f: Found) -> Found
+    requires { ⌜ Ready frame (now image) ⌝ }
+    ensures { λ r. ⌜ r ≡ stop clauseHead (recordsIn frame (now (image .entry))) f ⌝ }
 {
     match f {
-        Found::At(i) => match look(s, g, i) {
+        Found::At(i) => match look(image, frame, i) {
             Node::Is { kind, clauses: _ } => {
                 if kind == 11 {
                     return Found::At(i + 1);
@@ -77,12 +74,12 @@ fn clause_head(s: &[u8], g: Frame, f: Found) -> Found
 }
 
 // Past the record of a definition.
-fn definition_head(s: &[u8], g: Frame, f: Found) -> Found
-    requires { ⌜ Ready g (now s) ⌝ }
-    ensures { λ r. ⌜ r ≡ stop definitionHead (recordsIn g (now (s .entry))) f ⌝ }
+fn definition_head(image: &[u8], frame: Frame, f: Found) -> Found
+    requires { ⌜ Ready frame (now image) ⌝ }
+    ensures { λ r. ⌜ r ≡ stop definitionHead (recordsIn frame (now (image .entry))) f ⌝ }
 {
     match f {
-        Found::At(i) => match look(s, g, i) {
+        Found::At(i) => match look(image, frame, i) {
             Node::Is { kind, clauses: _ } => {
                 if kind == 1 {
                     return Found::At(i + 1);
@@ -105,12 +102,12 @@ pub enum Parts {
     Missing,
 }
 
-fn statement_parts(s: &[u8], g: Frame, f: Found) -> Parts
-    requires { ⌜ Ready g (now s) ⌝ }
-    ensures { λ r. ⌜ r ≡ partsAt (recordsIn g (now (s .entry))) f ⌝ }
+fn statement_parts(image: &[u8], frame: Frame, f: Found) -> Parts
+    requires { ⌜ Ready frame (now image) ⌝ }
+    ensures { λ r. ⌜ r ≡ partsAt (recordsIn frame (now (image .entry))) f ⌝ }
 {
     match f {
-        Found::At(i) => match look(s, g, i) {
+        Found::At(i) => match look(image, frame, i) {
             Node::Is { kind, clauses } => {
                 if kind == 1 {
                     return Parts::Missing;
@@ -131,25 +128,25 @@ fn statement_parts(s: &[u8], g: Frame, f: Found) -> Parts
 }
 
 // Past a statement of depth at most `depth`.
-pub fn statement(s: &[u8], g: Frame, depth: usize, f: Found) -> Found
-    requires { ⌜ Ready g (now s) ⌝ }
-    ensures { λ r. ⌜ r ≡ stop (stmt depth) (recordsIn g (now (s .entry))) f ⌝ }
+pub fn statement(image: &[u8], frame: Frame, depth: usize, f: Found) -> Found
+    requires { ⌜ Ready frame (now image) ⌝ }
+    ensures { λ r. ⌜ r ≡ stop (stmt depth) (recordsIn frame (now (image .entry))) f ⌝ }
 {
     if depth == 0 {
         return Found::Nothing;
     }
-    match statement_parts(s, g, f) {
+    match statement_parts(image, frame, f) {
         Parts::Follow {
             clauses,
             bodies,
             next,
         } => {
             skip_bodies(
-                s,
-                g,
+                image,
+                frame,
                 depth - 1,
                 bodies,
-                skip_clauses(s, g, depth - 1, clauses, Found::At(next)),
+                skip_clauses(image, frame, depth - 1, clauses, Found::At(next)),
             )
         }
         Parts::Missing => Found::Nothing,
@@ -157,45 +154,50 @@ pub fn statement(s: &[u8], g: Frame, depth: usize, f: Found) -> Found
 }
 
 // Past n statements, of depth at most `depth` each.
-fn skip_bodies(s: &[u8], g: Frame, depth: usize, n: usize, f: Found) -> Found
-    requires { ⌜ Ready g (now s) × Within (length (recordsIn g (now s))) f ⌝ }
-    ensures { λ r. ⌜ r ≡ stop (times n (stmt depth)) (recordsIn g (now (s .entry))) f ⌝ }
+fn skip_bodies(image: &[u8], frame: Frame, depth: usize, n: usize, f: Found) -> Found
+    requires { ⌜ Ready frame (now image) × Within (length (recordsIn frame (now image))) f ⌝ }
+    ensures { λ r. ⌜ r ≡ stop (times n (stmt depth)) (recordsIn frame (now (image .entry))) f ⌝ }
 {
     let mut here = f;
     let mut left = n;
     while 0 < left {
-        here = statement(s, g, depth, here);
+        here = statement(image, frame, depth, here);
         left = left - 1;
     }
     here
 }
 
 // Past n clauses, with bodies of depth at most `depth` each.
-fn skip_clauses(s: &[u8], g: Frame, depth: usize, n: usize, f: Found) -> Found
-    requires { ⌜ Ready g (now s) × Within (length (recordsIn g (now s))) f ⌝ }
-    ensures { λ r. ⌜ r ≡ stop (clauses (stmt depth) n) (recordsIn g (now (s .entry))) f ⌝ }
+fn skip_clauses(image: &[u8], frame: Frame, depth: usize, n: usize, f: Found) -> Found
+    requires { ⌜ Ready frame (now image) × Within (length (recordsIn frame (now image))) f ⌝ }
+    ensures { λ r. ⌜ r ≡ stop (clauses (stmt depth) n) (recordsIn frame (now (image .entry))) f ⌝ }
 {
     let mut here = f;
     let mut left = n;
     while 0 < left {
-        here = statement(s, g, depth, clause_head(s, g, here));
+        here = statement(image, frame, depth, clause_head(image, frame, here));
         left = left - 1;
     }
     here
 }
 
 // Question 5: are the records of the image d definitions, and nothing more?
-pub fn shaped(s: &[u8], g: Frame, d: usize) -> bool
-    requires { ⌜ Ready g (now s) ⌝ }
-    ensures { λ r. ⌜ r ≡ isSome (definitions d (recordsIn g (now (s .entry)))) ⌝ }
+pub fn shaped(image: &[u8], frame: Frame, defs: usize) -> bool
+    requires { ⌜ Ready frame (now image) ⌝ }
+    ensures { λ r. ⌜ r ≡ isSome (definitions defs (recordsIn frame (now (image .entry)))) ⌝ }
 {
     let mut here = Found::At(0);
-    let mut left = d;
+    let mut left = defs;
     while 0 < left {
-        here = statement(s, g, Layout::MAX_DEPTH, definition_head(s, g, here));
+        here = statement(
+            image,
+            frame,
+            Layout::MAX_DEPTH,
+            definition_head(image, frame, here),
+        );
         left = left - 1;
     }
-    let count = g.count;
+    let count = frame.count;
     match here {
         Found::At(e) => {
             if e == count {

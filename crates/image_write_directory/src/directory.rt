@@ -10,14 +10,20 @@ ghost use Rattle.image_write_parts.specs.Puts.{Puts};
 ghost use Rattle.image_write_directory.specs.Emitting.{entriesFrom, total};
 
 // Layout number, definitions, max_id and records.
-pub fn put_header(out: &mut [u8], l: Layout, definitions: u32, max_id: u32, records: u32) -> usize
-    requires { ⌜ (l .id ≤ 8) × (l .place ≤ 8) ⌝ }
-    ensures { λ r. ⌜ Puts (now (out .entry)) (now (out .exit)) 0 r (headerBytes l (l .number, (definitions, («max_id», records)))) ⌝ }
+pub fn put_header(
+    out: &mut [u8],
+    layout: Layout,
+    definitions: u32,
+    max_id: u32,
+    records: u32,
+) -> usize
+    requires { ⌜ (layout .id ≤ 8) × (layout .place ≤ 8) ⌝ }
+    ensures { λ r. ⌜ Puts (now (out .entry)) (now (out .exit)) 0 r (headerBytes layout (layout .number, (definitions, («max_id», records)))) ⌝ }
 {
-    let a = put_number(out, 0, 2, l.number);
+    let a = put_number(out, 0, 2, layout.number);
     let b = put_number(out, a, 2, definitions);
-    let c = put_number(out, b, l.id, max_id);
-    put_number(out, c, l.place, records)
+    let c = put_number(out, b, layout.id, max_id);
+    put_number(out, c, layout.place, records)
 }
 
 fn narrow(n: usize) -> u32

@@ -10,13 +10,13 @@ pub struct Progress {
 }
 
 // A record was written up to `next`: its length is noted.
-pub fn note(lengths: &mut [usize], p: Progress, next: usize) -> Progress
-    requires { ⌜ (p .at ≤ next) × (p .count + 1 < 2 ^ 64) ⌝ }
-    ensures { λ r. ⌜ Noted r p next (now (lengths .entry)) (now (lengths .exit)) ⌝ }
+pub fn note(lengths: &mut [usize], so_far: Progress, next: usize) -> Progress
+    requires { ⌜ («so_far» .at ≤ next) × («so_far» .count + 1 < 2 ^ 64) ⌝ }
+    ensures { λ r. ⌜ Noted r «so_far» next (now (lengths .entry)) (now (lengths .exit)) ⌝ }
 {
-    let count = p.count;
-    let max_id = p.max_id;
-    let length = next - p.at;
+    let count = so_far.count;
+    let max_id = so_far.max_id;
+    let length = next - so_far.at;
     let next_count = count + 1;
     if count < lengths.len() {
         lengths[count] = length;

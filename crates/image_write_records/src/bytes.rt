@@ -7,30 +7,30 @@ ghost use lib.Seq.{sets};
 ghost use Rattle.image_write_parts.specs.Puts.{Puts};
 
 // The n bytes of s that begin at `from`.
-pub fn copy(s: &[u8], from: usize, n: usize, out: &mut [u8], at: usize) -> usize
-    requires { ⌜ (from + n ≤ length (now s)) × (at + n < 2 ^ 64) ⌝ }
-    ensures { λ r. ⌜ Puts (now (out .entry)) (now (out .exit)) at r (take n (drop from (now (s .entry)))) ⌝ }
+pub fn copy(image: &[u8], from: usize, n: usize, out: &mut [u8], at: usize) -> usize
+    requires { ⌜ (from + n ≤ length (now image)) × (at + n < 2 ^ 64) ⌝ }
+    ensures { λ r. ⌜ Puts (now (out .entry)) (now (out .exit)) at r (take n (drop from (now (image .entry)))) ⌝ }
 {
     if at + n <= out.len() {
-        return copy_inside(s, from, n, out, at);
+        return copy_inside(image, from, n, out, at);
     }
     let mut here = at;
     let mut i = 0;
     while i < n {
-        here = put_byte(out, here, s[from + i]);
+        here = put_byte(out, here, image[from + i]);
         i += 1;
     }
     here
 }
 
 // The same where the buffer has room for all of them.
-fn copy_inside(s: &[u8], from: usize, n: usize, out: &mut [u8], at: usize) -> usize
-    requires { ⌜ (from + n ≤ length (now s)) × (at + n ≤ length (now out)) ⌝ }
-    ensures { λ r. ⌜ Puts (now (out .entry)) (now (out .exit)) at r (take n (drop from (now (s .entry)))) ⌝ }
+fn copy_inside(image: &[u8], from: usize, n: usize, out: &mut [u8], at: usize) -> usize
+    requires { ⌜ (from + n ≤ length (now image)) × (at + n ≤ length (now out)) ⌝ }
+    ensures { λ r. ⌜ Puts (now (out .entry)) (now (out .exit)) at r (take n (drop from (now (image .entry)))) ⌝ }
 {
     let mut i = 0;
     while i < n {
-        out[at + i] = s[from + i];
+        out[at + i] = image[from + i];
         i += 1;
     }
     at + n

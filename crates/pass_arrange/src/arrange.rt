@@ -24,16 +24,16 @@ pub fn arrange_kept(
     w: usize,
     out: &mut [u8],
     lengths: &mut [usize],
-    p: Progress,
+    so_far: Progress,
 ) -> Progress
-    requires { ⌜ Workable kept 0 0 × ((w ≤ 8) × RoomAt p) ⌝ }
-    ensures { λ r. ⌜ Arranges w (now (out .entry)) (now (out .exit)) (now (lengths .entry)) (now (lengths .exit)) p r (arranged right (bindings (workOf kept)) (bindings (workOf kept))) ⌝ }
+    requires { ⌜ Workable kept 0 0 × ((w ≤ 8) × RoomAt «so_far») ⌝ }
+    ensures { λ r. ⌜ Arranges w (now (out .entry)) (now (out .exit)) (now (lengths .entry)) (now (lengths .exit)) «so_far» r (arranged right (bindings (workOf kept)) (bindings (workOf kept))) ⌝ }
 {
     if right {
-        return p;
+        return so_far;
     }
     let none = TypingContext::empty();
-    arrange_behind(right, kept, none, none, w, out, lengths, p)
+    arrange_behind(right, kept, none, none, w, out, lengths, so_far)
 }
 
 // The context becomes the targets.
@@ -44,16 +44,16 @@ pub fn arrange_args(
     w: usize,
     out: &mut [u8],
     lengths: &mut [usize],
-    p: Progress,
+    so_far: Progress,
 ) -> Progress
-    requires { ⌜ Paired targets wanted × ((w ≤ 8) × RoomAt p) ⌝ }
-    ensures { λ r. ⌜ Arranges w (now (out .entry)) (now (out .exit)) (now (lengths .entry)) (now (lengths .exit)) p r (arranged right (contextOf targets) (contextOf wanted)) ⌝ }
+    requires { ⌜ Paired targets wanted × ((w ≤ 8) × RoomAt «so_far») ⌝ }
+    ensures { λ r. ⌜ Arranges w (now (out .entry)) (now (out .exit)) (now (lengths .entry)) (now (lengths .exit)) «so_far» r (arranged right (contextOf targets) (contextOf wanted)) ⌝ }
 {
     if right {
-        return p;
+        return so_far;
     }
     let none = Held::empty();
-    arrange_before(right, targets, wanted, none, w, out, lengths, p)
+    arrange_before(right, targets, wanted, none, w, out, lengths, so_far)
 }
 
 // The targets, and behind them the closure under its name.
@@ -65,16 +65,16 @@ pub fn arrange_closure(
     w: usize,
     out: &mut [u8],
     lengths: &mut [usize],
-    p: Progress,
+    so_far: Progress,
 ) -> Progress
-    requires { ⌜ Paired targets wanted × ((w ≤ 8) × RoomAt p) ⌝ }
-    ensures { λ r. ⌜ Arranges w (now (out .entry)) (now (out .exit)) (now (lengths .entry)) (now (lengths .exit)) p r (arranged right (contextOf targets ++ (closure ∷ [])) (contextOf wanted ++ (closure ∷ []))) ⌝ }
+    requires { ⌜ Paired targets wanted × ((w ≤ 8) × RoomAt «so_far») ⌝ }
+    ensures { λ r. ⌜ Arranges w (now (out .entry)) (now (out .exit)) (now (lengths .entry)) (now (lengths .exit)) «so_far» r (arranged right (contextOf targets ++ (closure ∷ [])) (contextOf wanted ++ (closure ∷ []))) ⌝ }
 {
     if right {
-        return p;
+        return so_far;
     }
     let last = Held::empty().own(0, closure);
-    arrange_before(right, targets, wanted, last, w, out, lengths, p)
+    arrange_before(right, targets, wanted, last, w, out, lengths, so_far)
 }
 
 // What is kept, and behind it one more.
@@ -86,17 +86,17 @@ pub fn arrange_one(
     w: usize,
     out: &mut [u8],
     lengths: &mut [usize],
-    p: Progress,
+    so_far: Progress,
 ) -> Progress
-    requires { ⌜ Workable kept 0 0 × ((w ≤ 8) × RoomAt p) ⌝ }
-    ensures { λ r. ⌜ Arranges w (now (out .entry)) (now (out .exit)) (now (lengths .entry)) (now (lengths .exit)) p r (arranged right (bindings (workOf kept) ++ (target ∷ [])) (bindings (workOf kept) ++ (wanted ∷ []))) ⌝ }
+    requires { ⌜ Workable kept 0 0 × ((w ≤ 8) × RoomAt «so_far») ⌝ }
+    ensures { λ r. ⌜ Arranges w (now (out .entry)) (now (out .exit)) (now (lengths .entry)) (now (lengths .exit)) «so_far» r (arranged right (bindings (workOf kept) ++ (target ∷ [])) (bindings (workOf kept) ++ (wanted ∷ []))) ⌝ }
 {
     if right {
-        return p;
+        return so_far;
     }
     let targets = TypingContext::empty().push(target);
     let sources = TypingContext::empty().push(wanted);
-    arrange_behind(right, kept, targets, sources, w, out, lengths, p)
+    arrange_behind(right, kept, targets, sources, w, out, lengths, so_far)
 }
 
 // What is kept, and behind it the targets. The pairs are built and then written in one function, here and below: given to another they would be
@@ -109,13 +109,13 @@ pub fn arrange_behind(
     w: usize,
     out: &mut [u8],
     lengths: &mut [usize],
-    p: Progress,
+    so_far: Progress,
 ) -> Progress
-    requires { ⌜ Workable kept 0 0 × (Paired targets wanted × ((w ≤ 8) × RoomAt p)) ⌝ }
-    ensures { λ r. ⌜ Arranges w (now (out .entry)) (now (out .exit)) (now (lengths .entry)) (now (lengths .exit)) p r (arranged right (bindings (workOf kept) ++ contextOf targets) (bindings (workOf kept) ++ contextOf wanted)) ⌝ }
+    requires { ⌜ Workable kept 0 0 × (Paired targets wanted × ((w ≤ 8) × RoomAt «so_far»)) ⌝ }
+    ensures { λ r. ⌜ Arranges w (now (out .entry)) (now (out .exit)) (now (lengths .entry)) (now (lengths .exit)) «so_far» r (arranged right (bindings (workOf kept) ++ contextOf targets) (bindings (workOf kept) ++ contextOf wanted)) ⌝ }
 {
     if right {
-        return p;
+        return so_far;
     }
     let k = kept.len;
     let n = k + targets.len;
@@ -138,14 +138,14 @@ pub fn arrange_behind(
             i += 1;
         }
     }
-    let mut here = put_substitute(out, p.at, n);
+    let mut here = put_substitute(out, so_far.at, n);
     let mut j = 0;
     while j < n {
         let pair = all.pairs[j];
         here = put_pair(out, here, w, pair);
         j += 1;
     }
-    note(lengths, p, here)
+    note(lengths, so_far, here)
 }
 
 // The targets, and behind them what is kept.
@@ -157,13 +157,13 @@ pub fn arrange_before(
     w: usize,
     out: &mut [u8],
     lengths: &mut [usize],
-    p: Progress,
+    so_far: Progress,
 ) -> Progress
-    requires { ⌜ Paired targets wanted × (Workable kept 0 0 × ((w ≤ 8) × RoomAt p)) ⌝ }
-    ensures { λ r. ⌜ Arranges w (now (out .entry)) (now (out .exit)) (now (lengths .entry)) (now (lengths .exit)) p r (arranged right (contextOf targets ++ bindings (workOf kept)) (contextOf wanted ++ bindings (workOf kept))) ⌝ }
+    requires { ⌜ Paired targets wanted × (Workable kept 0 0 × ((w ≤ 8) × RoomAt «so_far»)) ⌝ }
+    ensures { λ r. ⌜ Arranges w (now (out .entry)) (now (out .exit)) (now (lengths .entry)) (now (lengths .exit)) «so_far» r (arranged right (contextOf targets ++ bindings (workOf kept)) (contextOf wanted ++ bindings (workOf kept))) ⌝ }
 {
     if right {
-        return p;
+        return so_far;
     }
     let k = targets.len;
     let n = k + kept.len;
@@ -186,12 +186,12 @@ pub fn arrange_before(
             i += 1;
         }
     }
-    let mut here = put_substitute(out, p.at, n);
+    let mut here = put_substitute(out, so_far.at, n);
     let mut j = 0;
     while j < n {
         let pair = all.pairs[j];
         here = put_pair(out, here, w, pair);
         j += 1;
     }
-    note(lengths, p, here)
+    note(lengths, so_far, here)
 }

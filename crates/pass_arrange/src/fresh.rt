@@ -27,12 +27,12 @@ pub fn freshen_unless(right: bool, args: TypingContext, clashes: IdSet, max_id: 
 }
 
 // How far the output has come, with the max_id after the draws.
-pub fn with_max_id(p: Progress, max_id: VarId) -> Progress
-    ensures { λ r. ⌜ r ≡ drawnTo p («max_id» .0) ⌝ }
+pub fn with_max_id(so_far: Progress, max_id: VarId) -> Progress
+    ensures { λ r. ⌜ r ≡ drawnTo «so_far» («max_id» .0) ⌝ }
 {
     Progress {
-        at: p.at,
-        count: p.count,
+        at: so_far.at,
+        count: so_far.count,
         max_id: max_id.0,
     }
 }

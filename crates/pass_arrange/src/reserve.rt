@@ -4,13 +4,13 @@ ghost use Prim.Native.Nat.{_+_, _≤_};
 ghost use Rattle.pass_arrange.specs.Stepping.{RoomAt, Reserves};
 
 // A Substitute of `wanted` pairs unless the context is right, and a record of `own` bytes.
-pub fn reserve(right: bool, wanted: usize, own: usize, w: usize, p: Progress) -> Progress
-    requires { ⌜ (wanted ≤ 128) × ((own ≤ 4096) × ((w ≤ 8) × RoomAt p)) ⌝ }
-    ensures { λ r. ⌜ Reserves right wanted own w p r ⌝ }
+pub fn reserve(right: bool, wanted: usize, own: usize, w: usize, so_far: Progress) -> Progress
+    requires { ⌜ (wanted ≤ 128) × ((own ≤ 4096) × ((w ≤ 8) × RoomAt «so_far»)) ⌝ }
+    ensures { λ r. ⌜ Reserves right wanted own w «so_far» r ⌝ }
 {
-    let at = p.at;
-    let count = p.count;
-    let max_id = p.max_id;
+    let at = so_far.at;
+    let count = so_far.count;
+    let max_id = so_far.max_id;
     if right {
         return Progress {
             at: at + own,

@@ -36,16 +36,16 @@ fn environment(context: Held, next: usize, free_vars_clauses: u64) -> Held
 
 // The clauses have the environment.
 pub fn open(
-    s: &[u8],
-    g: Frame,
+    image: &[u8],
+    frame: Frame,
     i: usize,
     free_vars_clauses: u64,
     free_vars_next: u64,
     context: Held,
-    p: Progress,
+    so_far: Progress,
 ) -> Opened
-    requires { ⌜ SourceAt g (now s) i 6 × (Workable context 0 0 × RoomAt p) ⌝ }
-    ensures { λ r. ⌜ OpensAs (g .id) (recordAt g (now (s .entry)) i) «free_vars_clauses» «free_vars_next» (workOf context) p r ⌝ }
+    requires { ⌜ SourceAt frame (now image) i 6 × (Workable context 0 0 × RoomAt «so_far») ⌝ }
+    ensures { λ r. ⌜ OpensAs (frame .id) (recordAt frame (now (image .entry)) i) «free_vars_clauses» «free_vars_next» (workOf context) «so_far» r ⌝ }
 {
     let context_next = context.filter(free_vars_next);
     let closure_environment = environment(context, context_next.len, free_vars_clauses);
@@ -55,9 +55,9 @@ pub fn open(
     } else {
         false
     };
-    let w = g.id;
+    let w = frame.id;
     let own = Kind::fixed(6, w) + (3 + closure_environment.len * (6 + (w + w)));
-    let progress = reserve(right, kept, own, w, p);
+    let progress = reserve(right, kept, own, w, so_far);
     Opened {
         context: closure_environment,
         right,
@@ -78,8 +78,8 @@ fn renamed(right: bool, context_next: Held, names: TypingContext) -> Held
 
 // The clauses are done: a Substitute where the context is not right, and the Create with its environment.
 pub fn linearize(
-    s: &[u8],
-    g: Frame,
+    image: &[u8],
+    frame: Frame,
     i: usize,
     free_vars_clauses: u64,
     free_vars_next: u64,
@@ -88,25 +88,25 @@ pub fn linearize(
     opened: Opened,
     out: &mut [u8],
     lengths: &mut [usize],
-    p: Progress,
+    so_far: Progress,
 ) -> Stepped
-    requires { ⌜ SourceAt g (now s) i 6 × (Workable context «in_scope» 1 × (OpenedAs (recordAt g (now s) i) «free_vars_clauses» «free_vars_next» (workOf context) opened × RoomAt p)) ⌝ }
-    ensures { λ r. ⌜ StepsAs (g .id) (recordAt g (now (s .entry)) i) «free_vars_clauses» «free_vars_next» (workOf context) «in_scope» (now (out .entry)) (now (out .exit)) (now (lengths .entry)) (now (lengths .exit)) p r ⌝ }
+    requires { ⌜ SourceAt frame (now image) i 6 × (Workable context «in_scope» 1 × (OpenedAs (recordAt frame (now image) i) «free_vars_clauses» «free_vars_next» (workOf context) opened × RoomAt «so_far»)) ⌝ }
+    ensures { λ r. ⌜ StepsAs (frame .id) (recordAt frame (now (image .entry)) i) «free_vars_clauses» «free_vars_next» (workOf context) «in_scope» (now (out .entry)) (now (out .exit)) (now (lengths .entry)) (now (lengths .exit)) «so_far» r ⌝ }
 {
-    let statement = create(s, g, i);
+    let statement = create(image, frame, i);
     let captured = opened.context;
     let right = opened.right;
     let context_next = context.filter(free_vars_next);
     let next = context_next.context();
-    let freshened = freshen_unless(right, next, captured.ids(), p.max_id);
+    let freshened = freshen_unless(right, next, captured.ids(), so_far.max_id);
     let fresh = freshened.context;
-    let q = arrange_before(right, fresh, next, captured, g.id, out, lengths, p);
+    let q = arrange_before(right, fresh, next, captured, frame.id, out, lengths, so_far);
     let var = statement.var;
     let ty = statement.ty;
     let place = put_create(
         out,
         q.at,
-        g.id,
+        frame.id,
         var,
         ty,
         captured.context(),

@@ -42,17 +42,17 @@ fn matched(context: Held, var: Identifier, ty: Ty) -> ContextBinding
 
 // The clauses have what they need, without the variable that is matched on.
 pub fn open(
-    s: &[u8],
-    g: Frame,
+    image: &[u8],
+    frame: Frame,
     i: usize,
     free_vars_clauses: u64,
     context: Held,
-    p: Progress,
+    so_far: Progress,
 ) -> Opened
-    requires { ⌜ SourceAt g (now s) i 5 × (Workable context 0 0 × RoomAt p) ⌝ }
-    ensures { λ r. ⌜ OpensAs (g .id) (recordAt g (now (s .entry)) i) «free_vars_clauses» 0 (workOf context) p r ⌝ }
+    requires { ⌜ SourceAt frame (now image) i 5 × (Workable context 0 0 × RoomAt «so_far») ⌝ }
+    ensures { λ r. ⌜ OpensAs (frame .id) (recordAt frame (now (image .entry)) i) «free_vars_clauses» 0 (workOf context) «so_far» r ⌝ }
 {
-    let statement = switch(s, g, i);
+    let statement = switch(image, frame, i);
     let new_context = context.filter(free_vars_clauses);
     let ty = statement.ty;
     let xtor = matched(context, statement.var, ty);
@@ -61,8 +61,8 @@ pub fn open(
     } else {
         false
     };
-    let w = g.id;
-    let progress = reserve(right, new_context.len + 1, Kind::fixed(5, w) + 1, w, p);
+    let w = frame.id;
+    let progress = reserve(right, new_context.len + 1, Kind::fixed(5, w) + 1, w, so_far);
     Opened {
         context: new_context,
         right,
@@ -99,8 +99,8 @@ fn fresh_var(right: bool, binding: ContextBinding, clashes: IdSet, max_id: u32) 
 
 // The clauses are done: a Substitute where the context is not right, and the Switch.
 pub fn linearize(
-    s: &[u8],
-    g: Frame,
+    image: &[u8],
+    frame: Frame,
     i: usize,
     free_vars_clauses: u64,
     context: Held,
@@ -108,20 +108,29 @@ pub fn linearize(
     opened: Opened,
     out: &mut [u8],
     lengths: &mut [usize],
-    p: Progress,
+    so_far: Progress,
 ) -> Progress
-    requires { ⌜ SourceAt g (now s) i 5 × (Workable context «in_scope» 0 × (OpenedAs (recordAt g (now s) i) «free_vars_clauses» 0 (workOf context) opened × RoomAt p)) ⌝ }
-    ensures { λ r. ⌜ LeavesAs (g .id) (recordAt g (now (s .entry)) i) «free_vars_clauses» 0 (workOf context) «in_scope» (now (out .entry)) (now (out .exit)) (now (lengths .entry)) (now (lengths .exit)) p r ⌝ }
+    requires { ⌜ SourceAt frame (now image) i 5 × (Workable context «in_scope» 0 × (OpenedAs (recordAt frame (now image) i) «free_vars_clauses» 0 (workOf context) opened × RoomAt «so_far»)) ⌝ }
+    ensures { λ r. ⌜ LeavesAs (frame .id) (recordAt frame (now (image .entry)) i) «free_vars_clauses» 0 (workOf context) «in_scope» (now (out .entry)) (now (out .exit)) (now (lengths .entry)) (now (lengths .exit)) «so_far» r ⌝ }
 {
-    let statement = switch(s, g, i);
+    let statement = switch(image, frame, i);
     let new_context = opened.context;
     let right = opened.right;
     let ty = statement.ty;
     let xtor = matched(context, statement.var, ty);
-    let fresh = fresh_var(right, xtor, new_context.ids(), p.max_id);
+    let fresh = fresh_var(right, xtor, new_context.ids(), so_far.max_id);
     let binding = fresh.binding;
-    let q = arrange_one(right, new_context, binding, xtor, g.id, out, lengths, p);
-    let next = put_switch(out, q.at, g.id, binding.var, ty, statement.clauses);
+    let q = arrange_one(
+        right,
+        new_context,
+        binding,
+        xtor,
+        frame.id,
+        out,
+        lengths,
+        so_far,
+    );
+    let next = put_switch(out, q.at, frame.id, binding.var, ty, statement.clauses);
     let noted = note(lengths, q, next);
     with_max_id(noted, VarId(fresh.max_id))
 }

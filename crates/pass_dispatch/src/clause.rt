@@ -16,8 +16,8 @@ ghost use Rattle.pass_dispatch.specs.Entering.{Enters, entering};
 // A clause or a definition is written as it is, and its parameters join the context: those of a Create's clauses come before it,
 // all others behind it.
 pub fn enter(
-    s: &[u8],
-    g: Frame,
+    image: &[u8],
+    frame: Frame,
     i: usize,
     kind: u8,
     before: bool,
@@ -25,15 +25,15 @@ pub fn enter(
     in_scope: u8,
     out: &mut [u8],
     lengths: &mut [usize],
-    p: Progress,
+    so_far: Progress,
 ) -> Stepped
-    requires { ⌜ SourceAt g (now s) i kind × (Enters kind × (Workable context «in_scope» (length (listOf (recordAt g (now s) i))) × RoomAt p)) ⌝ }
-    ensures { λ r. ⌜ Steps (g .id) (now (out .entry)) (now (out .exit)) (now (lengths .entry)) (now (lengths .exit)) p r (entering (recordAt g (now (s .entry)) i) before (workOf context) «in_scope» (p .«max_id»)) ⌝ }
+    requires { ⌜ SourceAt frame (now image) i kind × (Enters kind × (Workable context «in_scope» (length (listOf (recordAt frame (now image) i))) × RoomAt «so_far»)) ⌝ }
+    ensures { λ r. ⌜ Steps (frame .id) (now (out .entry)) (now (out .exit)) (now (lengths .entry)) (now (lengths .exit)) «so_far» r (entering (recordAt frame (now (image .entry)) i) before (workOf context) «in_scope» («so_far» .«max_id»)) ⌝ }
 {
-    let record = named(s, g, i);
+    let record = named(image, frame, i);
     let params = record.list;
-    let next = put_headed(out, p.at, g.id, kind, record.name, params);
-    let progress = note(lengths, p, next);
+    let next = put_headed(out, so_far.at, frame.id, kind, record.name, params);
+    let progress = note(lengths, so_far, next);
     let in_body = in_scope + (params.len as u8);
     if before {
         return Stepped {

@@ -20,28 +20,36 @@ ghost use Rattle.pass_dispatch.specs.Choices.{Binds, Settles};
 
 // What comes before the clauses of a Switch or a Create.
 pub fn open(
-    s: &[u8],
-    g: Frame,
+    image: &[u8],
+    frame: Frame,
     i: usize,
     kind: u8,
     free_vars_clauses: u64,
     free_vars_next: u64,
     context: Held,
-    p: Progress,
+    so_far: Progress,
 ) -> Opened
-    requires { ⌜ SourceAt g (now s) i kind × ((5 ≤ kind) × ((kind ≤ 6) × (Workable context 0 0 × RoomAt p))) ⌝ }
-    ensures { λ r. ⌜ OpensAs (g .id) (recordAt g (now (s .entry)) i) «free_vars_clauses» «free_vars_next» (workOf context) p r ⌝ }
+    requires { ⌜ SourceAt frame (now image) i kind × ((5 ≤ kind) × ((kind ≤ 6) × (Workable context 0 0 × RoomAt «so_far»))) ⌝ }
+    ensures { λ r. ⌜ OpensAs (frame .id) (recordAt frame (now (image .entry)) i) «free_vars_clauses» «free_vars_next» (workOf context) «so_far» r ⌝ }
 {
     if kind == 5 {
-        return switch::open(s, g, i, free_vars_clauses, context, p);
+        return switch::open(image, frame, i, free_vars_clauses, context, so_far);
     }
-    create::open(s, g, i, free_vars_clauses, free_vars_next, context, p)
+    create::open(
+        image,
+        frame,
+        i,
+        free_vars_clauses,
+        free_vars_next,
+        context,
+        so_far,
+    )
 }
 
 // The step of a statement that binds, and has no clauses: Let, Literal or Op.
 pub fn bind(
-    s: &[u8],
-    g: Frame,
+    image: &[u8],
+    frame: Frame,
     i: usize,
     kind: u8,
     free_vars_clauses: u64,
@@ -50,23 +58,53 @@ pub fn bind(
     in_scope: u8,
     out: &mut [u8],
     lengths: &mut [usize],
-    p: Progress,
+    so_far: Progress,
 ) -> Stepped
-    requires { ⌜ SourceAt g (now s) i kind × (Binds kind × (Workable context «in_scope» 1 × RoomAt p)) ⌝ }
-    ensures { λ r. ⌜ StepsAs (g .id) (recordAt g (now (s .entry)) i) «free_vars_clauses» «free_vars_next» (workOf context) «in_scope» (now (out .entry)) (now (out .exit)) (now (lengths .entry)) (now (lengths .exit)) p r ⌝ }
+    requires { ⌜ SourceAt frame (now image) i kind × (Binds kind × (Workable context «in_scope» 1 × RoomAt «so_far»)) ⌝ }
+    ensures { λ r. ⌜ StepsAs (frame .id) (recordAt frame (now (image .entry)) i) «free_vars_clauses» «free_vars_next» (workOf context) «in_scope» (now (out .entry)) (now (out .exit)) (now (lengths .entry)) (now (lengths .exit)) «so_far» r ⌝ }
 {
     let next = free_vars_next;
     match kind {
-        4 => let_::linearize(s, g, i, next, context, in_scope, out, lengths, p),
-        8 => literal::linearize(s, g, i, next, context, in_scope, out, lengths, p),
-        _ => op::linearize(s, g, i, next, context, in_scope, out, lengths, p),
+        4 => let_::linearize(
+            image,
+            frame,
+            i,
+            next,
+            context,
+            in_scope,
+            out,
+            lengths,
+            so_far,
+        ),
+        8 => literal::linearize(
+            image,
+            frame,
+            i,
+            next,
+            context,
+            in_scope,
+            out,
+            lengths,
+            so_far,
+        ),
+        _ => op::linearize(
+            image,
+            frame,
+            i,
+            next,
+            context,
+            in_scope,
+            out,
+            lengths,
+            so_far,
+        ),
     }
 }
 
 // The step of a statement that binds nothing, and has no clauses: Call, Invoke or IfC. The context stays.
 pub fn settle(
-    s: &[u8],
-    g: Frame,
+    image: &[u8],
+    frame: Frame,
     i: usize,
     kind: u8,
     free_vars_clauses: u64,
@@ -75,14 +113,14 @@ pub fn settle(
     in_scope: u8,
     out: &mut [u8],
     lengths: &mut [usize],
-    p: Progress,
+    so_far: Progress,
 ) -> Progress
-    requires { ⌜ SourceAt g (now s) i kind × (Settles kind × (Workable context «in_scope» 0 × RoomAt p)) ⌝ }
-    ensures { λ r. ⌜ LeavesAs (g .id) (recordAt g (now (s .entry)) i) «free_vars_clauses» «free_vars_next» (workOf context) «in_scope» (now (out .entry)) (now (out .exit)) (now (lengths .entry)) (now (lengths .exit)) p r ⌝ }
+    requires { ⌜ SourceAt frame (now image) i kind × (Settles kind × (Workable context «in_scope» 0 × RoomAt «so_far»)) ⌝ }
+    ensures { λ r. ⌜ LeavesAs (frame .id) (recordAt frame (now (image .entry)) i) «free_vars_clauses» «free_vars_next» (workOf context) «in_scope» (now (out .entry)) (now (out .exit)) (now (lengths .entry)) (now (lengths .exit)) «so_far» r ⌝ }
 {
     match kind {
-        3 => call::linearize(s, g, i, context, in_scope, out, lengths, p),
-        7 => invoke::linearize(s, g, i, context, in_scope, out, lengths, p),
-        _ => ifc::linearize(s, g, i, context, in_scope, out, lengths, p),
+        3 => call::linearize(image, frame, i, context, in_scope, out, lengths, so_far),
+        7 => invoke::linearize(image, frame, i, context, in_scope, out, lengths, so_far),
+        _ => ifc::linearize(image, frame, i, context, in_scope, out, lengths, so_far),
     }
 }

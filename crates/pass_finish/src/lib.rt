@@ -23,12 +23,12 @@ fn narrow(n: usize) -> u32
 }
 
 // Where the records of an image of n records begin.
-fn body_at(l: Layout, n: usize) -> usize
-    requires { ⌜ Known l × (n < 65536) ⌝ }
-    ensures { λ r. ⌜ r ≡ bodyAt l n ⌝ }
+fn body_at(layout: Layout, n: usize) -> usize
+    requires { ⌜ Known layout × (n < 65536) ⌝ }
+    ensures { λ r. ⌜ r ≡ bodyAt layout n ⌝ }
 {
-    let id = l.id;
-    let place = l.place;
+    let id = layout.id;
+    let place = layout.place;
     2 + (2 + (id + place)) + n * (place + place)
 }
 
@@ -41,40 +41,47 @@ fn refuse(out: &mut [u8], question: Refusal) -> Answer
 }
 
 // Moves the records from `start` up to their place, and writes the header and the directory before them.
-fn complete(out: &mut [u8], lengths: &[usize], l: Layout, d: usize, start: usize, p: Progress)
-    requires { ⌜ Finishable l (now lengths) d start p × (bodyAt l (p .count) + (p .at - start) ≤ length (now out)) ⌝ }
-    ensures { λ _. ⌜ now (out .exit) ≡ sets (sets (now (out .entry)) (bodyAt l (p .count)) (take (p .at - start) (drop start (now (out .entry))))) 0 (heading l d (p .«max_id») (p .count) (take (p .count) (now (lengths .entry)))) ⌝ }
+fn complete(
+    out: &mut [u8],
+    lengths: &[usize],
+    layout: Layout,
+    defs: usize,
+    start: usize,
+    so_far: Progress,
+)
+    requires { ⌜ Finishable layout (now lengths) defs start «so_far» × (bodyAt layout («so_far» .count) + («so_far» .at - start) ≤ length (now out)) ⌝ }
+    ensures { λ _. ⌜ now (out .exit) ≡ sets (sets (now (out .entry)) (bodyAt layout («so_far» .count)) (take («so_far» .at - start) (drop start (now (out .entry))))) 0 (heading layout defs («so_far» .«max_id») («so_far» .count) (take («so_far» .count) (now (lengths .entry)))) ⌝ }
 {
-    let count = p.count;
-    let body = body_at(l, count);
-    move_up(out, start, p.at - start, body - start);
-    let from = put_header(out, l, narrow(d), p.max_id, narrow(count));
-    put_directory(lengths, count, out, from, l.place, body);
+    let count = so_far.count;
+    let body = body_at(layout, count);
+    move_up(out, start, so_far.at - start, body - start);
+    let from = put_header(out, layout, narrow(defs), so_far.max_id, narrow(count));
+    put_directory(lengths, count, out, from, layout.place, body);
 }
 
 // The records of d definitions were written from `start` on, and their lengths noted; p says how far.
 pub fn finish(
     out: &mut [u8],
     lengths: &[usize],
-    l: Layout,
-    d: usize,
+    layout: Layout,
+    defs: usize,
     start: usize,
-    p: Progress,
+    so_far: Progress,
 ) -> Answer
-    requires { ⌜ Finishable l (now lengths) d start p ⌝ }
-    ensures { λ r. ⌜ Finishes l d start p (now (lengths .entry)) (now (out .entry)) (now (out .exit)) r ⌝ }
+    requires { ⌜ Finishable layout (now lengths) defs start «so_far» ⌝ }
+    ensures { λ r. ⌜ Finishes layout defs start «so_far» (now (lengths .entry)) (now (out .entry)) (now (out .exit)) r ⌝ }
 {
-    let max_id = p.max_id;
+    let max_id = so_far.max_id;
     if 65535 < max_id {
         return refuse(out, Refusal::Draws);
     }
-    let length = body_at(l, p.count) + (p.at - start);
+    let length = body_at(layout, so_far.count) + (so_far.at - start);
     if out.len() < length {
         return refuse(out, Refusal::Room);
     }
-    if l.largest < length {
+    if layout.largest < length {
         return refuse(out, Refusal::Room);
     }
-    complete(out, lengths, l, d, start, p);
+    complete(out, lengths, layout, defs, start, so_far);
     Answer::Accepted { length, max_id }
 }

@@ -29,77 +29,102 @@ const FEW: usize = 64;
 // source has; there may be up to twice as many. `rows` has two masks of each record of the source, `lengths` has room for the length of each that
 // is written.
 fn linearize_program(
-    s: &[u8],
-    l: Layout,
-    g: Frame,
-    d: usize,
+    image: &[u8],
+    layout: Layout,
+    frame: Frame,
+    defs: usize,
     max_id: u32,
     rows: &[u64],
     lengths: &mut [usize],
     out: &mut [u8],
 ) -> Answer
-    requires { ⌜ Checked l g (now s) d «max_id» × (Begins (now rows) 0 (rowsDefs (defsIn d (recordsIn g (now s)))) × (2 * g .count ≤ length (now lengths))) ⌝ }
-    ensures { λ r. ⌜ Replies (closing l (linearize (programIn d (recordsIn g (now (s .entry))) «max_id»)) (length (now (out .entry)))) r (now (out .entry)) (now (out .exit)) ⌝ }
+    requires { ⌜ Checked layout frame (now image) defs «max_id» × (Begins (now rows) 0 (rowsDefs (defsIn defs (recordsIn frame (now image)))) × (2 * frame .count ≤ length (now lengths))) ⌝ }
+    ensures { λ r. ⌜ Replies (closing layout (linearize (programIn defs (recordsIn frame (now (image .entry))) «max_id»)) (length (now (out .entry)))) r (now (out .entry)) (now (out .exit)) ⌝ }
 {
-    let start = g.start;
-    let p = Progress {
+    let start = frame.start;
+    let so_far = Progress {
         at: start,
         count: 0,
         max_id,
     };
-    let q = definitions(s, g, rows, d, out, lengths, p);
-    finish(out, lengths, l, d, start, q)
+    let q = definitions(image, frame, rows, defs, out, lengths, so_far);
+    finish(out, lengths, layout, defs, start, q)
 }
 
 // Questions 6 to 12, with what is worked with: room in `rows` and `lengths` for two of each record, if there are not more than question 7 allows.
 fn linearize_lent(
-    s: &[u8],
-    l: Layout,
-    g: Frame,
-    d: usize,
+    image: &[u8],
+    layout: Layout,
+    frame: Frame,
+    defs: usize,
     max_id: u32,
     rows: &mut [u64],
     lengths: &mut [usize],
     out: &mut [u8],
 ) -> Answer
-    requires { ⌜ Read l g (now s) d «max_id» × (g .count ≤ 2000 → (2 * g .count ≤ length (now rows)) × (2 * g .count ≤ length (now lengths))) ⌝ }
-    ensures { λ r. ⌜ Replies (linearizing l (programIn d (recordsIn g (now (s .entry))) «max_id») (length (now (out .entry)))) r (now (out .entry)) (now (out .exit)) ⌝ }
+    requires { ⌜ Read layout frame (now image) defs «max_id» × (frame .count ≤ 2000 → (2 * frame .count ≤ length (now rows)) × (2 * frame .count ≤ length (now lengths))) ⌝ }
+    ensures { λ r. ⌜ Replies (linearizing layout (programIn defs (recordsIn frame (now (image .entry))) «max_id») (length (now (out .entry)))) r (now (out .entry)) (now (out .exit)) ⌝ }
 {
-    match check_image(s, g, d, max_id, rows) {
+    match check_image(image, frame, defs, max_id, rows) {
         Answer::Accepted {
             length: _,
             max_id: _,
-        } => linearize_program(s, l, g, d, max_id, rows, lengths, out),
+        } => linearize_program(image, layout, frame, defs, max_id, rows, lengths, out),
         Answer::Refused(question) => Answer::Refused(question),
     }
 }
 
 // Questions 6 to 12.
-fn linearize_image(s: &[u8], l: Layout, g: Frame, d: usize, max_id: u32, out: &mut [u8]) -> Answer
-    requires { ⌜ Read l g (now s) d «max_id» ⌝ }
-    ensures { λ r. ⌜ Replies (linearizing l (programIn d (recordsIn g (now (s .entry))) «max_id») (length (now (out .entry)))) r (now (out .entry)) (now (out .exit)) ⌝ }
+fn linearize_image(
+    image: &[u8],
+    layout: Layout,
+    frame: Frame,
+    defs: usize,
+    max_id: u32,
+    out: &mut [u8],
+) -> Answer
+    requires { ⌜ Read layout frame (now image) defs «max_id» ⌝ }
+    ensures { λ r. ⌜ Replies (linearizing layout (programIn defs (recordsIn frame (now (image .entry))) «max_id») (length (now (out .entry)))) r (now (out .entry)) (now (out .exit)) ⌝ }
 {
-    if g.count <= FEW {
+    if frame.count <= FEW {
         let mut rows = [0u64; 128];
         let mut lengths = [0usize; 128];
-        return linearize_lent(s, l, g, d, max_id, &mut rows, &mut lengths, out);
+        return linearize_lent(
+            image,
+            layout,
+            frame,
+            defs,
+            max_id,
+            &mut rows,
+            &mut lengths,
+            out,
+        );
     }
     let mut rows = [0u64; 4000];
     let mut lengths = [0usize; 4000];
-    linearize_lent(s, l, g, d, max_id, &mut rows, &mut lengths, out)
+    linearize_lent(
+        image,
+        layout,
+        frame,
+        defs,
+        max_id,
+        &mut rows,
+        &mut lengths,
+        out,
+    )
 }
 
 // Linearizes an image of a layout whose IDs have at most two bytes.
-pub fn linearize(s: &[u8], l: Layout, out: &mut [u8]) -> Answer
-    requires { ⌜ Known l × (l .id ≤ 2) ⌝ }
-    ensures { λ r. ⌜ Replies (linearizeOf l (now (s .entry)) (length (now (out .entry)))) r (now (out .entry)) (now (out .exit)) ⌝ }
+pub fn linearize(image: &[u8], layout: Layout, out: &mut [u8]) -> Answer
+    requires { ⌜ Known layout × (layout .id ≤ 2) ⌝ }
+    ensures { λ r. ⌜ Replies (linearizeOf layout (now (image .entry)) (length (now (out .entry)))) r (now (out .entry)) (now (out .exit)) ⌝ }
 {
-    match open(s, l) {
+    match open(image, layout) {
         Opened::Image {
             frame,
-            definitions: d,
+            definitions: defs,
             max_id,
-        } => linearize_image(s, l, frame, d, max_id, out),
+        } => linearize_image(image, layout, frame, defs, max_id, out),
         Opened::Closed(question) => Answer::Refused(question),
     }
 }

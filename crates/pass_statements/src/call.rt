@@ -16,19 +16,19 @@ ghost use Rattle.pass_arrange.specs.Stepping.{RoomAt, SourceAt, Workable, Leave
 
 // A Call wants its arguments for the context. Written it has none: they are the context then.
 pub fn linearize(
-    s: &[u8],
-    g: Frame,
+    image: &[u8],
+    frame: Frame,
     i: usize,
     context: Held,
     in_scope: u8,
     out: &mut [u8],
     lengths: &mut [usize],
-    p: Progress,
+    so_far: Progress,
 ) -> Progress
-    requires { ⌜ SourceAt g (now s) i 3 × (Workable context «in_scope» 0 × RoomAt p) ⌝ }
-    ensures { λ r. ⌜ LeavesAs (g .id) (recordAt g (now (s .entry)) i) 0 0 (workOf context) «in_scope» (now (out .entry)) (now (out .exit)) (now (lengths .entry)) (now (lengths .exit)) p r ⌝ }
+    requires { ⌜ SourceAt frame (now image) i 3 × (Workable context «in_scope» 0 × RoomAt «so_far») ⌝ }
+    ensures { λ r. ⌜ LeavesAs (frame .id) (recordAt frame (now (image .entry)) i) 0 0 (workOf context) «in_scope» (now (out .entry)) (now (out .exit)) (now (lengths .entry)) (now (lengths .exit)) «so_far» r ⌝ }
 {
-    let statement = call(s, g, i);
+    let statement = call(image, frame, i);
     let args = context.used_all(statement.args);
     // the context must consist of the arguments for the top-level function
     let right = if context.len == args.len {
@@ -38,10 +38,10 @@ pub fn linearize(
     };
     // where it does not, duplicated variables get fresh names
     let clashes = IdSet::empty();
-    let freshened = freshen_unless(right, args, clashes, p.max_id);
+    let freshened = freshen_unless(right, args, clashes, so_far.max_id);
     let fresh = freshened.context;
-    let q = arrange_args(right, fresh, args, g.id, out, lengths, p);
-    let next = put_call(out, q.at, g.id, statement.label);
+    let q = arrange_args(right, fresh, args, frame.id, out, lengths, so_far);
+    let next = put_call(out, q.at, frame.id, statement.label);
     let noted = note(lengths, q, next);
     with_max_id(noted, freshened.max_id)
 }

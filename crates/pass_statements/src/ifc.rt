@@ -45,23 +45,23 @@ fn second(context: Held, snd: Second) -> Operand
 
 // An IfC inserts no Substitute: it binds nothing, and each branch has its own.
 pub fn linearize(
-    s: &[u8],
-    g: Frame,
+    image: &[u8],
+    frame: Frame,
     i: usize,
     context: Held,
     in_scope: u8,
     out: &mut [u8],
     lengths: &mut [usize],
-    p: Progress,
+    so_far: Progress,
 ) -> Progress
-    requires { ⌜ SourceAt g (now s) i 10 × (Workable context «in_scope» 0 × RoomAt p) ⌝ }
-    ensures { λ r. ⌜ LeavesAs (g .id) (recordAt g (now (s .entry)) i) 0 0 (workOf context) «in_scope» (now (out .entry)) (now (out .exit)) (now (lengths .entry)) (now (lengths .exit)) p r ⌝ }
+    requires { ⌜ SourceAt frame (now image) i 10 × (Workable context «in_scope» 0 × RoomAt «so_far») ⌝ }
+    ensures { λ r. ⌜ LeavesAs (frame .id) (recordAt frame (now (image .entry)) i) 0 0 (workOf context) «in_scope» (now (out .entry)) (now (out .exit)) (now (lengths .entry)) (now (lengths .exit)) «so_far» r ⌝ }
 {
-    let statement = ifc(s, g, i);
+    let statement = ifc(image, frame, i);
     let fst = context.used(statement.fst);
     let operand = statement.snd;
     let snd = second(context, operand);
     let sort = statement.sort;
-    let next = put_ifc(out, p.at, g.id, sort, fst, snd.marked, snd.var);
-    note(lengths, p, next)
+    let next = put_ifc(out, so_far.at, frame.id, sort, fst, snd.marked, snd.var);
+    note(lengths, so_far, next)
 }

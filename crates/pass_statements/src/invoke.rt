@@ -18,19 +18,19 @@ ghost use Rattle.pass_arrange.specs.Stepping.{RoomAt, SourceAt, Workable, Leave
 
 // An Invoke wants its arguments for the context, followed by its closure. Written it has no arguments: they are the context then.
 pub fn linearize(
-    s: &[u8],
-    g: Frame,
+    image: &[u8],
+    frame: Frame,
     i: usize,
     context: Held,
     in_scope: u8,
     out: &mut [u8],
     lengths: &mut [usize],
-    p: Progress,
+    so_far: Progress,
 ) -> Progress
-    requires { ⌜ SourceAt g (now s) i 7 × (Workable context «in_scope» 0 × RoomAt p) ⌝ }
-    ensures { λ r. ⌜ LeavesAs (g .id) (recordAt g (now (s .entry)) i) 0 0 (workOf context) «in_scope» (now (out .entry)) (now (out .exit)) (now (lengths .entry)) (now (lengths .exit)) p r ⌝ }
+    requires { ⌜ SourceAt frame (now image) i 7 × (Workable context «in_scope» 0 × RoomAt «so_far») ⌝ }
+    ensures { λ r. ⌜ LeavesAs (frame .id) (recordAt frame (now (image .entry)) i) 0 0 (workOf context) «in_scope» (now (out .entry)) (now (out .exit)) (now (lengths .entry)) (now (lengths .exit)) «so_far» r ⌝ }
 {
-    let statement = invoke(s, g, i);
+    let statement = invoke(image, frame, i);
     // the context must consist of the arguments for the method ...
     let args = context.used_all(statement.args);
     // ... followed by the variable of the closure
@@ -47,10 +47,10 @@ pub fn linearize(
         false
     };
     let clashes = IdSet::empty().add(var.id);
-    let freshened = freshen_unless(right, args, clashes, p.max_id);
+    let freshened = freshen_unless(right, args, clashes, so_far.max_id);
     let fresh = freshened.context;
-    let q = arrange_closure(right, fresh, args, closure, g.id, out, lengths, p);
-    let next = put_invoke(out, q.at, g.id, var, statement.tag, ty);
+    let q = arrange_closure(right, fresh, args, closure, frame.id, out, lengths, so_far);
+    let next = put_invoke(out, q.at, frame.id, var, statement.tag, ty);
     let noted = note(lengths, q, next);
     with_max_id(noted, freshened.max_id)
 }

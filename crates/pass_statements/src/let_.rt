@@ -17,20 +17,20 @@ ghost use Rattle.pass_arrange.specs.Stepping.{RoomAt, SourceAt, Workable, Steps
 
 // A Let keeps what its next needs, with its arguments behind it, and binds its var in their place.
 pub fn linearize(
-    s: &[u8],
-    g: Frame,
+    image: &[u8],
+    frame: Frame,
     i: usize,
     free_vars_next: u64,
     context: Held,
     in_scope: u8,
     out: &mut [u8],
     lengths: &mut [usize],
-    p: Progress,
+    so_far: Progress,
 ) -> Stepped
-    requires { ⌜ SourceAt g (now s) i 4 × (Workable context «in_scope» 1 × RoomAt p) ⌝ }
-    ensures { λ r. ⌜ StepsAs (g .id) (recordAt g (now (s .entry)) i) 0 «free_vars_next» (workOf context) «in_scope» (now (out .entry)) (now (out .exit)) (now (lengths .entry)) (now (lengths .exit)) p r ⌝ }
+    requires { ⌜ SourceAt frame (now image) i 4 × (Workable context «in_scope» 1 × RoomAt «so_far») ⌝ }
+    ensures { λ r. ⌜ StepsAs (frame .id) (recordAt frame (now (image .entry)) i) 0 «free_vars_next» (workOf context) «in_scope» (now (out .entry)) (now (out .exit)) (now (lengths .entry)) (now (lengths .exit)) «so_far» r ⌝ }
 {
-    let statement = let_record(s, g, i);
+    let statement = let_record(image, frame, i);
     let new_context = context.filter(free_vars_next);
     let args = context.used_all(statement.args);
     let var = statement.var;
@@ -45,10 +45,19 @@ pub fn linearize(
     } else {
         false
     };
-    let fresh = freshen_unless(right, args, new_context.ids(), p.max_id);
+    let fresh = freshen_unless(right, args, new_context.ids(), so_far.max_id);
     let freshened = fresh.context;
-    let q = arrange_behind(right, new_context, freshened, args, g.id, out, lengths, p);
-    let next = put_let(out, q.at, g.id, var, ty, statement.tag, freshened);
+    let q = arrange_behind(
+        right,
+        new_context,
+        freshened,
+        args,
+        frame.id,
+        out,
+        lengths,
+        so_far,
+    );
+    let next = put_let(out, q.at, frame.id, var, ty, statement.tag, freshened);
     let noted = note(lengths, q, next);
     Stepped {
         context: new_context.own(in_scope, new_binding),

@@ -16,25 +16,25 @@ ghost use Rattle.pass_arrange.specs.Stepping.{RoomAt, SourceAt, Workable, Steps
 
 // A Literal keeps what its next needs, and binds its var behind it.
 pub fn linearize(
-    s: &[u8],
-    g: Frame,
+    image: &[u8],
+    frame: Frame,
     i: usize,
     free_vars_next: u64,
     context: Held,
     in_scope: u8,
     out: &mut [u8],
     lengths: &mut [usize],
-    p: Progress,
+    so_far: Progress,
 ) -> Stepped
-    requires { ⌜ SourceAt g (now s) i 8 × (Workable context «in_scope» 1 × RoomAt p) ⌝ }
-    ensures { λ r. ⌜ StepsAs (g .id) (recordAt g (now (s .entry)) i) 0 «free_vars_next» (workOf context) «in_scope» (now (out .entry)) (now (out .exit)) (now (lengths .entry)) (now (lengths .exit)) p r ⌝ }
+    requires { ⌜ SourceAt frame (now image) i 8 × (Workable context «in_scope» 1 × RoomAt «so_far») ⌝ }
+    ensures { λ r. ⌜ StepsAs (frame .id) (recordAt frame (now (image .entry)) i) 0 «free_vars_next» (workOf context) «in_scope» (now (out .entry)) (now (out .exit)) (now (lengths .entry)) (now (lengths .exit)) «so_far» r ⌝ }
 {
-    let statement = literal(s, g, i);
+    let statement = literal(image, frame, i);
     let new_context = context.filter(free_vars_next);
     // after a filter equal counts mean equal lists
     let right = new_context.len == context.len;
-    let q = arrange_kept(right, new_context, g.id, out, lengths, p);
-    let next = put_literal(out, q.at, g.id, statement.lit, statement.var);
+    let q = arrange_kept(right, new_context, frame.id, out, lengths, so_far);
+    let next = put_literal(out, q.at, frame.id, statement.lit, statement.var);
     let progress = note(lengths, q, next);
     let var = statement.var;
     let binding = ContextBinding {

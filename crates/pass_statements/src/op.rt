@@ -57,20 +57,20 @@ fn retain(context: Held, fst: VarId, snd: VarId, mask: u64) -> Held
 
 // An Op keeps its inputs and what its next needs, and binds its var behind them.
 pub fn linearize(
-    s: &[u8],
-    g: Frame,
+    image: &[u8],
+    frame: Frame,
     i: usize,
     free_vars_next: u64,
     context: Held,
     in_scope: u8,
     out: &mut [u8],
     lengths: &mut [usize],
-    p: Progress,
+    so_far: Progress,
 ) -> Stepped
-    requires { ⌜ SourceAt g (now s) i 9 × (Workable context «in_scope» 1 × RoomAt p) ⌝ }
-    ensures { λ r. ⌜ StepsAs (g .id) (recordAt g (now (s .entry)) i) 0 «free_vars_next» (workOf context) «in_scope» (now (out .entry)) (now (out .exit)) (now (lengths .entry)) (now (lengths .exit)) p r ⌝ }
+    requires { ⌜ SourceAt frame (now image) i 9 × (Workable context «in_scope» 1 × RoomAt «so_far») ⌝ }
+    ensures { λ r. ⌜ StepsAs (frame .id) (recordAt frame (now (image .entry)) i) 0 «free_vars_next» (workOf context) «in_scope» (now (out .entry)) (now (out .exit)) (now (lengths .entry)) (now (lengths .exit)) «so_far» r ⌝ }
 {
-    let statement = op(s, g, i);
+    let statement = op(image, frame, i);
     let new_context = retain(context, statement.fst.id, statement.snd.id, free_vars_next);
     let var = statement.var;
     let new_binding = ContextBinding {
@@ -80,11 +80,11 @@ pub fn linearize(
     };
     // after a filter equal counts mean equal lists
     let right = new_context.len == context.len;
-    let q = arrange_kept(right, new_context, g.id, out, lengths, p);
+    let q = arrange_kept(right, new_context, frame.id, out, lengths, so_far);
     let fst = context.used(statement.fst);
     let snd = context.used(statement.snd);
     let operator = statement.op;
-    let next = put_op(out, q.at, g.id, fst, operator, snd, var);
+    let next = put_op(out, q.at, frame.id, fst, operator, snd, var);
     let progress = note(lengths, q, next);
     Stepped {
         context: new_context.own(in_scope, new_binding),

@@ -14,26 +14,26 @@ ghost use Rattle.pass_walk.specs.Walking.{DefsAhead, Writes};
 
 // Linearizes the d definitions.
 pub fn definitions(
-    s: &[u8],
-    g: Frame,
+    image: &[u8],
+    frame: Frame,
     rows: &[u64],
-    d: usize,
+    defs: usize,
     out: &mut [u8],
     lengths: &mut [usize],
-    p: Progress,
+    so_far: Progress,
 ) -> Progress
-    requires { ⌜ DefsAhead g (now s) (now rows) d p (defsIn d (recordsIn g (now s))) ⌝ }
-    ensures { λ r. ⌜ Writes (g .id) (now (out .entry)) (now (out .exit)) (now (lengths .entry)) (now (lengths .exit)) p r (flattenDefs (workDefs (defsIn d (recordsIn g (now (s .entry)))) (p .«max_id») .0)) (workDefs (defsIn d (recordsIn g (now (s .entry)))) (p .«max_id») .1) ⌝ }
+    requires { ⌜ DefsAhead frame (now image) (now rows) defs «so_far» (defsIn defs (recordsIn frame (now image))) ⌝ }
+    ensures { λ r. ⌜ Writes (frame .id) (now (out .entry)) (now (out .exit)) (now (lengths .entry)) (now (lengths .exit)) «so_far» r (flattenDefs (workDefs (defsIn defs (recordsIn frame (now (image .entry)))) («so_far» .«max_id») .0)) (workDefs (defsIn defs (recordsIn frame (now (image .entry)))) («so_far» .«max_id») .1) ⌝ }
 {
     let mut here = Linearized {
         next: 0,
-        progress: p,
+        progress: so_far,
     };
-    let mut left = d;
+    let mut left = defs;
     while 0 < left {
         let e = enter(
-            s,
-            g,
+            image,
+            frame,
             here.next,
             1,
             false,
@@ -44,8 +44,8 @@ pub fn definitions(
             here.progress,
         );
         here = statement(
-            s,
-            g,
+            image,
+            frame,
             rows,
             MAX_DEPTH,
             here.next + 1,

@@ -56,8 +56,8 @@ fn binds(kind: u8) -> bool
 
 // The statement at index i, of depth at most `depth`.
 pub fn statement(
-    s: &[u8],
-    g: Frame,
+    image: &[u8],
+    frame: Frame,
     rows: &[u64],
     depth: usize,
     i: usize,
@@ -65,23 +65,23 @@ pub fn statement(
     in_scope: u8,
     out: &mut [u8],
     lengths: &mut [usize],
-    p: Progress,
+    so_far: Progress,
 ) -> Linearized
-    requires { ⌜ StmtAhead g (now s) (now rows) depth i context «in_scope» p (stmtAt depth (recordsIn g (now s)) i) ⌝ }
-    ensures { λ r. ⌜ LinearizedTo (g .id) (now (out .entry)) (now (out .exit)) (now (lengths .entry)) (now (lengths .exit)) p r (i + length (flatten (stmtAt depth (recordsIn g (now (s .entry))) i))) (flatten (workStmt (stmtAt depth (recordsIn g (now (s .entry))) i) (workOf context) «in_scope» (p .«max_id») .0)) (workStmt (stmtAt depth (recordsIn g (now (s .entry))) i) (workOf context) «in_scope» (p .«max_id») .1) ⌝ }
+    requires { ⌜ StmtAhead frame (now image) (now rows) depth i context «in_scope» «so_far» (stmtAt depth (recordsIn frame (now image)) i) ⌝ }
+    ensures { λ r. ⌜ LinearizedTo (frame .id) (now (out .entry)) (now (out .exit)) (now (lengths .entry)) (now (lengths .exit)) «so_far» r (i + length (flatten (stmtAt depth (recordsIn frame (now (image .entry))) i))) (flatten (workStmt (stmtAt depth (recordsIn frame (now (image .entry))) i) (workOf context) «in_scope» («so_far» .«max_id») .0)) (workStmt (stmtAt depth (recordsIn frame (now (image .entry))) i) (workOf context) «in_scope» («so_far» .«max_id») .1) ⌝ }
 {
-    let f = parts_of(s, g, i);
+    let f = parts_of(image, frame, i);
     let k = f.kind;
     let row = 2 * i;
     let fc = rows[row];
     let fn_ = rows[row + 1];
     if has_clauses(k) {
-        let o = open(s, g, i, k, fc, fn_, context, p);
+        let o = open(image, frame, i, k, fc, fn_, context, so_far);
         let before = k == 6;
         let n = f.clauses;
         let here = clauses(
-            s,
-            g,
+            image,
+            frame,
             rows,
             depth - 1,
             n,
@@ -93,13 +93,25 @@ pub fn statement(
             lengths,
             o.progress,
         );
-        let q = with_max_id(p, VarId(here.progress.max_id));
+        let q = with_max_id(so_far, VarId(here.progress.max_id));
         if before {
-            let st = create::linearize(s, g, i, fc, fn_, context, in_scope, o, out, lengths, q);
+            let st = create::linearize(
+                image,
+                frame,
+                i,
+                fc,
+                fn_,
+                context,
+                in_scope,
+                o,
+                out,
+                lengths,
+                q,
+            );
             let r = with_max_id(here.progress, VarId(st.progress.max_id));
             return statement(
-                s,
-                g,
+                image,
+                frame,
                 rows,
                 depth - 1,
                 here.next,
@@ -110,7 +122,7 @@ pub fn statement(
                 r,
             );
         }
-        let st = switch::linearize(s, g, i, fc, context, in_scope, o, out, lengths, q);
+        let st = switch::linearize(image, frame, i, fc, context, in_scope, o, out, lengths, q);
         let progress = with_max_id(here.progress, VarId(st.max_id));
         return Linearized {
             next: here.next,
@@ -118,10 +130,22 @@ pub fn statement(
         };
     }
     if binds(k) {
-        let st = bind(s, g, i, k, fc, fn_, context, in_scope, out, lengths, p);
+        let st = bind(
+            image,
+            frame,
+            i,
+            k,
+            fc,
+            fn_,
+            context,
+            in_scope,
+            out,
+            lengths,
+            so_far,
+        );
         return statement(
-            s,
-            g,
+            image,
+            frame,
             rows,
             depth - 1,
             i + 1,
@@ -132,7 +156,19 @@ pub fn statement(
             st.progress,
         );
     }
-    let q = settle(s, g, i, k, fc, fn_, context, in_scope, out, lengths, p);
+    let q = settle(
+        image,
+        frame,
+        i,
+        k,
+        fc,
+        fn_,
+        context,
+        in_scope,
+        out,
+        lengths,
+        so_far,
+    );
     if f.bodies == 0 {
         return Linearized {
             next: i + 1,
@@ -140,8 +176,8 @@ pub fn statement(
         };
     }
     bodies(
-        s,
-        g,
+        image,
+        frame,
         rows,
         depth - 1,
         f.bodies,
@@ -156,8 +192,8 @@ pub fn statement(
 
 // The n clauses from index i on, with bodies of depth at most `depth`.
 fn clauses(
-    s: &[u8],
-    g: Frame,
+    image: &[u8],
+    frame: Frame,
     rows: &[u64],
     depth: usize,
     n: usize,
@@ -167,20 +203,20 @@ fn clauses(
     in_scope: u8,
     out: &mut [u8],
     lengths: &mut [usize],
-    p: Progress,
+    so_far: Progress,
 ) -> Linearized
-    requires { ⌜ ClausesAhead g (now s) (now rows) depth n i before context «in_scope» p (clausesAt depth n (recordsIn g (now s)) i) ⌝ }
-    ensures { λ r. ⌜ LinearizedTo (g .id) (now (out .entry)) (now (out .exit)) (now (lengths .entry)) (now (lengths .exit)) p r (i + length (flattenClauses (clausesAt depth n (recordsIn g (now (s .entry))) i))) (flattenClauses (workClauses (clausesAt depth n (recordsIn g (now (s .entry))) i) before (workOf context) «in_scope» (p .«max_id») .0)) (workClauses (clausesAt depth n (recordsIn g (now (s .entry))) i) before (workOf context) «in_scope» (p .«max_id») .1) ⌝ }
+    requires { ⌜ ClausesAhead frame (now image) (now rows) depth n i before context «in_scope» «so_far» (clausesAt depth n (recordsIn frame (now image)) i) ⌝ }
+    ensures { λ r. ⌜ LinearizedTo (frame .id) (now (out .entry)) (now (out .exit)) (now (lengths .entry)) (now (lengths .exit)) «so_far» r (i + length (flattenClauses (clausesAt depth n (recordsIn frame (now (image .entry))) i))) (flattenClauses (workClauses (clausesAt depth n (recordsIn frame (now (image .entry))) i) before (workOf context) «in_scope» («so_far» .«max_id») .0)) (workClauses (clausesAt depth n (recordsIn frame (now (image .entry))) i) before (workOf context) «in_scope» («so_far» .«max_id») .1) ⌝ }
 {
     let mut here = Linearized {
         next: i,
-        progress: p,
+        progress: so_far,
     };
     let mut left = n;
     while 0 < left {
         let e = enter(
-            s,
-            g,
+            image,
+            frame,
             here.next,
             11,
             before,
@@ -191,8 +227,8 @@ fn clauses(
             here.progress,
         );
         here = statement(
-            s,
-            g,
+            image,
+            frame,
             rows,
             depth,
             here.next + 1,
@@ -209,8 +245,8 @@ fn clauses(
 
 // The n statements from index i on, each of depth at most `depth`.
 fn bodies(
-    s: &[u8],
-    g: Frame,
+    image: &[u8],
+    frame: Frame,
     rows: &[u64],
     depth: usize,
     n: usize,
@@ -219,20 +255,20 @@ fn bodies(
     in_scope: u8,
     out: &mut [u8],
     lengths: &mut [usize],
-    p: Progress,
+    so_far: Progress,
 ) -> Linearized
-    requires { ⌜ BodiesAhead g (now s) (now rows) depth n i context «in_scope» p (bodiesAt depth n (recordsIn g (now s)) i) ⌝ }
-    ensures { λ r. ⌜ LinearizedTo (g .id) (now (out .entry)) (now (out .exit)) (now (lengths .entry)) (now (lengths .exit)) p r (i + length (each flatten (bodiesAt depth n (recordsIn g (now (s .entry))) i))) (each flatten (workBodies (bodiesAt depth n (recordsIn g (now (s .entry))) i) (workOf context) «in_scope» (p .«max_id») .0)) (workBodies (bodiesAt depth n (recordsIn g (now (s .entry))) i) (workOf context) «in_scope» (p .«max_id») .1) ⌝ }
+    requires { ⌜ BodiesAhead frame (now image) (now rows) depth n i context «in_scope» «so_far» (bodiesAt depth n (recordsIn frame (now image)) i) ⌝ }
+    ensures { λ r. ⌜ LinearizedTo (frame .id) (now (out .entry)) (now (out .exit)) (now (lengths .entry)) (now (lengths .exit)) «so_far» r (i + length (each flatten (bodiesAt depth n (recordsIn frame (now (image .entry))) i))) (each flatten (workBodies (bodiesAt depth n (recordsIn frame (now (image .entry))) i) (workOf context) «in_scope» («so_far» .«max_id») .0)) (workBodies (bodiesAt depth n (recordsIn frame (now (image .entry))) i) (workOf context) «in_scope» («so_far» .«max_id») .1) ⌝ }
 {
     let mut here = Linearized {
         next: i,
-        progress: p,
+        progress: so_far,
     };
     let mut left = n;
     while 0 < left {
         here = statement(
-            s,
-            g,
+            image,
+            frame,
             rows,
             depth,
             here.next,

@@ -30,16 +30,16 @@ ghost use Rattle.scope_check.specs.Masks.{Passed};
 pub const MAX_RECORDS: usize = 2000;
 
 // The limits of question 7, but for the room in the scopes.
-pub fn within_limits(s: &[u8], g: Frame, d: usize) -> bool
-    requires { ⌜ Ready g (now s) × Defined d (recordsIn g (now s)) ⌝ }
-    ensures { λ r. ⌜ r ≡ (leb (g .count) 2000 && (allRecords smallRecord (recordsIn g (now (s .entry))) && leb (depthDefs (defsIn d (recordsIn g (now (s .entry))))) 64)) ⌝ }
+pub fn within_limits(image: &[u8], frame: Frame, defs: usize) -> bool
+    requires { ⌜ Ready frame (now image) × Defined defs (recordsIn frame (now image)) ⌝ }
+    ensures { λ r. ⌜ r ≡ (leb (frame .count) 2000 && (allRecords smallRecord (recordsIn frame (now (image .entry))) && leb (depthDefs (defsIn defs (recordsIn frame (now (image .entry))))) 64)) ⌝ }
 {
-    let count = g.count;
+    let count = frame.count;
     if MAX_RECORDS < count {
         return false;
     }
-    if all_small(s, g) {
-        return all_shallow(s, g, d);
+    if all_small(image, frame) {
+        return all_shallow(image, frame, defs);
     }
     false
 }
@@ -65,13 +65,13 @@ fn decide(v: Verdict, max_id: u32) -> Answer
 
 // Questions 6 to 10 of an image that is opened, with d definitions. If 6, 7 and 8 have a yes, the rows have two masks for each record then. (A
 // mask past the end of the rows is left out.)
-pub fn check_image(s: &[u8], g: Frame, d: usize, max_id: u32, rows: &mut [u64]) -> Answer
-    requires { ⌜ Ready g (now s) × Defined d (recordsIn g (now s)) ⌝ }
-    ensures { λ r. ⌜ (r ≡ answerOf (checking (programIn d (recordsIn g (now (s .entry))) «max_id»))) × (Passed (programIn d (recordsIn g (now (s .entry))) 0) → now (rows .exit) ≡ sets (now (rows .entry)) 0 (rowsDefs (defsIn d (recordsIn g (now (s .entry)))))) ⌝ }
+pub fn check_image(image: &[u8], frame: Frame, defs: usize, max_id: u32, rows: &mut [u64]) -> Answer
+    requires { ⌜ Ready frame (now image) × Defined defs (recordsIn frame (now image)) ⌝ }
+    ensures { λ r. ⌜ (r ≡ answerOf (checking (programIn defs (recordsIn frame (now (image .entry))) «max_id»))) × (Passed (programIn defs (recordsIn frame (now (image .entry))) 0) → now (rows .exit) ≡ sets (now (rows .entry)) 0 (rowsDefs (defsIn defs (recordsIn frame (now (image .entry)))))) ⌝ }
 {
-    if all_plain(s, g) {
-        if within_limits(s, g, d) {
-            return decide(walk_definitions(s, g, d, max_id, rows), max_id);
+    if all_plain(image, frame) {
+        if within_limits(image, frame, defs) {
+            return decide(walk_definitions(image, frame, defs, max_id, rows), max_id);
         }
         return Answer::Refused(Refusal::Limits);
     }
@@ -79,18 +79,18 @@ pub fn check_image(s: &[u8], g: Frame, d: usize, max_id: u32, rows: &mut [u64]) 
 }
 
 // Checks an image of a layout.
-pub fn check(s: &[u8], l: Layout) -> Answer
-    requires { ⌜ Known l ⌝ }
-    ensures { λ r. ⌜ r ≡ answerOf (checkOf l (now (s .entry))) ⌝ }
+pub fn check(image: &[u8], layout: Layout) -> Answer
+    requires { ⌜ Known layout ⌝ }
+    ensures { λ r. ⌜ r ≡ answerOf (checkOf layout (now (image .entry))) ⌝ }
 {
-    match open(s, l) {
+    match open(image, layout) {
         Opened::Image {
             frame,
             definitions,
             max_id,
         } => {
             let mut none = [0u64; 1];
-            check_image(s, frame, definitions, max_id, &mut none)
+            check_image(image, frame, definitions, max_id, &mut none)
         }
         Opened::Closed(question) => Answer::Refused(question),
     }

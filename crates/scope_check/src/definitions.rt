@@ -22,14 +22,14 @@ ghost use Rattle.scope_check.specs.Masks.{SourcedDefs};
 pub const MAX_DEPTH: usize = 64;
 
 // Question 7: are the bodies of the d definitions at most 64 statements deep?
-pub fn all_shallow(s: &[u8], g: Frame, d: usize) -> bool
-    requires { ⌜ Ready g (now s) × DefsStand 128 d (recordsIn g (now s)) 0 (defsIn d (recordsIn g (now s))) ⌝ }
-    ensures { λ r. ⌜ r ≡ leb (depthDefs (defsIn d (recordsIn g (now (s .entry))))) 64 ⌝ }
+pub fn all_shallow(image: &[u8], frame: Frame, defs: usize) -> bool
+    requires { ⌜ Ready frame (now image) × DefsStand 128 defs (recordsIn frame (now image)) 0 (defsIn defs (recordsIn frame (now image))) ⌝ }
+    ensures { λ r. ⌜ r ≡ leb (depthDefs (defsIn defs (recordsIn frame (now (image .entry))))) 64 ⌝ }
 {
     let mut at = 0;
-    let mut left = d;
+    let mut left = defs;
     while 0 < left {
-        match shape_statement(s, g, MAX_DEPTH, Found::At(at + 1)) {
+        match shape_statement(image, frame, MAX_DEPTH, Found::At(at + 1)) {
             Found::At(next) => {
                 at = next;
                 left = left - 1;
@@ -43,9 +43,15 @@ pub fn all_shallow(s: &[u8], g: Frame, d: usize) -> bool
 }
 
 // The d definitions, each of depth at most 64. Stores two masks for each record. (A mask past the end of the rows is left out.)
-pub fn walk_definitions(s: &[u8], g: Frame, d: usize, max_id: u32, rows: &mut [u64]) -> Verdict
-    requires { ⌜ Ready g (now s) × DefsStand 64 d (recordsIn g (now s)) 0 (defsIn d (recordsIn g (now s))) ⌝ }
-    ensures { λ r. ⌜ (r ≡ walkDefs (defsIn d (recordsIn g (now (s .entry)))) «max_id» clean) × (SourcedDefs (defsIn d (recordsIn g (now (s .entry)))) → now (rows .exit) ≡ sets (now (rows .entry)) 0 (rowsDefs (defsIn d (recordsIn g (now (s .entry)))))) ⌝ }
+pub fn walk_definitions(
+    image: &[u8],
+    frame: Frame,
+    defs: usize,
+    max_id: u32,
+    rows: &mut [u64],
+) -> Verdict
+    requires { ⌜ Ready frame (now image) × DefsStand 64 defs (recordsIn frame (now image)) 0 (defsIn defs (recordsIn frame (now image))) ⌝ }
+    ensures { λ r. ⌜ (r ≡ walkDefs (defsIn defs (recordsIn frame (now (image .entry)))) «max_id» clean) × (SourcedDefs (defsIn defs (recordsIn frame (now (image .entry)))) → now (rows .exit) ≡ sets (now (rows .entry)) 0 (rowsDefs (defsIn defs (recordsIn frame (now (image .entry)))))) ⌝ }
 {
     let mut scope = [0u32; TypingContext::MAX];
     let verdict = Verdict {
@@ -59,12 +65,12 @@ pub fn walk_definitions(s: &[u8], g: Frame, d: usize, max_id: u32, rows: &mut [u
         verdict,
         free: 0,
     };
-    let mut left = d;
+    let mut left = defs;
     while 0 < left {
-        let e = enter_head(s, g, 1, here, &mut scope, 0, max_id);
+        let e = enter_head(image, frame, 1, here, &mut scope, 0, max_id);
         let b = statement(
-            s,
-            g,
+            image,
+            frame,
             MAX_DEPTH,
             here.next + 1,
             &mut scope,

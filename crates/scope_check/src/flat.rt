@@ -19,31 +19,31 @@ ghost use Rattle.scope_check.specs.Environments.{smallEnvironment};
 pub const MAX_COUNT: u8 = 32;
 
 // Question 6 of the record at index i.
-fn plain_record(s: &[u8], g: Frame, i: usize) -> bool
-    requires { ⌜ Ready g (now s) × (i < g .count) ⌝ }
-    ensures { λ r. ⌜ r ≡ plainRecord (recordAt g (now (s .entry)) i) ⌝ }
+fn plain_record(image: &[u8], frame: Frame, i: usize) -> bool
+    requires { ⌜ Ready frame (now image) × (i < frame .count) ⌝ }
+    ensures { λ r. ⌜ r ≡ plainRecord (recordAt frame (now (image .entry)) i) ⌝ }
 {
-    let at = offset(s, g, i);
-    let kind = s[at];
+    let at = offset(image, frame, i);
+    let kind = image[at];
     if kind == 2 {
         return false;
     }
     if kind == 6 {
-        let w = g.id;
-        return s[at + Kind::fixed(6, w)] == 0;
+        let w = frame.id;
+        return image[at + Kind::fixed(6, w)] == 0;
     }
     true
 }
 
 // Question 6: is the image free of Substitute and of environments?
-pub fn all_plain(s: &[u8], g: Frame) -> bool
-    requires { ⌜ Ready g (now s) ⌝ }
-    ensures { λ r. ⌜ r ≡ allRecords plainRecord (recordsIn g (now (s .entry))) ⌝ }
+pub fn all_plain(image: &[u8], frame: Frame) -> bool
+    requires { ⌜ Ready frame (now image) ⌝ }
+    ensures { λ r. ⌜ r ≡ allRecords plainRecord (recordsIn frame (now (image .entry))) ⌝ }
 {
-    let count = g.count;
+    let count = frame.count;
     let mut i = 0;
     while i < count {
-        if plain_record(s, g, i) {
+        if plain_record(image, frame, i) {
             i += 1;
         } else {
             return false;
@@ -53,26 +53,26 @@ pub fn all_plain(s: &[u8], g: Frame) -> bool
 }
 
 // Has the environment of the Create at index i few bindings, if there is one?
-fn small_environment(s: &[u8], g: Frame, i: usize) -> bool
-    requires { ⌜ At g (now s) i 6 ⌝ }
-    ensures { λ r. ⌜ r ≡ smallEnvironment (recordAt g (now (s .entry)) i) ⌝ }
+fn small_environment(image: &[u8], frame: Frame, i: usize) -> bool
+    requires { ⌜ At frame (now image) i 6 ⌝ }
+    ensures { λ r. ⌜ r ≡ smallEnvironment (recordAt frame (now (image .entry)) i) ⌝ }
 {
-    let w = g.id;
+    let w = frame.id;
     let mark = Kind::fixed(6, w);
-    if byte(s, g, i, mark) == 0 {
+    if byte(image, frame, i, mark) == 0 {
         return true;
     }
-    byte(s, g, i, mark + 1) <= MAX_COUNT
+    byte(image, frame, i, mark + 1) <= MAX_COUNT
 }
 
 // The counts in the Create at index i.
-fn small_create(s: &[u8], g: Frame, i: usize) -> bool
-    requires { ⌜ At g (now s) i 6 ⌝ }
-    ensures { λ r. ⌜ r ≡ (smallEnvironment (recordAt g (now (s .entry)) i) && leb (clausesOf (recordAt g (now (s .entry)) i)) 32) ⌝ }
+fn small_create(image: &[u8], frame: Frame, i: usize) -> bool
+    requires { ⌜ At frame (now image) i 6 ⌝ }
+    ensures { λ r. ⌜ r ≡ (smallEnvironment (recordAt frame (now (image .entry)) i) && leb (clausesOf (recordAt frame (now (image .entry)) i)) 32) ⌝ }
 {
-    match look(s, g, i) {
+    match look(image, frame, i) {
         Node::Is { kind: _, clauses } => {
-            if small_environment(s, g, i) {
+            if small_environment(image, frame, i) {
                 return clauses <= MAX_COUNT;
             }
             false
@@ -82,12 +82,12 @@ fn small_create(s: &[u8], g: Frame, i: usize) -> bool
 }
 
 // The counts in the record at index i (question 7).
-fn small_record(s: &[u8], g: Frame, i: usize) -> bool
-    requires { ⌜ Ready g (now s) × (i < g .count) ⌝ }
-    ensures { λ r. ⌜ r ≡ smallRecord (recordAt g (now (s .entry)) i) ⌝ }
+fn small_record(image: &[u8], frame: Frame, i: usize) -> bool
+    requires { ⌜ Ready frame (now image) × (i < frame .count) ⌝ }
+    ensures { λ r. ⌜ r ≡ smallRecord (recordAt frame (now (image .entry)) i) ⌝ }
 {
-    let at = offset(s, g, i);
-    let kind = s[at];
+    let at = offset(image, frame, i);
+    let kind = image[at];
     if kind == 8 {
         return true;
     }
@@ -98,21 +98,21 @@ fn small_record(s: &[u8], g: Frame, i: usize) -> bool
         return true;
     }
     if kind == 6 {
-        return small_create(s, g, i);
+        return small_create(image, frame, i);
     }
-    let w = g.id;
-    s[at + Kind::fixed(kind, w)] <= MAX_COUNT
+    let w = frame.id;
+    image[at + Kind::fixed(kind, w)] <= MAX_COUNT
 }
 
 // Is every count in the image at most 32?
-pub fn all_small(s: &[u8], g: Frame) -> bool
-    requires { ⌜ Ready g (now s) ⌝ }
-    ensures { λ r. ⌜ r ≡ allRecords smallRecord (recordsIn g (now (s .entry))) ⌝ }
+pub fn all_small(image: &[u8], frame: Frame) -> bool
+    requires { ⌜ Ready frame (now image) ⌝ }
+    ensures { λ r. ⌜ r ≡ allRecords smallRecord (recordsIn frame (now (image .entry))) ⌝ }
 {
-    let count = g.count;
+    let count = frame.count;
     let mut i = 0;
     while i < count {
-        if small_record(s, g, i) {
+        if small_record(image, frame, i) {
             i += 1;
         } else {
             return false;

@@ -27,18 +27,26 @@ ghost use Rattle.image_read_nodes.specs.Nodes.{recordAt, At, hasList, firstAt, 
 ghost use Rattle.scope_check.specs.Scoping.{scopeIn, ScopeAt, usedAll, scopedOf, Entered};
 
 // Uses the bindings of a record's list.
-pub fn use_list(s: &[u8], g: Frame, i: usize, kind: u8, scope: &[u32], n: usize, u: Using) -> Using
-    requires { ⌜ At g (now s) i kind × ((hasList kind ≡ true) × ScopeAt (now scope) n) ⌝ }
-    ensures { λ r. ⌜ r ≡ usedAll (scopeIn n (now (scope .entry))) (ids (listOf (recordAt g (now (s .entry)) i))) u ⌝ }
+pub fn use_list(
+    image: &[u8],
+    frame: Frame,
+    i: usize,
+    kind: u8,
+    scope: &[u32],
+    n: usize,
+    u: Using,
+) -> Using
+    requires { ⌜ At frame (now image) i kind × ((hasList kind ≡ true) × ScopeAt (now scope) n) ⌝ }
+    ensures { λ r. ⌜ r ≡ usedAll (scopeIn n (now (scope .entry))) (ids (listOf (recordAt frame (now (image .entry)) i))) u ⌝ }
 {
-    let w = g.id;
+    let w = frame.id;
     let size = 6 + (w + w);
-    let start = list_at(s, g, i, kind);
-    let mut left = count(s[start]);
+    let start = list_at(image, frame, i, kind);
+    let mut left = count(image[start]);
     let mut at = start + 1;
     let mut used = u;
     while 0 < left {
-        let x = identifier_at(s, g.id, at);
+        let x = identifier_at(image, frame.id, at);
         used = use_one(scope, n, x.id, used);
         at = at + size;
         left = left - 1;
@@ -47,84 +55,122 @@ pub fn use_list(s: &[u8], g: Frame, i: usize, kind: u8, scope: &[u32], n: usize,
 }
 
 // Uses a record's first variable.
-fn use_first(s: &[u8], g: Frame, i: usize, kind: u8, scope: &[u32], n: usize, u: Using) -> Using
-    requires { ⌜ At g (now s) i kind × ((kind ≡ 2 → ⊥) × ScopeAt (now scope) n) ⌝ }
-    ensures { λ r. ⌜ r ≡ usedAll (scopeIn n (now (scope .entry))) (firstOf (recordAt g (now (s .entry)) i) .id ∷ []) u ⌝ }
+fn use_first(
+    image: &[u8],
+    frame: Frame,
+    i: usize,
+    kind: u8,
+    scope: &[u32],
+    n: usize,
+    u: Using,
+) -> Using
+    requires { ⌜ At frame (now image) i kind × ((kind ≡ 2 → ⊥) × ScopeAt (now scope) n) ⌝ }
+    ensures { λ r. ⌜ r ≡ usedAll (scopeIn n (now (scope .entry))) (firstOf (recordAt frame (now (image .entry)) i) .id ∷ []) u ⌝ }
 {
-    let x = first(s, g, i, kind);
+    let x = first(image, frame, i, kind);
     use_one(scope, n, x.id, u)
 }
 
 // Uses the second operand of an Op.
-fn use_operand(s: &[u8], g: Frame, i: usize, scope: &[u32], n: usize, u: Using) -> Using
-    requires { ⌜ At g (now s) i 9 × ScopeAt (now scope) n ⌝ }
-    ensures { λ r. ⌜ r ≡ usedAll (scopeIn n (now (scope .entry))) (operandOf (recordAt g (now (s .entry)) i) .id ∷ []) u ⌝ }
+fn use_operand(image: &[u8], frame: Frame, i: usize, scope: &[u32], n: usize, u: Using) -> Using
+    requires { ⌜ At frame (now image) i 9 × ScopeAt (now scope) n ⌝ }
+    ensures { λ r. ⌜ r ≡ usedAll (scopeIn n (now (scope .entry))) (operandOf (recordAt frame (now (image .entry)) i) .id ∷ []) u ⌝ }
 {
-    let x = operand(s, g, i);
+    let x = operand(image, frame, i);
     use_one(scope, n, x.id, u)
 }
 
 // Uses the second operand of an IfC, if there is one.
-fn use_second(s: &[u8], g: Frame, i: usize, scope: &[u32], n: usize, u: Using) -> Using
-    requires { ⌜ At g (now s) i 10 × ScopeAt (now scope) n ⌝ }
-    ensures { λ r. ⌜ r ≡ usedAll (scopeIn n (now (scope .entry))) (optionalId (secondOf (recordAt g (now (s .entry)) i))) u ⌝ }
+fn use_second(image: &[u8], frame: Frame, i: usize, scope: &[u32], n: usize, u: Using) -> Using
+    requires { ⌜ At frame (now image) i 10 × ScopeAt (now scope) n ⌝ }
+    ensures { λ r. ⌜ r ≡ usedAll (scopeIn n (now (scope .entry))) (optionalId (secondOf (recordAt frame (now (image .entry)) i))) u ⌝ }
 {
-    let w = g.id;
+    let w = frame.id;
     let mark = Kind::fixed(10, w);
-    if byte(s, g, i, mark) == 0 {
+    if byte(image, frame, i, mark) == 0 {
         return u;
     }
-    let x = identifier(s, g, i, mark + 1);
+    let x = identifier(image, frame, i, mark + 1);
     use_one(scope, n, x.id, u)
 }
 
 // Uses what the record at index i uses.
-pub fn use_node(s: &[u8], g: Frame, i: usize, kind: u8, scope: &[u32], n: usize, u: Using) -> Using
-    requires { ⌜ At g (now s) i kind × ScopeAt (now scope) n ⌝ }
-    ensures { λ r. ⌜ r ≡ usedAll (scopeIn n (now (scope .entry))) (usesOf (recordAt g (now (s .entry)) i)) u ⌝ }
+pub fn use_node(
+    image: &[u8],
+    frame: Frame,
+    i: usize,
+    kind: u8,
+    scope: &[u32],
+    n: usize,
+    u: Using,
+) -> Using
+    requires { ⌜ At frame (now image) i kind × ScopeAt (now scope) n ⌝ }
+    ensures { λ r. ⌜ r ≡ usedAll (scopeIn n (now (scope .entry))) (usesOf (recordAt frame (now (image .entry)) i)) u ⌝ }
 {
     if kind == 3 {
-        return use_list(s, g, i, 3, scope, n, u);
+        return use_list(image, frame, i, 3, scope, n, u);
     }
     if kind == 4 {
-        return use_list(s, g, i, 4, scope, n, u);
+        return use_list(image, frame, i, 4, scope, n, u);
     }
     if kind == 5 {
-        return use_first(s, g, i, 5, scope, n, u);
+        return use_first(image, frame, i, 5, scope, n, u);
     }
     if kind == 7 {
-        return use_list(s, g, i, 7, scope, n, use_first(s, g, i, 7, scope, n, u));
+        return use_list(
+            image,
+            frame,
+            i,
+            7,
+            scope,
+            n,
+            use_first(image, frame, i, 7, scope, n, u),
+        );
     }
     if kind == 9 {
-        return use_operand(s, g, i, scope, n, use_first(s, g, i, 9, scope, n, u));
+        return use_operand(
+            image,
+            frame,
+            i,
+            scope,
+            n,
+            use_first(image, frame, i, 9, scope, n, u),
+        );
     }
     if kind == 10 {
-        return use_second(s, g, i, scope, n, use_first(s, g, i, 10, scope, n, u));
+        return use_second(
+            image,
+            frame,
+            i,
+            scope,
+            n,
+            use_first(image, frame, i, 10, scope, n, u),
+        );
     }
     u
 }
 
 // Binds the bindings of a record's list.
 pub fn enter_list(
-    s: &[u8],
-    g: Frame,
+    image: &[u8],
+    frame: Frame,
     i: usize,
     kind: u8,
     scope: &mut [u32],
     e: Entering,
     max_id: u32,
 ) -> Entering
-    requires { ⌜ At g (now s) i kind × ((hasList kind ≡ true) × ScopeAt (now scope) (e .n)) ⌝ }
-    ensures { λ r. ⌜ Entered (e .n) (now (scope .entry)) (now (scope .exit)) r (enterAll «max_id» (ids (listOf (recordAt g (now (s .entry)) i))) (scopedOf (now (scope .entry)) e)) ⌝ }
+    requires { ⌜ At frame (now image) i kind × ((hasList kind ≡ true) × ScopeAt (now scope) (e .n)) ⌝ }
+    ensures { λ r. ⌜ Entered (e .n) (now (scope .entry)) (now (scope .exit)) r (enterAll «max_id» (ids (listOf (recordAt frame (now (image .entry)) i))) (scopedOf (now (scope .entry)) e)) ⌝ }
 {
-    let w = g.id;
+    let w = frame.id;
     let size = 6 + (w + w);
-    let start = list_at(s, g, i, kind);
-    let mut left = count(s[start]);
+    let start = list_at(image, frame, i, kind);
+    let mut left = count(image[start]);
     let mut at = start + 1;
     let mut here = e;
     while 0 < left {
-        let x = identifier_at(s, g.id, at);
+        let x = identifier_at(image, frame.id, at);
         here = enter_one(scope, here, x.id, max_id);
         at = at + size;
         left = left - 1;
@@ -134,52 +180,52 @@ pub fn enter_list(
 
 // Binds a record's first variable.
 fn enter_first(
-    s: &[u8],
-    g: Frame,
+    image: &[u8],
+    frame: Frame,
     i: usize,
     kind: u8,
     scope: &mut [u32],
     e: Entering,
     max_id: u32,
 ) -> Entering
-    requires { ⌜ At g (now s) i kind × ((kind ≡ 2 → ⊥) × ScopeAt (now scope) (e .n)) ⌝ }
-    ensures { λ r. ⌜ Entered (e .n) (now (scope .entry)) (now (scope .exit)) r (enterAll «max_id» (firstOf (recordAt g (now (s .entry)) i) .id ∷ []) (scopedOf (now (scope .entry)) e)) ⌝ }
+    requires { ⌜ At frame (now image) i kind × ((kind ≡ 2 → ⊥) × ScopeAt (now scope) (e .n)) ⌝ }
+    ensures { λ r. ⌜ Entered (e .n) (now (scope .entry)) (now (scope .exit)) r (enterAll «max_id» (firstOf (recordAt frame (now (image .entry)) i) .id ∷ []) (scopedOf (now (scope .entry)) e)) ⌝ }
 {
-    let x = first(s, g, i, kind);
+    let x = first(image, frame, i, kind);
     enter_one(scope, e, x.id, max_id)
 }
 
 // Binds what the record at index i binds.
 pub fn enter_node(
-    s: &[u8],
-    g: Frame,
+    image: &[u8],
+    frame: Frame,
     i: usize,
     kind: u8,
     scope: &mut [u32],
     e: Entering,
     max_id: u32,
 ) -> Entering
-    requires { ⌜ At g (now s) i kind × ScopeAt (now scope) (e .n) ⌝ }
-    ensures { λ r. ⌜ Entered (e .n) (now (scope .entry)) (now (scope .exit)) r (enterAll «max_id» (binders (recordAt g (now (s .entry)) i)) (scopedOf (now (scope .entry)) e)) ⌝ }
+    requires { ⌜ At frame (now image) i kind × ScopeAt (now scope) (e .n) ⌝ }
+    ensures { λ r. ⌜ Entered (e .n) (now (scope .entry)) (now (scope .exit)) r (enterAll «max_id» (binders (recordAt frame (now (image .entry)) i)) (scopedOf (now (scope .entry)) e)) ⌝ }
 {
     if kind == 4 {
-        return enter_first(s, g, i, 4, scope, e, max_id);
+        return enter_first(image, frame, i, 4, scope, e, max_id);
     }
     if kind == 6 {
-        return enter_first(s, g, i, 6, scope, e, max_id);
+        return enter_first(image, frame, i, 6, scope, e, max_id);
     }
     if kind == 8 {
-        return enter_first(s, g, i, 8, scope, e, max_id);
+        return enter_first(image, frame, i, 8, scope, e, max_id);
     }
     if kind == 9 {
-        let x = target(s, g, i);
+        let x = target(image, frame, i);
         return enter_one(scope, e, x.id, max_id);
     }
     if kind == 1 {
-        return enter_list(s, g, i, 1, scope, e, max_id);
+        return enter_list(image, frame, i, 1, scope, e, max_id);
     }
     if kind == 11 {
-        return enter_list(s, g, i, 11, scope, e, max_id);
+        return enter_list(image, frame, i, 11, scope, e, max_id);
     }
     e
 }

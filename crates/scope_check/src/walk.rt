@@ -40,26 +40,26 @@ pub struct Walked {
 
 // Binds what the list of the clause or definition at a place binds.
 pub fn enter_head(
-    s: &[u8],
-    g: Frame,
+    image: &[u8],
+    frame: Frame,
     kind: u8,
     here: Walked,
     scope: &mut [u32],
     n: usize,
     max_id: u32,
 ) -> Entering
-    requires { ⌜ At g (now s) (here .next) kind × ((hasList kind ≡ true) × ScopeAt (now scope) n) ⌝ }
-    ensures { λ r. ⌜ Entered n (now (scope .entry)) (now (scope .exit)) r (enterAll «max_id» (ids (listOf (recordAt g (now (s .entry)) (here .next)))) (record { scope = scopeIn n (now (scope .entry)); verdict = here .verdict })) ⌝ }
+    requires { ⌜ At frame (now image) (here .next) kind × ((hasList kind ≡ true) × ScopeAt (now scope) n) ⌝ }
+    ensures { λ r. ⌜ Entered n (now (scope .entry)) (now (scope .exit)) r (enterAll «max_id» (ids (listOf (recordAt frame (now (image .entry)) (here .next)))) (record { scope = scopeIn n (now (scope .entry)); verdict = here .verdict })) ⌝ }
 {
     let verdict = here.verdict;
     let entering = Entering { n, verdict };
-    enter_list(s, g, here.next, kind, scope, entering, max_id)
+    enter_list(image, frame, here.next, kind, scope, entering, max_id)
 }
 
 // Binds what a statement binds, after its clauses.
 fn enter_next(
-    s: &[u8],
-    g: Frame,
+    image: &[u8],
+    frame: Frame,
     i: usize,
     kind: u8,
     after: Walked,
@@ -67,18 +67,18 @@ fn enter_next(
     n: usize,
     max_id: u32,
 ) -> Entering
-    requires { ⌜ At g (now s) i kind × ScopeAt (now scope) n ⌝ }
-    ensures { λ r. ⌜ Entered n (now (scope .entry)) (now (scope .exit)) r (enterAll «max_id» (binders (recordAt g (now (s .entry)) i)) (record { scope = scopeIn n (now (scope .entry)); verdict = after .verdict })) ⌝ }
+    requires { ⌜ At frame (now image) i kind × ScopeAt (now scope) n ⌝ }
+    ensures { λ r. ⌜ Entered n (now (scope .entry)) (now (scope .exit)) r (enterAll «max_id» (binders (recordAt frame (now (image .entry)) i)) (record { scope = scopeIn n (now (scope .entry)); verdict = after .verdict })) ⌝ }
 {
     let verdict = after.verdict;
     let entering = Entering { n, verdict };
-    enter_node(s, g, i, kind, scope, entering, max_id)
+    enter_node(image, frame, i, kind, scope, entering, max_id)
 }
 
 // The statement at index i, of depth at most `depth`. The first n of the lent scope are in scope, and stay. Stores two masks for each record.
 pub fn statement(
-    s: &[u8],
-    g: Frame,
+    image: &[u8],
+    frame: Frame,
     depth: usize,
     i: usize,
     scope: &mut [u32],
@@ -87,18 +87,18 @@ pub fn statement(
     v: Verdict,
     rows: &mut [u64],
 ) -> Walked
-    requires { ⌜ Ready g (now s) × (StmtStands depth (recordsIn g (now s)) i (stmtAt depth (recordsIn g (now s)) i) × ScopeAt (now scope) n) ⌝ }
-    ensures { λ r. ⌜ WalkedTo r (i + length (flatten (stmtAt depth (recordsIn g (now (s .entry))) i))) (walkStmt (stmtAt depth (recordsIn g (now (s .entry))) i) «max_id» (scopeIn n (now (scope .entry))) v) × (Kept n (now (scope .entry)) (now (scope .exit)) × (Sourced (scopeIn n (now (scope .entry))) (stmtAt depth (recordsIn g (now (s .entry))) i) → MaskedTo r (now (rows .exit)) (maskOf (freeVars (stmtAt depth (recordsIn g (now (s .entry))) i)) (scopeIn n (now (scope .entry)))) (sets (now (rows .entry)) (2 * i) (rowsStmt (stmtAt depth (recordsIn g (now (s .entry))) i) (scopeIn n (now (scope .entry))))))) ⌝ }
+    requires { ⌜ Ready frame (now image) × (StmtStands depth (recordsIn frame (now image)) i (stmtAt depth (recordsIn frame (now image)) i) × ScopeAt (now scope) n) ⌝ }
+    ensures { λ r. ⌜ WalkedTo r (i + length (flatten (stmtAt depth (recordsIn frame (now (image .entry))) i))) (walkStmt (stmtAt depth (recordsIn frame (now (image .entry))) i) «max_id» (scopeIn n (now (scope .entry))) v) × (Kept n (now (scope .entry)) (now (scope .exit)) × (Sourced (scopeIn n (now (scope .entry))) (stmtAt depth (recordsIn frame (now (image .entry))) i) → MaskedTo r (now (rows .exit)) (maskOf (freeVars (stmtAt depth (recordsIn frame (now (image .entry))) i)) (scopeIn n (now (scope .entry)))) (sets (now (rows .entry)) (2 * i) (rowsStmt (stmtAt depth (recordsIn frame (now (image .entry))) i) (scopeIn n (now (scope .entry))))))) ⌝ }
 {
-    let f = parts_of(s, g, i);
+    let f = parts_of(image, frame, i);
     let start = Using {
         mask: 0,
         verdict: v,
     };
-    let own = use_node(s, g, i, f.kind, scope, n, start);
+    let own = use_node(image, frame, i, f.kind, scope, n, start);
     let c = clauses(
-        s,
-        g,
+        image,
+        frame,
         depth - 1,
         f.clauses,
         i + 1,
@@ -108,10 +108,10 @@ pub fn statement(
         own.verdict,
         rows,
     );
-    let bound = enter_next(s, g, i, f.kind, c, scope, n, max_id);
+    let bound = enter_next(image, frame, i, f.kind, c, scope, n, max_id);
     let b = bodies(
-        s,
-        g,
+        image,
+        frame,
         depth - 1,
         f.bodies,
         c.next,
@@ -133,8 +133,8 @@ pub fn statement(
 
 // The `count` clauses from index i on, with bodies of depth at most `depth`.
 fn clauses(
-    s: &[u8],
-    g: Frame,
+    image: &[u8],
+    frame: Frame,
     depth: usize,
     count: usize,
     i: usize,
@@ -144,8 +144,8 @@ fn clauses(
     v: Verdict,
     rows: &mut [u64],
 ) -> Walked
-    requires { ⌜ Ready g (now s) × (ClausesStand depth count (recordsIn g (now s)) i (clausesAt depth count (recordsIn g (now s)) i) × ScopeAt (now scope) n) ⌝ }
-    ensures { λ r. ⌜ WalkedTo r (i + length (flattenClauses (clausesAt depth count (recordsIn g (now (s .entry))) i))) (walkClauses (clausesAt depth count (recordsIn g (now (s .entry))) i) «max_id» (scopeIn n (now (scope .entry))) v) × (Kept n (now (scope .entry)) (now (scope .exit)) × (SourcedClauses (scopeIn n (now (scope .entry))) (clausesAt depth count (recordsIn g (now (s .entry))) i) → MaskedTo r (now (rows .exit)) (maskOf (freeVarsClauses (clausesAt depth count (recordsIn g (now (s .entry))) i)) (scopeIn n (now (scope .entry)))) (sets (now (rows .entry)) (2 * i) (rowsClauses (clausesAt depth count (recordsIn g (now (s .entry))) i) (scopeIn n (now (scope .entry))))))) ⌝ }
+    requires { ⌜ Ready frame (now image) × (ClausesStand depth count (recordsIn frame (now image)) i (clausesAt depth count (recordsIn frame (now image)) i) × ScopeAt (now scope) n) ⌝ }
+    ensures { λ r. ⌜ WalkedTo r (i + length (flattenClauses (clausesAt depth count (recordsIn frame (now (image .entry))) i))) (walkClauses (clausesAt depth count (recordsIn frame (now (image .entry))) i) «max_id» (scopeIn n (now (scope .entry))) v) × (Kept n (now (scope .entry)) (now (scope .exit)) × (SourcedClauses (scopeIn n (now (scope .entry))) (clausesAt depth count (recordsIn frame (now (image .entry))) i) → MaskedTo r (now (rows .exit)) (maskOf (freeVarsClauses (clausesAt depth count (recordsIn frame (now (image .entry))) i)) (scopeIn n (now (scope .entry)))) (sets (now (rows .entry)) (2 * i) (rowsClauses (clausesAt depth count (recordsIn frame (now (image .entry))) i) (scopeIn n (now (scope .entry))))))) ⌝ }
 {
     let mut here = Walked {
         next: i,
@@ -154,10 +154,10 @@ fn clauses(
     };
     let mut left = count;
     while 0 < left {
-        let e = enter_head(s, g, 11, here, scope, n, max_id);
+        let e = enter_head(image, frame, 11, here, scope, n, max_id);
         let b = statement(
-            s,
-            g,
+            image,
+            frame,
             depth,
             here.next + 1,
             scope,
@@ -181,8 +181,8 @@ fn clauses(
 
 // The `count` statements from index i on, each of depth at most `depth`.
 fn bodies(
-    s: &[u8],
-    g: Frame,
+    image: &[u8],
+    frame: Frame,
     depth: usize,
     count: usize,
     i: usize,
@@ -192,8 +192,8 @@ fn bodies(
     v: Verdict,
     rows: &mut [u64],
 ) -> Walked
-    requires { ⌜ Ready g (now s) × (BodiesStand depth count (recordsIn g (now s)) i (bodiesAt depth count (recordsIn g (now s)) i) × ScopeAt (now scope) n) ⌝ }
-    ensures { λ r. ⌜ WalkedTo r (i + length (each flatten (bodiesAt depth count (recordsIn g (now (s .entry))) i))) (walkBodies (bodiesAt depth count (recordsIn g (now (s .entry))) i) «max_id» (scopeIn n (now (scope .entry))) v) × (Kept n (now (scope .entry)) (now (scope .exit)) × (All (Sourced (scopeIn n (now (scope .entry)))) (bodiesAt depth count (recordsIn g (now (s .entry))) i) → MaskedTo r (now (rows .exit)) (maskOf (freeBodies (bodiesAt depth count (recordsIn g (now (s .entry))) i)) (scopeIn n (now (scope .entry)))) (sets (now (rows .entry)) (2 * i) (rowsBodies (bodiesAt depth count (recordsIn g (now (s .entry))) i) (scopeIn n (now (scope .entry))))))) ⌝ }
+    requires { ⌜ Ready frame (now image) × (BodiesStand depth count (recordsIn frame (now image)) i (bodiesAt depth count (recordsIn frame (now image)) i) × ScopeAt (now scope) n) ⌝ }
+    ensures { λ r. ⌜ WalkedTo r (i + length (each flatten (bodiesAt depth count (recordsIn frame (now (image .entry))) i))) (walkBodies (bodiesAt depth count (recordsIn frame (now (image .entry))) i) «max_id» (scopeIn n (now (scope .entry))) v) × (Kept n (now (scope .entry)) (now (scope .exit)) × (All (Sourced (scopeIn n (now (scope .entry)))) (bodiesAt depth count (recordsIn frame (now (image .entry))) i) → MaskedTo r (now (rows .exit)) (maskOf (freeBodies (bodiesAt depth count (recordsIn frame (now (image .entry))) i)) (scopeIn n (now (scope .entry)))) (sets (now (rows .entry)) (2 * i) (rowsBodies (bodiesAt depth count (recordsIn frame (now (image .entry))) i) (scopeIn n (now (scope .entry))))))) ⌝ }
 {
     let mut here = Walked {
         next: i,
@@ -202,7 +202,17 @@ fn bodies(
     };
     let mut left = count;
     while 0 < left {
-        let b = statement(s, g, depth, here.next, scope, n, max_id, here.verdict, rows);
+        let b = statement(
+            image,
+            frame,
+            depth,
+            here.next,
+            scope,
+            n,
+            max_id,
+            here.verdict,
+            rows,
+        );
         let verdict = b.verdict;
         here = Walked {
             next: b.next,

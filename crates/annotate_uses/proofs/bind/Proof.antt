@@ -24,7 +24,7 @@ returns c =
     let start = c .before .before .before .before in
     let a = start .args in
     let p = start .pre in
-    bound-by (setOf (a .bound)) (binders-by (recordAt (a .g) (now (a .s)) (a .i)) 4 (p .0 .kind ∙ c .before .before .if1 .taken)) (p .1 .1)
+    bound-by (setOf (a .bound)) (binders-by (recordAt (a .frame) (now (a .image)) (a .i)) 4 (p .0 .kind ∙ c .before .before .if1 .taken)) (p .1 .1)
     (subst (λ (y : Identifier). SetHolds (c .add .result) (setOf (a .bound) ++ (y .id ∷ []))) (c .before .first .ensures) (c .add .ensures))
 
 first-requires-2 : tie.Need-first-requires-2
@@ -38,7 +38,7 @@ returns-2 c =
     let start = c .before .before .before .before .before in
     let a = start .args in
     let p = start .pre in
-    bound-by (setOf (a .bound)) (binders-by (recordAt (a .g) (now (a .s)) (a .i)) 6 (p .0 .kind ∙ c .before .before .if2 .taken)) (p .1 .1)
+    bound-by (setOf (a .bound)) (binders-by (recordAt (a .frame) (now (a .image)) (a .i)) 6 (p .0 .kind ∙ c .before .before .if2 .taken)) (p .1 .1)
     (subst (λ (y : Identifier). SetHolds (c .add2 .result) (setOf (a .bound) ++ (y .id ∷ []))) (c .before .first2 .ensures) (c .add2 .ensures))
 
 first-requires-3 : tie.Need-first-requires-3
@@ -52,7 +52,7 @@ returns-3 c =
     let start = c .before .before .before .before .before .before in
     let a = start .args in
     let p = start .pre in
-    bound-by (setOf (a .bound)) (binders-by (recordAt (a .g) (now (a .s)) (a .i)) 8 (p .0 .kind ∙ c .before .before .if3 .taken)) (p .1 .1)
+    bound-by (setOf (a .bound)) (binders-by (recordAt (a .frame) (now (a .image)) (a .i)) 8 (p .0 .kind ∙ c .before .before .if3 .taken)) (p .1 .1)
     (subst (λ (y : Identifier). SetHolds (c .add3 .result) (setOf (a .bound) ++ (y .id ∷ []))) (c .before .first3 .ensures) (c .add3 .ensures))
 
 target-requires : tie.Need-target-requires
@@ -66,7 +66,7 @@ returns-4 c =
     let start = c .before .before .before .before .before .before .before in
     let a = start .args in
     let p = start .pre in
-    bound-by (setOf (a .bound)) (binders-by (recordAt (a .g) (now (a .s)) (a .i)) 9 (p .0 .kind ∙ c .before .before .if4 .taken)) (p .1 .1)
+    bound-by (setOf (a .bound)) (binders-by (recordAt (a .frame) (now (a .image)) (a .i)) 9 (p .0 .kind ∙ c .before .before .if4 .taken)) (p .1 .1)
     (subst (λ (y : Identifier). SetHolds (c .add4 .result) (setOf (a .bound) ++ (y .id ∷ []))) (c .before .target .ensures) (c .add4 .ensures))
 
 add-list-requires : tie.Need-add-list-requires
@@ -74,7 +74,7 @@ add-list-requires c κs =
     let start = c .before .before .before .before .before .before in
     let a = start .args in
     let p = start .pre in
-    let r = recordAt (a .g) (now (a .s)) (a .i) in
+    let r = recordAt (a .frame) (now (a .image)) (a .i) in
     let t = c .if5 .taken in
     (at-kind 1 (p .0) t, (refl, scope-room (listOf r) (binders-by r 1 (p .0 .kind ∙ t)) (p .1 .0) (p .1 .1)))
 
@@ -83,14 +83,14 @@ returns-5 c =
     let start = c .before .before .before .before .before .before .before in
     let a = start .args in
     let p = start .pre in
-    bound-by (setOf (a .bound)) (binders-by (recordAt (a .g) (now (a .s)) (a .i)) 1 (p .0 .kind ∙ c .before .if5 .taken)) (p .1 .1) (c .add-list .ensures)
+    bound-by (setOf (a .bound)) (binders-by (recordAt (a .frame) (now (a .image)) (a .i)) 1 (p .0 .kind ∙ c .before .if5 .taken)) (p .1 .1) (c .add-list .ensures)
 
 add-list-requires-2 : tie.Need-add-list-requires-2
 add-list-requires-2 c κs =
     let start = c .before .before .before .before .before .before .before in
     let a = start .args in
     let p = start .pre in
-    let r = recordAt (a .g) (now (a .s)) (a .i) in
+    let r = recordAt (a .frame) (now (a .image)) (a .i) in
     let t = c .if6 .taken in
     (at-kind 11 (p .0) t, (refl, scope-room (listOf r) (binders-by r 11 (p .0 .kind ∙ t)) (p .1 .0) (p .1 .1)))
 
@@ -99,14 +99,14 @@ returns-6 c =
     let start = c .before .before .before .before .before .before .before .before in
     let a = start .args in
     let p = start .pre in
-    bound-by (setOf (a .bound)) (binders-by (recordAt (a .g) (now (a .s)) (a .i)) 11 (p .0 .kind ∙ c .before .if6 .taken)) (p .1 .1) (c .add-list2 .ensures)
+    bound-by (setOf (a .bound)) (binders-by (recordAt (a .frame) (now (a .image)) (a .i)) 11 (p .0 .kind ∙ c .before .if6 .taken)) (p .1 .1) (c .add-list2 .ensures)
 
 returns-7 : tie.Need-returns-7
 returns-7 c =
     let start = c .before .before .before .before .before .before .before in
     let a = start .args in
     let p = start .pre in
-    let e = binders-none (recordAt (a .g) (now (a .s)) (a .i)) (a .kind) (p .0 .kind) (c .before .before .before .before .before .if1 .left) (c .before .before .before .before .if2 .left) (c .before .before .before .if3 .left) (c .before .before .if4 .left) (c .before .if5 .left) (c .if6 .left) in
+    let e = binders-none (recordAt (a .frame) (now (a .image)) (a .i)) (a .kind) (p .0 .kind) (c .before .before .before .before .before .if1 .left) (c .before .before .before .before .if2 .left) (c .before .before .before .if3 .left) (c .before .before .if4 .left) (c .before .if5 .left) (c .if6 .left) in
     record { is = sym (append-nil (setOf (a .bound))) ∙ ap (λ (xs : List VarId). setOf (a .bound) ++ xs) (sym e); scope = p .1 .0 }
 
 pub bind-spec : {M : Type 1} → statement M

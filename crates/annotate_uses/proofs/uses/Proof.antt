@@ -26,7 +26,7 @@ add-list-requires c κs =
 returns : tie.Need-returns
 returns c =
     let a = c .before .before .before .before .args in
-    let r = recordAt (a .g) (now (a .s)) (a .i) in
+    let r = recordAt (a .frame) (now (a .image)) (a .i) in
     let e : usesOf r ≡ ids (listOf r) = uses-by r 3 (c .before .before .before .before .pre .0 .kind ∙ c .before .before .if1 .taken) in
     subst (SetHolds (c .add-list .result)) (sym e) (set-then (ids (listOf r)) (c .before .empty .ensures) (c .add-list .ensures))
 
@@ -41,7 +41,7 @@ add-list-requires-2 c κs =
 returns-2 : tie.Need-returns-2
 returns-2 c =
     let a = c .before .before .before .before .before .args in
-    let r = recordAt (a .g) (now (a .s)) (a .i) in
+    let r = recordAt (a .frame) (now (a .image)) (a .i) in
     let e : usesOf r ≡ ids (listOf r) = uses-by r 4 (c .before .before .before .before .before .pre .0 .kind ∙ c .before .before .if2 .taken) in
     subst (SetHolds (c .add-list2 .result)) (sym e) (set-then (ids (listOf r)) (c .before .empty2 .ensures) (c .add-list2 .ensures))
 
@@ -54,7 +54,7 @@ only-requires c κs = search needs
 returns-3 : tie.Need-returns-3
 returns-3 c =
     let a = c .before .before .before .before .before .before .args in
-    let r = recordAt (a .g) (now (a .s)) (a .i) in
+    let r = recordAt (a .frame) (now (a .image)) (a .i) in
     let e : usesOf r ≡ firstOf r .id ∷ [] = uses-by r 5 (c .before .before .before .before .before .before .pre .0 .kind ∙ c .before .before .if3 .taken) in
     subst (SetHolds (c .only .result)) (sym e) (subst (λ (y : Identifier). SetHolds (c .only .result) (y .id ∷ [])) (c .before .first .ensures) (c .only .ensures))
 
@@ -72,7 +72,7 @@ add-list-requires-3 c κs =
 returns-4 : tie.Need-returns-4
 returns-4 c =
     let a = c .before .before .before .before .before .before .before .before .args in
-    let r = recordAt (a .g) (now (a .s)) (a .i) in
+    let r = recordAt (a .frame) (now (a .image)) (a .i) in
     let e : usesOf r ≡ firstOf r .id ∷ ids (listOf r) = uses-by r 7 (c .before .before .before .before .before .before .before .before .pre .0 .kind ∙ c .before .before .before .if4 .taken) in
     subst (SetHolds (c .add-list3 .result)) (sym e) (set-then (ids (listOf r)) (subst (λ (y : Identifier). SetHolds (c .before .only2 .result) (y .id ∷ [])) (c .before .before .first2 .ensures) (c .before .only2 .ensures)) (c .add-list3 .ensures))
 
@@ -88,7 +88,7 @@ add-operand-requires c κs = (at-kind 9 (c .before .before .before .before .befo
 returns-5 : tie.Need-returns-5
 returns-5 c =
     let a = c .before .before .before .before .before .before .before .before .before .args in
-    let r = recordAt (a .g) (now (a .s)) (a .i) in
+    let r = recordAt (a .frame) (now (a .image)) (a .i) in
     let e : usesOf r ≡ firstOf r .id ∷ operandOf r .id ∷ [] = uses-by r 9 (c .before .before .before .before .before .before .before .before .before .pre .0 .kind ∙ c .before .before .before .if5 .taken) in
     subst (SetHolds (c .add-operand .result)) (sym e) (set-then (operandOf r .id ∷ []) (subst (λ (y : Identifier). SetHolds (c .before .only3 .result) (y .id ∷ [])) (c .before .before .first3 .ensures) (c .before .only3 .ensures)) (c .add-operand .ensures))
 
@@ -104,7 +104,7 @@ add-second-requires c κs = (at-kind 10 (c .before .before .before .before .befo
 returns-6 : tie.Need-returns-6
 returns-6 c =
     let a = c .before .before .before .before .before .before .before .before .before .before .args in
-    let r = recordAt (a .g) (now (a .s)) (a .i) in
+    let r = recordAt (a .frame) (now (a .image)) (a .i) in
     let e : usesOf r ≡ firstOf r .id ∷ optionalId (secondOf r) = uses-by r 10 (c .before .before .before .before .before .before .before .before .before .before .pre .0 .kind ∙ c .before .before .before .if6 .taken) in
     subst (SetHolds (c .add-second .result)) (sym e) (set-then (optionalId (secondOf r)) (subst (λ (y : Identifier). SetHolds (c .before .only4 .result) (y .id ∷ [])) (c .before .before .first4 .ensures) (c .before .only4 .ensures)) (c .add-second .ensures))
 
@@ -114,7 +114,7 @@ empty-requires-3 c κs = search needs
 returns-7 : tie.Need-returns-7
 returns-7 c =
     let a = c .before .before .before .before .before .before .before .before .args in
-    let r = recordAt (a .g) (now (a .s)) (a .i) in
+    let r = recordAt (a .frame) (now (a .image)) (a .i) in
     let h = c .before .before .before .before .before .before .before .before .pre .0 .kind in
     let e : usesOf r ≡ [] = uses-none r (c .before .before .before .before .before .before .before .before .args .kind) h (c .before .before .before .before .before .before .if1 .left) (c .before .before .before .before .before .if2 .left) (c .before .before .before .before .if3 .left) (c .before .before .before .if4 .left) (c .before .before .if5 .left) (c .before .if6 .left) in
     subst (SetHolds (c .empty3 .result)) (sym e) (c .empty3 .ensures)

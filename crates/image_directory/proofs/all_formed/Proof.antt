@@ -28,7 +28,7 @@ enum-known-size c = search needs
 add-end : tie.Need-add-end Inv-loop μ-loop
 add-end c =
     let a = c .before .before .before .before .before .before .before .args in
-    let s = now (a .s) in
+    let s = now (a .image) in
     let l = c .before .before .before .before .before .loop in
     let q = sym (c .before .before .before .read-slot .ensures) ∙ c .before .size .given .1 in
     let m = tiled-le (a .place) s _ _ _ (tiled-next (a .place) s (l .left) (l .at) (l .here) _ _ (c .before .before .before .before .loop-test .taken) q (l .inv .0)) in
@@ -43,7 +43,7 @@ part-record-formed-start c = search needs
 part-record-formed-end : tie.Need-part-record-formed-end Inv-loop μ-loop
 part-record-formed-end c =
     let a = c .before .before .before .before .before .before .before .args in
-    let s = now (a .s) in
+    let s = now (a .image) in
     let l = c .before .before .before .before .before .loop in
     let q = sym (c .before .before .before .read-slot .ensures) ∙ c .before .size .given .1 in
     let m = tiled-le (a .place) s _ _ _ (tiled-next (a .place) s (l .left) (l .at) (l .here) _ _ (c .before .before .before .before .loop-test .taken) q (l .inv .0)) in
@@ -58,7 +58,7 @@ add-at c = omega arith
 add-at-2 : tie.Need-add-at-2 Inv-loop μ-loop
 add-at-2 c =
     let a = c .before .before .before .before .before .before .before .before .before .before .args in
-    let s = now (a .s) in
+    let s = now (a .image) in
     let l = c .before .before .before .before .before .before .before .before .loop in
     let q = sym (c .before .before .before .before .before .before .read-slot .ensures) ∙ c .before .before .before .before .size .given .1 in
     omega (arith, slot-room (a .place) s (l .at) _ _ (omega arith) q)
@@ -72,7 +72,7 @@ loop-less c = omega arith
 loop-again : tie.Need-loop-again Inv-loop μ-loop
 loop-again c =
     let a = c .before .before .before .before .before .before .before .before .before .before .args in
-    let s = now (a .s) in
+    let s = now (a .image) in
     let l = c .before .before .before .before .before .before .before .before .loop in
     let q = sym (c .before .before .before .before .before .before .read-slot .ensures) ∙ c .before .before .before .before .size .given .1 in
     let t = c .before .before .before .before .before .before .before .loop-test .taken in (
@@ -83,7 +83,7 @@ loop-again c =
 returns : tie.Need-returns Inv-loop μ-loop
 returns c =
     let a = c .before .before .before .before .before .before .before .before .before .before .args in
-    let s = now (a .s) in
+    let s = now (a .image) in
     let l = c .before .before .before .before .before .before .before .before .loop in
     let q = sym (c .before .before .before .before .before .before .read-slot .ensures) ∙ c .before .before .before .before .size .given .1 in
     let t = c .before .before .before .before .before .before .before .loop-test .taken in
@@ -95,14 +95,14 @@ enum-told c = search needs
 returns-2 : tie.Need-returns-2 Inv-loop μ-loop
 returns-2 c =
     let a = c .before .before .before .before .before .before .args in
-    let s = now (a .s) in
+    let s = now (a .image) in
     let l = c .before .before .before .before .loop in
     sym (l .inv .1 ∙ formed-short (a .place) s (a .w) (l .left) (l .at) (l .here) (c .before .before .before .loop-test .taken) (sym (c .before .before .read-slot .ensures) ∙ c .enum-told .given .1))
 
 returns-3 : tie.Need-returns-3 Inv-loop μ-loop
 returns-3 c =
     let a = c .before .before .before .args in
-    let s = now (a .s) in
+    let s = now (a .image) in
     let l = c .before .loop in
     let z : l .left ≡ 0 = omega arith in
     sym (l .inv .1 ∙ formed-end (a .place) s (a .w) (l .left) (l .at) (l .here) z)

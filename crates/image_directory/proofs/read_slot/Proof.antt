@@ -32,19 +32,19 @@ long-requires-2 c κs = search needs
 returns : tie.Need-returns
 returns c =
     let a = c .before .before .before .before .before .before .before .args in
-    cc (slot-here (a .place) (now (a .s)) (a .at) _ _ _ (c .before .before .before .number .ensures) (c .before .number2 .ensures))
+    cc (slot-here (a .place) (now (a .image)) (a .at) _ _ _ (c .before .before .before .number .ensures) (c .before .number2 .ensures))
 
 returns-2 : tie.Need-returns-2
 returns-2 c =
     let a = c .before .before .before .args in
-    let h : length (now (a .s)) < a .at + (a .place + a .place) = omega arith in
-    sym (slot-short (a .place) (now (a .s)) (a .at) (omega arith) h)
+    let h : length (now (a .image)) < a .at + (a .place + a .place) = omega arith in
+    sym (slot-short (a .place) (now (a .image)) (a .at) (omega arith) h)
 
 returns-3 : tie.Need-returns-3
 returns-3 c =
     let a = c .before .before .args in
-    let h : length (now (a .s)) < a .at + (a .place + a .place) = omega arith in
-    sym (slot-short (a .place) (now (a .s)) (a .at) (omega arith) h)
+    let h : length (now (a .image)) < a .at + (a .place + a .place) = omega arith in
+    sym (slot-short (a .place) (now (a .image)) (a .at) (omega arith) h)
 
 pub read-slot-spec : {M : Type 1} → statement M
 read-slot-spec =

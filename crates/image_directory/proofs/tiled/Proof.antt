@@ -16,7 +16,7 @@ abbrev μ-loop : tie.MeasureT-loop
 μ-loop s place n from start len at₀ here₀ left₀ at here left = left
 
 returns : tie.Need-returns Inv-loop μ-loop
-returns c = let a = c .before .before .args in sym (tiled-past (a .place) (now (a .s)) _ _ _ (c .if1 .taken))
+returns c = let a = c .before .before .args in sym (tiled-past (a .place) (now (a .image)) _ _ _ (c .if1 .taken))
 
 loop-holds : tie.Need-loop-holds Inv-loop μ-loop
 loop-holds c = (omega arith, refl)
@@ -30,7 +30,7 @@ enum-known-offset c = search needs
 returns-2 : tie.Need-returns-2 Inv-loop μ-loop
 returns-2 c =
     let a = c .before .before .before .before .before .before .before .before .before .args in
-    let s = now (a .s) in
+    let s = now (a .image) in
     let l = c .before .before .before .before .before .before .loop in
     let q = sym (c .before .before .before .before .read-slot .ensures) ∙ c .before .before .offset .given .1 in
     sym (l .inv .1 ∙ tiled-off (a .place) s (l .left) (l .at) (l .here) _ _ (c .before .before .before .before .before .loop-test .taken) q (c .if2 .taken))
@@ -41,7 +41,7 @@ sub-if3 c = omega arith
 returns-3 : tie.Need-returns-3 Inv-loop μ-loop
 returns-3 c =
     let a = c .before .before .before .before .before .before .before .before .before .before .args in
-    let s = now (a .s) in
+    let s = now (a .image) in
     let l = c .before .before .before .before .before .before .before .loop in
     let q = sym (c .before .before .before .before .before .read-slot .ensures) ∙ c .before .before .before .offset .given .1 in
     let t = c .before .before .before .before .before .before .loop-test .taken in
@@ -56,7 +56,7 @@ add-at c = omega arith
 add-at-2 : tie.Need-add-at-2 Inv-loop μ-loop
 add-at-2 c =
     let a = c .before .before .before .before .before .before .before .before .before .before .args in
-    let s = now (a .s) in
+    let s = now (a .image) in
     let l = c .before .before .before .before .before .before .before .loop in
     let q = sym (c .before .before .before .before .before .read-slot .ensures) ∙ c .before .before .before .offset .given .1 in
     omega (arith, slot-room (a .place) s (l .at) _ _ (omega arith) q)
@@ -70,7 +70,7 @@ loop-less c = omega arith
 loop-again : tie.Need-loop-again Inv-loop μ-loop
 loop-again c =
     let a = c .before .before .before .before .before .before .before .before .before .before .args in
-    let s = now (a .s) in
+    let s = now (a .image) in
     let l = c .before .before .before .before .before .before .before .loop in
     let q = sym (c .before .before .before .before .before .read-slot .ensures) ∙ c .before .before .before .offset .given .1 in
     let t = c .before .before .before .before .before .before .loop-test .taken in
@@ -82,7 +82,7 @@ enum-told c = search needs
 returns-4 : tie.Need-returns-4 Inv-loop μ-loop
 returns-4 c =
     let a = c .before .before .before .before .before .before .before .args in
-    let s = now (a .s) in
+    let s = now (a .image) in
     let l = c .before .before .before .before .loop in
     sym (l .inv .1 ∙ tiled-short (a .place) s (l .left) (l .at) (l .here) (c .before .before .before .loop-test .taken) (sym (c .before .before .read-slot .ensures) ∙ c .enum-told .given .1))
 
@@ -91,7 +91,7 @@ returns-5 c =
     let a = c .before .before .before .before .args in
     let l = c .before .loop in
     let z : l .left ≡ 0 = omega arith in
-    sym (l .inv .1 ∙ tiled-end (a .place) (now (a .s)) _ (l .at) (l .here) z)
+    sym (l .inv .1 ∙ tiled-end (a .place) (now (a .image)) _ (l .at) (l .here) z)
 
 pub tiled-spec : {M : Type 1} → statement M
 tiled-spec =

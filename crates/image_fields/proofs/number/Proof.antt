@@ -43,7 +43,7 @@ returns c =
     let a = c .before .before .before .before .before .before .args in
     let two = c .before .before .before .before .if1 .taken in
     rw (two, c .wide2 .ensures, c .before .before .wide .ensures)
-    (number-pair (now (a .s)) (λ i. omega (arith, c .before .shared-slice-known3 .given i)) (a .at) (omega arith))
+    (number-pair (now (a .bytes)) (λ i. omega (arith, c .before .shared-slice-known3 .given i)) (a .at) (omega arith))
 
 loop-holds : tie.Need-loop-holds Inv-loop μ-loop
 loop-holds c =
@@ -87,9 +87,9 @@ loop-again c =
     let a = c .before .before .before .before .before .before .args in
     let k : a .w - (l .i - 1) ≡ suc (a .w - l .i) = omega arith in
     let p : a .at + l .i ≡ suc (a .at + (l .i - 1)) = omega arith in
-    let q : l .n * 256 + c .wide3 .result ≡ getD (now (a .s)) (a .at + (l .i - 1)) 0 + 256 * l .n = omega arith in (
+    let q : l .n * 256 + c .wide3 .result ≡ getD (now (a .bytes)) (a .at + (l .i - 1)) 0 + 256 * l .n = omega arith in (
       omega arith,
-      rw k (number-step (now (a .s)) (λ i. omega (arith, c .before .shared-slice-known4 .given i)) (a .w - l .i) (a .at + (l .i - 1)) (l .n) _ _
+      rw k (number-step (now (a .bytes)) (λ i. omega (arith, c .before .shared-slice-known4 .given i)) (a .w - l .i) (a .at + (l .i - 1)) (l .n) _ _
           (omega arith) q (rw p at (l .inv .1))),
     )
 

@@ -39,8 +39,8 @@ shared-slice-read-tag c = search needs
 returns-5 : tie.Need-returns-5
 returns-5 c = λ e.
     let a = c .before .before .before .before .before .before .before .before .args in
-    let h : a .at + 10 ≤ length (now (a .s)) = omega arith in
-    (h, rw (c .before .before .before .before .before .before .if1 .left) (short-named (now (a .s)) (λ i. omega (arith, c .before .before .before .before .before .before .before .shared-slice-known .given i)) (a .at) h (c .before .before .if4 .left) (c .if5 .taken)))
+    let h : a .at + 10 ≤ length (now (a .bytes)) = omega arith in
+    (h, rw (c .before .before .before .before .before .before .if1 .left) (short-named (now (a .bytes)) (λ i. omega (arith, c .before .before .before .before .before .before .before .shared-slice-known .given i)) (a .at) h (c .before .before .if4 .left) (c .if5 .taken)))
 
 returns-6 : tie.Need-returns-6
 returns-6 c = λ e. absurd (false≢true e)
@@ -63,10 +63,10 @@ number-requires-2 c κs = search needs
 returns-8 : tie.Need-returns-8
 returns-8 c = λ e.
     let a = c .before .before .before .before .before .before .before .before .before .before .before .before .args in
-    let h : a .at + 10 ≤ length (now (a .s)) = omega arith in
+    let h : a .at + 10 ≤ length (now (a .bytes)) = omega arith in
     let first = rw (c .before .if7 .left) at (c .before .before .number .ensures) in
     let second = rw (eqb-true (c .number2 .result) 0 e) at (c .number2 .ensures) in
-    (h, rw (c .before .before .before .before .before .before .before .before .before .before .if1 .left) (short-i64 (now (a .s)) (λ i. omega (arith, c .before .before .before .before .before .before .before .before .before .before .before .shared-slice-known .given i)) (a .at) h (c .before .before .before .before .before .before .if4 .left) (c .before .before .before .if6 .left) first second))
+    (h, rw (c .before .before .before .before .before .before .before .before .before .before .if1 .left) (short-i64 (now (a .bytes)) (λ i. omega (arith, c .before .before .before .before .before .before .before .before .before .before .before .shared-slice-known .given i)) (a .at) h (c .before .before .before .before .before .before .if4 .left) (c .before .before .before .if6 .left) first second))
 
 pub short-binding-spec : {M : Type 1} → statement M
 short-binding-spec =

@@ -19,7 +19,7 @@ room-requires c κs = search needs
 add-t9 : tie.Need-add-t9
 add-t9 c =
     let a = c .before .before .before .before .before .before .args in
-    let h : _ + a .w ≤ length (now (a .s)) = leb-true _ _ (sym (c .before .room .ensures) ∙ c .if1 .taken) in
+    let h : _ + a .w ≤ length (now (a .bytes)) = leb-true _ _ (sym (c .before .room .ensures) ∙ c .if1 .taken) in
     omega arith
 
 enum-told : tie.Need-enum-told
@@ -30,7 +30,7 @@ returns c =
     let a = c .before .before .before .before .before .before .args in
     rw (
       c .before .before .before .f .given .1,
-      stop-number (now (a .s)) (λ i. omega (arith, c .before .before .before .before .before .shared-slice-known .given i)) (a .w) _,
+      stop-number (now (a .bytes)) (λ i. omega (arith, c .before .before .before .before .before .shared-slice-known .given i)) (a .w) _,
       ← c .before .room .ensures,
       c .if1 .taken,
     )
@@ -40,7 +40,7 @@ returns-2 c =
     let a = c .before .before .before .before .before .before .args in
     rw (
       c .before .before .before .f .given .1,
-      stop-number (now (a .s)) (λ i. omega (arith, c .before .before .before .before .before .shared-slice-known .given i)) (a .w) _,
+      stop-number (now (a .bytes)) (λ i. omega (arith, c .before .before .before .before .before .shared-slice-known .given i)) (a .w) _,
       ← c .before .room .ensures,
       c .if1 .left,
     )

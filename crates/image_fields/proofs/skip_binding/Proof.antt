@@ -32,7 +32,7 @@ enum-told : tie.Need-enum-told
 enum-told c = search needs
 
 returns-2 : tie.Need-returns-2
-returns-2 c = let a = c .before .before .before .before .before .before .before .before .before .args in cc (stop-binding (a .w) (now (a .s)) (a .f), c .before .before .before .before .before .before .f .given .1)
+returns-2 c = let a = c .before .before .before .before .before .before .before .before .before .args in cc (stop-binding (a .w) (now (a .bytes)) (a .f), c .before .before .before .before .before .before .f .given .1)
 
 returns-3 : tie.Need-returns-3
 returns-3 c = sym (stop-nothing _ _ _ (c .enum-told .given .1))

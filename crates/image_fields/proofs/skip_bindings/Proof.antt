@@ -33,7 +33,7 @@ loop-less c = omega arith
 loop-again : tie.Need-loop-again Inv-loop μ-loop
 loop-again c =
     let a = c .before .before .before .before .args in
-    let s = now (a .s) in
+    let s = now (a .bytes) in
     let l = c .before .before .loop in (
       rw (c .skip-binding .ensures) (stop-within (binding (a .w)) s (l .here)),
       turn (λ n f. stop (times n (binding (a .w))) s f) (λ f. stop (binding (a .w)) s f) (λ n f. stop-times (binding-exact (a .w)) n s f) _ (l .left) (l .here) _ (c .before .loop-test .taken) (l .inv .1) (c .skip-binding .ensures),
@@ -42,7 +42,7 @@ loop-again c =
 returns : tie.Need-returns Inv-loop μ-loop
 returns c =
     let a = c .before .before .before .args in
-    let s = now (a .s) in
+    let s = now (a .bytes) in
     let l = c .before .loop in
     let z : l .left ≡ 0 = omega arith in
     sym (l .inv .1 ∙ (ap (λ n. stop (times n (binding (a .w))) s (l .here)) z ∙ stop-none [] s (l .here) (l .inv .0)))

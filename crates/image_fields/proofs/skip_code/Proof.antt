@@ -18,7 +18,7 @@ add-t11 c = search needs
 returns : tie.Need-returns
 returns c =
     let a = c .before .before .before .before .before .before .args in
-    rw (c .before .before .before .before .f .given .1, code-good (a .most) (now (a .s)) _ (c .before .before .if1 .taken) (c .if2 .taken))
+    rw (c .before .before .before .before .f .given .1, code-good (a .most) (now (a .bytes)) _ (c .before .before .if1 .taken) (c .if2 .taken))
 
 enum-told : tie.Need-enum-told
 enum-told c = search needs
@@ -26,12 +26,12 @@ enum-told c = search needs
 returns-2 : tie.Need-returns-2
 returns-2 c =
     let a = c .before .before .before .before .before .before .args in
-    rw (c .before .before .before .before .f .given .1, code-bad (a .most) (now (a .s)) _ (c .before .before .if1 .taken) (c .if2 .left))
+    rw (c .before .before .before .before .f .given .1, code-bad (a .most) (now (a .bytes)) _ (c .before .before .if1 .taken) (c .if2 .left))
 
 returns-3 : tie.Need-returns-3
 returns-3 c =
     let a = c .before .before .before .before .args in
-    rw (c .before .before .f .given .1, stop-past (code (a .most)) (now (a .s)) _ (c .if1 .left) refl)
+    rw (c .before .before .f .given .1, stop-past (code (a .most)) (now (a .bytes)) _ (c .if1 .left) refl)
 
 returns-4 : tie.Need-returns-4
 returns-4 c = sym (stop-nothing _ _ _ (c .enum-told .given .1))

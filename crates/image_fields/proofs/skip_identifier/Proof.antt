@@ -11,7 +11,7 @@ skip-requires-2 : tie.Need-skip-requires-2
 skip-requires-2 c κs = search needs
 
 returns : tie.Need-returns
-returns c = let a = c .before .before .before .args in cc (stop-identifier (a .w) (now (a .s)) (a .f))
+returns c = let a = c .before .before .before .args in cc (stop-identifier (a .w) (now (a .bytes)) (a .f))
 
 pub skip-identifier-spec : {M : Type 1} → statement M
 skip-identifier-spec = tie.close (tie.spec skip-requires skip-requires-2 returns)

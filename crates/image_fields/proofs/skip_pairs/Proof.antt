@@ -37,7 +37,7 @@ loop-less c = omega arith
 loop-again : tie.Need-loop-again Inv-loop μ-loop
 loop-again c =
     let a = c .before .before .before .before .before .args in
-    let s = now (a .s) in
+    let s = now (a .bytes) in
     let l = c .before .before .before .loop in
     let e : c .skip-identifier .result ≡ stop (pair (a .w)) s (l .here) = cc (stop-pair (a .w) s (l .here)) in (
       rw e (stop-within (pair (a .w)) s (l .here)),
@@ -47,7 +47,7 @@ loop-again c =
 returns : tie.Need-returns Inv-loop μ-loop
 returns c =
     let a = c .before .before .before .args in
-    let s = now (a .s) in
+    let s = now (a .bytes) in
     let l = c .before .loop in
     let z : l .left ≡ 0 = omega arith in
     sym (l .inv .1 ∙ (ap (λ n. stop (times n (pair (a .w))) s (l .here)) z ∙ stop-none [] s (l .here) (l .inv .0)))

@@ -22,16 +22,16 @@ skip-pairs-requires : tie.Need-skip-pairs-requires
 skip-pairs-requires c κs = search needs
 
 returns : tie.Need-returns
-returns c = let a = c .before .before .before .before .before .before .before .before .before .args in cc (counted-good maxCount (pair (a .w)) (now (a .s)) (c .before .before .before .before .before .before .f .given .0 .0) (c .before .before .before .before .if1 .taken) (c .before .before .if2 .taken), c .before .before .before .before .before .before .f .given .1, c .skip-pairs .ensures, c .before .count .ensures)
+returns c = let a = c .before .before .before .before .before .before .before .before .before .args in cc (counted-good maxCount (pair (a .w)) (now (a .bytes)) (c .before .before .before .before .before .before .f .given .0 .0) (c .before .before .before .before .if1 .taken) (c .before .before .if2 .taken), c .before .before .before .before .before .before .f .given .1, c .skip-pairs .ensures, c .before .count .ensures)
 
 enum-told : tie.Need-enum-told
 enum-told c = search needs
 
 returns-2 : tie.Need-returns-2
-returns-2 c = let a = c .before .before .before .before .before .before .before .args in cc (counted-bad maxCount (pair (a .w)) (now (a .s)) (c .before .before .before .before .f .given .0 .0) (c .before .before .if1 .taken) (c .if2 .left), c .before .before .before .before .f .given .1)
+returns-2 c = let a = c .before .before .before .before .before .before .before .args in cc (counted-bad maxCount (pair (a .w)) (now (a .bytes)) (c .before .before .before .before .f .given .0 .0) (c .before .before .if1 .taken) (c .if2 .left), c .before .before .before .before .f .given .1)
 
 returns-3 : tie.Need-returns-3
-returns-3 c = let a = c .before .before .before .before .before .args in cc (counted-past maxCount (pair (a .w)) (now (a .s)) (c .before .before .f .given .0 .0) (c .if1 .left), c .before .before .f .given .1)
+returns-3 c = let a = c .before .before .before .before .before .args in cc (counted-past maxCount (pair (a .w)) (now (a .bytes)) (c .before .before .f .given .0 .0) (c .if1 .left), c .before .before .f .given .1)
 
 returns-4 : tie.Need-returns-4
 returns-4 c = sym (stop-nothing _ _ _ (c .enum-told .given .1))

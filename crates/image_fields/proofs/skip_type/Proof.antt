@@ -22,7 +22,7 @@ skip-zeros-requires : tie.Need-skip-zeros-requires
 skip-zeros-requires c κs = search needs
 
 returns : tie.Need-returns
-returns c = let a = c .before .before .before .before .before .before .before .before .args in cc (type-i64 (a .w) (now (a .s)) (c .before .before .before .before .before .f .given .0 .0) (c .before .before .before .if1 .taken) (c .before .if2 .taken), c .before .before .before .before .before .f .given .1, c .skip-zeros .ensures)
+returns c = let a = c .before .before .before .before .before .before .before .before .args in cc (type-i64 (a .w) (now (a .bytes)) (c .before .before .before .before .before .f .given .0 .0) (c .before .before .before .if1 .taken) (c .before .if2 .taken), c .before .before .before .before .before .f .given .1, c .skip-zeros .ensures)
 
 add-t15 : tie.Need-add-t15
 add-t15 c = search needs
@@ -31,16 +31,16 @@ skip-identifier-requires : tie.Need-skip-identifier-requires
 skip-identifier-requires c κs = search needs
 
 returns-2 : tie.Need-returns-2
-returns-2 c = let a = c .before .before .before .before .before .before .before .before .before .args in cc (type-named (a .w) (now (a .s)) (c .before .before .before .before .before .before .f .given .0 .0) (c .before .before .before .before .if1 .taken) (c .before .if3 .taken), c .before .before .before .before .before .before .f .given .1, c .skip-identifier .ensures)
+returns-2 c = let a = c .before .before .before .before .before .before .before .before .before .args in cc (type-named (a .w) (now (a .bytes)) (c .before .before .before .before .before .before .f .given .0 .0) (c .before .before .before .before .if1 .taken) (c .before .if3 .taken), c .before .before .before .before .before .before .f .given .1, c .skip-identifier .ensures)
 
 enum-told : tie.Need-enum-told
 enum-told c = search needs
 
 returns-3 : tie.Need-returns-3
-returns-3 c = let a = c .before .before .before .before .before .before .before .before .args in cc (type-bad (a .w) (now (a .s)) (c .before .before .before .before .before .f .given .0 .0) (c .before .before .before .if1 .taken) (c .before .if2 .left) (c .if3 .left), c .before .before .before .before .before .f .given .1)
+returns-3 c = let a = c .before .before .before .before .before .before .before .before .args in cc (type-bad (a .w) (now (a .bytes)) (c .before .before .before .before .before .f .given .0 .0) (c .before .before .before .if1 .taken) (c .before .if2 .left) (c .if3 .left), c .before .before .before .before .before .f .given .1)
 
 returns-4 : tie.Need-returns-4
-returns-4 c = let a = c .before .before .before .before .before .args in cc (type-none (a .w) (now (a .s)) (c .before .before .f .given .0 .0) (c .if1 .left), c .before .before .f .given .1)
+returns-4 c = let a = c .before .before .before .before .before .args in cc (type-none (a .w) (now (a .bytes)) (c .before .before .f .given .0 .0) (c .if1 .left), c .before .before .f .given .1)
 
 returns-5 : tie.Need-returns-5
 returns-5 c = sym (stop-nothing _ _ _ (c .enum-told .given .1))

@@ -29,7 +29,7 @@ loop-less c = omega arith
 
 loop-again : tie.Need-loop-again Inv-loop μ-loop
 loop-again c =
-    let s = now (c .before .before .before .before .args .s) in
+    let s = now (c .before .before .before .before .args .bytes) in
     let l = c .before .before .loop in (
       rw (c .skip-code .ensures) (stop-within (code 0) s (l .here)),
       turn (λ n f. stop (zeros n) s f) (λ f. stop (code 0) s f) (λ n f. stop-zeros n s f) _ (l .left) (l .here) _ (c .before .loop-test .taken) (l .inv .1) (c .skip-code .ensures),
@@ -37,7 +37,7 @@ loop-again c =
 
 returns : tie.Need-returns Inv-loop μ-loop
 returns c =
-    let s = now (c .before .before .before .args .s) in
+    let s = now (c .before .before .before .args .bytes) in
     let l = c .before .loop in
     let z : l .left ≡ 0 = omega arith in
     sym (l .inv .1 ∙ (ap (λ n. stop (zeros n) s (l .here)) z ∙ stop-none tt s (l .here) (l .inv .0)))

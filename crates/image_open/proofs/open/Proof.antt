@@ -10,10 +10,10 @@ use Rattle.image_open.proofs.open.Statement.{statement}
 use Rattle.image_open.proofs.open.Tie as tie
 
 -- the numbers of the header
-head : (c : tie.After-long2) → Head (c .before .before .before .before .before .before .before .before .before .before .args .l) (now (c .before .before .before .before .before .before .before .before .before .before .args .s)) (c .before .before .before .long .result) (c .before .before .number3 .result) (c .long2 .result)
+head : (c : tie.After-long2) → Head (c .before .before .before .before .before .before .before .before .before .before .args .layout) (now (c .before .before .before .before .before .before .before .before .before .before .args .image)) (c .before .before .before .long .result) (c .before .before .number3 .result) (c .long2 .result)
 head c =
-    let s = now (c .before .before .before .before .before .before .before .before .before .before .args .s) in
-    let l = c .before .before .before .before .before .before .before .before .before .before .args .l in
+    let s = now (c .before .before .before .before .before .before .before .before .before .before .args .image) in
+    let l = c .before .before .before .before .before .before .before .before .before .before .args .layout in
     record {
       least = c .before .before .before .before .before .before .before .before .if1 .left;
       most = c .before .before .before .before .before .before .before .if2 .left;

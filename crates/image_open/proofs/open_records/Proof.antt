@@ -8,8 +8,8 @@ use Rattle.image_open.proofs.open_records.Statement.{statement}
 use Rattle.image_open.proofs.open_records.Tie as tie
 
 -- the directory is small
-small : (c : tie.Else1) → c .before .before .args .count * (c .before .before .args .l .place + c .before .before .args .l .place) ≤ 32000
-small c = place-small (c .before .before .args .count) (c .before .before .args .l .place) (c .if1 .left) (c .before .before .pre .0 .place .1)
+small : (c : tie.Else1) → c .before .before .args .count * (c .before .before .args .layout .place + c .before .before .args .layout .place) ≤ 32000
+small c = place-small (c .before .before .args .count) (c .before .before .args .layout .place) (c .if1 .left) (c .before .before .pre .0 .place .1)
 
 returns : tie.Need-returns
 returns c = sym (many _ _ _ _ _ (c .before .before .pre .1) (c .if1 .taken))

@@ -21,12 +21,12 @@ enum-known-question c = search needs
 
 returns : tie.Need-returns
 returns c =
-    let s = now (c .before .before .before .before .before .before .args .s) in
+    let s = now (c .before .before .before .before .before .before .args .image) in
     ap answerFor (sym (c .before .max-id .given .1) ∙ (c .before .before .before .open .ensures ∙ ap (λ l. openedOf l s) (c .before .before .before .before .one .ensures))) ∙ answer-opened layout1 s
 
 returns-2 : tie.Need-returns-2
 returns-2 c =
-    let s = now (c .before .before .before .before .before .before .args .s) in
+    let s = now (c .before .before .before .before .before .before .args .image) in
     ap answerFor (sym (c .before .question .given .1) ∙ (c .before .before .before .open .ensures ∙ ap (λ l. openedOf l s) (c .before .before .before .before .one .ensures))) ∙ answer-opened layout1 s
 
 pub read-spec : {M : Type 1} → statement M

@@ -13,13 +13,13 @@ identifier-requires : tie.Need-identifier-requires
 identifier-requires c κs =
     let a = c .before .before .args in
     let h = c .before .before .pre in
-    (h .0 .ready, (h .0 .inside, identifier-room (a .g) (now (a .s)) (a .i) _ (first-there (a .g) (now (a .s)) (a .i) (a .kind) (h .0) (h .1) (c .first-at .ensures))))
+    (h .0 .ready, (h .0 .inside, identifier-room (a .frame) (now (a .image)) (a .i) _ (first-there (a .frame) (now (a .image)) (a .i) (a .kind) (h .0) (h .1) (c .first-at .ensures))))
 
 returns : tie.Need-returns
 returns c =
     let a = c .before .before .before .args in
     let h = c .before .before .before .pre in
-    c .identifier .ensures .is _ (first-there (a .g) (now (a .s)) (a .i) (a .kind) (h .0) (h .1) (c .before .first-at .ensures))
+    c .identifier .ensures .is _ (first-there (a .frame) (now (a .image)) (a .i) (a .kind) (h .0) (h .1) (c .before .first-at .ensures))
 
 pub first-spec : {M : Type 1} → statement M
 first-spec = tie.close (tie.spec first-at-requires identifier-requires returns)

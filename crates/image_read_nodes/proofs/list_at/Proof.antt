@@ -20,18 +20,18 @@ fixed-requires : tie.Need-fixed-requires
 fixed-requires c κs =
     let a = c .before .before .args in
     let h = c .before .before .pre in
-    (kind-below (a .g) (now (a .s)) (a .i) (a .kind) (h .0), omega (arith, h .0 .ready .id))
+    (kind-below (a .frame) (now (a .image)) (a .i) (a .kind) (h .0), omega (arith, h .0 .ready .id))
 
 -- where the list stands
-there : (c : tie.After-fixed) → Stands (listBytes (c .before .before .before .args .g .id)) (ListOk (c .before .before .before .args .g .id)) (now (c .before .before .before .args .s))
-    (c .before .offset .result + c .fixed .result) (listOf (recordAt (c .before .before .before .args .g) (now (c .before .before .before .args .s)) (c .before .before .before .args .i)))
+there : (c : tie.After-fixed) → Stands (listBytes (c .before .before .before .args .frame .id)) (ListOk (c .before .before .before .args .frame .id)) (now (c .before .before .before .args .image))
+    (c .before .offset .result + c .fixed .result) (listOf (recordAt (c .before .before .before .args .frame) (now (c .before .before .before .args .image)) (c .before .before .before .args .i)))
 there c =
     let a = c .before .before .before .args in
     let h = c .before .before .before .pre in
-    rw (c .fixed .ensures) (list-there (a .g) (now (a .s)) (a .i) (a .kind) _ (h .0) (h .1) (c .before .offset .ensures))
+    rw (c .fixed .ensures) (list-there (a .frame) (now (a .image)) (a .i) (a .kind) _ (h .0) (h .1) (c .before .offset .ensures))
 
 add-result : tie.Need-add-result
-add-result c = omega (arith, list-run (c .before .before .before .args .g .id) (there c) .inside)
+add-result c = omega (arith, list-run (c .before .before .before .args .frame .id) (there c) .inside)
 
 returns : tie.Need-returns
 returns c = there c

@@ -13,12 +13,12 @@ identifier-requires : tie.Need-identifier-requires
 identifier-requires c κs =
     let a = c .before .args in
     let h = c .before .pre in
-    (h .ready, (h .inside, identifier-room (a .g) (now (a .s)) (a .i) _ (operand-there (a .g) (now (a .s)) (a .i) h)))
+    (h .ready, (h .inside, identifier-room (a .frame) (now (a .image)) (a .i) _ (operand-there (a .frame) (now (a .image)) (a .i) h)))
 
 returns : tie.Need-returns
 returns c =
     let a = c .before .before .args in
-    c .identifier .ensures .is _ (operand-there (a .g) (now (a .s)) (a .i) (c .before .before .pre))
+    c .identifier .ensures .is _ (operand-there (a .frame) (now (a .image)) (a .i) (c .before .before .pre))
 
 pub operand-spec : {M : Type 1} → statement M
 operand-spec = tie.close (tie.spec add-identifier identifier-requires returns)

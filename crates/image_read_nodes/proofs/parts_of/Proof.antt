@@ -8,10 +8,10 @@ use Rattle.image_read_nodes.proofs.parts_of.Statement.{statement}
 use Rattle.image_read_nodes.proofs.parts_of.Tie as tie
 
 -- the record that was looked at
-here : (c : tie.After-kind) → Looked (c .before .before .before .before .args .g) (now (c .before .before .before .before .args .s)) (c .before .before .before .before .args .i) (c .kind .given .0 .0) (c .kind .given .0 .1 .0)
+here : (c : tie.After-kind) → Looked (c .before .before .before .before .args .frame) (now (c .before .before .before .before .args .image)) (c .before .before .before .before .args .i) (c .kind .given .0 .0) (c .kind .given .0 .1 .0)
 here c =
     let a = c .before .before .before .before .args in
-    looked (a .g) (now (a .s)) (a .i) _ _ (c .before .before .before .before .pre .0) (sym (c .before .before .look .ensures) ∙ c .kind .given .1)
+    looked (a .frame) (now (a .image)) (a .i) _ _ (c .before .before .before .before .pre .0) (sym (c .before .before .look .ensures) ∙ c .kind .given .1)
 
 look-requires : tie.Need-look-requires
 look-requires c κs = search needs
@@ -36,7 +36,7 @@ returns c =
 returns-2 : tie.Need-returns-2
 returns-2 c =
     let a = c .before .before .before .before .args in
-    absurd (not-nowhere (a .g) (now (a .s)) (a .i) (c .before .before .before .before .pre .0) (c .before .before .before .before .pre .1) (sym (c .before .before .look .ensures) ∙ c .enum-told .given .1))
+    absurd (not-nowhere (a .frame) (now (a .image)) (a .i) (c .before .before .before .before .pre .0) (c .before .before .before .before .pre .1) (sym (c .before .before .look .ensures) ∙ c .enum-told .given .1))
 
 pub parts-of-spec : {M : Type 1} → statement M
 parts-of-spec =

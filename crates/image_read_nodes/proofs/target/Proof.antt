@@ -16,12 +16,12 @@ identifier-requires : tie.Need-identifier-requires
 identifier-requires c κs =
     let a = c .before .args in
     let h = c .before .pre in
-    (h .ready, (h .inside, identifier-room (a .g) (now (a .s)) (a .i) _ (target-there (a .g) (now (a .s)) (a .i) h)))
+    (h .ready, (h .inside, identifier-room (a .frame) (now (a .image)) (a .i) _ (target-there (a .frame) (now (a .image)) (a .i) h)))
 
 returns : tie.Need-returns
 returns c =
     let a = c .before .before .args in
-    c .identifier .ensures .is _ (target-there (a .g) (now (a .s)) (a .i) (c .before .before .pre))
+    c .identifier .ensures .is _ (target-there (a .frame) (now (a .image)) (a .i) (c .before .before .pre))
 
 pub target-spec : {M : Type 1} → statement M
 target-spec = tie.close (tie.spec add-identifier add-identifier-2 identifier-requires returns)

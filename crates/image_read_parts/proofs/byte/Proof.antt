@@ -8,7 +8,7 @@ use Rattle.image_read_parts.proofs.byte.Statement.{statement}
 use Rattle.image_read_parts.proofs.byte.Tie as tie
 
 -- the place is in the image
-room : (c : tie.After-offset) → Room (c .before .before .args .g .id) (c .offset .result + c .before .before .args .at) 1 (now (c .before .before .args .s))
+room : (c : tie.After-offset) → Room (c .before .before .args .frame .id) (c .offset .result + c .before .before .args .at) 1 (now (c .before .before .args .image))
 room c = part-room (c .before .before .pre .0 .id .1) (c .offset .ensures) (c .before .before .pre .1 .1)
 
 offset-requires : tie.Need-offset-requires

@@ -19,12 +19,12 @@ number-requires-2 : tie.Need-number-requires-2
 number-requires-2 c κs = search needs
 
 half-requires : tie.Need-half-requires
-half-requires c κs = let a = c .before .before .before .args in omega (arith, number-below 2 (drop (a .at) (now (a .s))) _ (drop (a .at + 2) (now (a .s))) (c .before .number .ensures))
+half-requires c κs = let a = c .before .before .before .args in omega (arith, number-below 2 (drop (a .at) (now (a .image))) _ (drop (a .at + 2) (now (a .image))) (c .before .number .ensures))
 
 returns : tie.Need-returns
 returns c =
     let a = c .before .before .before .before .args in
-    let name = c .before .before .number .ensures ∙ ap (λ n. got n (drop (a .at + 2) (now (a .s)))) (sym (c .half .ensures)) in
+    let name = c .before .before .number .ensures ∙ ap (λ n. got n (drop (a .at + 2) (now (a .image)))) (sym (c .half .ensures)) in
     identifier-reads (a .w) name (c .before .number2 .ensures)
 
 pub identifier-at-spec : {M : Type 1} → statement M

@@ -32,7 +32,7 @@ from-bits-requires c κs = search needs
 returns : tie.Need-returns
 returns c =
     let a = c .before .before .before .before .before .args in
-    let s = now (a .s) in
+    let s = now (a .image) in
     let low = number-below 4 (drop (a .at) s) _ (drop (a .at + 4) s) (c .before .before .before .number .ensures) in
     let high = number-below 4 (drop (a .at + 4) s) _ (drop (a .at + 4 + 4) s) (c .before .before .number2 .ensures) in
     let e = returned _ _ _ (c .from-bits .ensures) (omega (arith, low, high, c .before .joined .ensures)) (c .before .joined .ensures) in

@@ -17,19 +17,19 @@ use Rattle.image_read_parts.proofs.list_binding.Tie as tie
 
 -- the record
 abbrev here : tie.After-offset → Record
-here c = headOf (drop (c .before .before .args .i) (recordsIn (c .before .before .args .g) (now (c .before .before .args .s))))
+here c = headOf (drop (c .before .before .args .i) (recordsIn (c .before .before .args .frame) (now (c .before .before .args .image))))
 
 abbrev at : tie.After-fixed → ℕ
-at c = c .before .before .offset .result + (c .fixed .result + (1 + c .before .before .before .before .args .j * (6 + (c .before .before .before .before .args .g .id + c .before .before .before .before .args .g .id))))
+at c = c .before .before .offset .result + (c .fixed .result + (1 + c .before .before .before .before .args .j * (6 + (c .before .before .before .before .args .frame .id + c .before .before .before .before .args .frame .id))))
 
-place : (c : tie.After-fixed) → Stands (bindingBytes (c .before .before .before .before .args .g .id)) (BindingOk (c .before .before .before .before .args .g .id)) (now (c .before .before .before .before .args .s)) (at c) (getD (listOf (here (c .before .before))) (c .before .before .before .before .args .j) emptyBinding)
+place : (c : tie.After-fixed) → Stands (bindingBytes (c .before .before .before .before .args .frame .id)) (BindingOk (c .before .before .before .before .args .frame .id)) (now (c .before .before .before .before .args .image)) (at c) (getD (listOf (here (c .before .before))) (c .before .before .before .before .args .j) emptyBinding)
 place c =
     let o = c .before .before in
     let p = o .before .before .pre .1 .1 in
     binding-at-place _ _ _ _ (o .offset .ensures) (p .0) (c .fixed .result) (c .before .before .before .before .args .j) (c .fixed .ensures) (p .1)
 
-inside : (c : tie.After-fixed) → at c + (6 + (c .before .before .before .before .args .g .id + c .before .before .before .before .args .g .id)) ≤ length (now (c .before .before .before .before .args .s))
-inside c = binding-room (c .before .before .before .before .args .g .id) (now (c .before .before .before .before .args .s)) (at c) _ (place c)
+inside : (c : tie.After-fixed) → at c + (6 + (c .before .before .before .before .args .frame .id + c .before .before .before .before .args .frame .id)) ≤ length (now (c .before .before .before .before .args .image))
+inside c = binding-room (c .before .before .before .before .args .frame .id) (now (c .before .before .before .before .args .image)) (at c) _ (place c)
 
 offset-requires : tie.Need-offset-requires
 offset-requires c κs = search needs

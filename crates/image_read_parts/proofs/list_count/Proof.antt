@@ -17,9 +17,9 @@ use Rattle.image_read_parts.proofs.list_count.Tie as tie
 
 -- the record
 abbrev here : tie.After-offset → Record
-here c = headOf (drop (c .before .before .args .i) (recordsIn (c .before .before .args .g) (now (c .before .before .args .s))))
+here c = headOf (drop (c .before .before .args .i) (recordsIn (c .before .before .args .frame) (now (c .before .before .args .image))))
 
-place : (c : tie.After-fixed) → Stands byteOf (λ _. Unit {0}) (now (c .before .before .before .before .args .s)) (c .before .before .offset .result + c .fixed .result) (length (listOf (here (c .before .before))))
+place : (c : tie.After-fixed) → Stands byteOf (λ _. Unit {0}) (now (c .before .before .before .before .args .image)) (c .before .before .offset .result + c .fixed .result) (length (listOf (here (c .before .before))))
 place c = let o = c .before .before in count-at _ _ _ _ (o .offset .ensures) (o .before .before .pre .1 .1) (c .fixed .result) (c .fixed .ensures)
 
 offset-requires : tie.Need-offset-requires
@@ -44,7 +44,7 @@ returns : tie.Need-returns
 returns c =
     let f = c .before .before in
     let h = place f in
-    c .count .ensures ∙ byte-run (now (c .before .before .before .before .before .before .args .s)) (h .others) (f .before .before .offset .result + f .fixed .result) _ (h .bytes)
+    c .count .ensures ∙ byte-run (now (c .before .before .before .before .before .before .args .image)) (h .others) (f .before .before .offset .result + f .fixed .result) _ (h .bytes)
 
 pub list-count-spec : {M : Type 1} → statement M
 list-count-spec =

@@ -9,11 +9,11 @@ use Rattle.image_read_parts.proofs.offset.Statement.{statement}
 use Rattle.image_read_parts.proofs.offset.Tie as tie
 
 -- the directory is small
-small : (c : tie.After-shared-slice-known) → c .before .args .i * (c .before .args .g .place + c .before .args .g .place) ≤ 32000
+small : (c : tie.After-shared-slice-known) → c .before .args .i * (c .before .args .frame .place + c .before .args .frame .place) ≤ 32000
 small c =
     let a = c .before .args in
     let h = c .before .pre .0 in
-    place-small (a .i) (a .g .place) (omega (arith, h .few, c .before .pre .1)) (h .place .1)
+    place-small (a .i) (a .frame .place) (omega (arith, h .few, c .before .pre .1)) (h .place .1)
 
 add-read-slot : tie.Need-add-read-slot
 add-read-slot c = search needs
@@ -36,12 +36,12 @@ enum-told c = search needs
 returns : tie.Need-returns
 returns c =
     let a = c .before .before .before .before .before .args in
-    spot-stands (spot (a .g) (now (a .s)) (a .i) _ _ (c .before .before .before .before .before .pre .0) (c .before .before .before .before .before .pre .1) (sym (c .before .before .before .read-slot .ensures) ∙ c .before .offset .given .1))
+    spot-stands (spot (a .frame) (now (a .image)) (a .i) _ _ (c .before .before .before .before .before .pre .0) (c .before .before .before .before .before .pre .1) (sym (c .before .before .before .read-slot .ensures) ∙ c .before .offset .given .1))
 
 returns-2 : tie.Need-returns-2
 returns-2 c =
     let a = c .before .before .before .before .args in
-    absurd (no-short (a .g) (now (a .s)) (a .i) (c .before .before .before .before .pre .0) (c .before .before .before .before .pre .1) (sym (c .before .before .read-slot .ensures) ∙ c .enum-told .given .1))
+    absurd (no-short (a .frame) (now (a .image)) (a .i) (c .before .before .before .before .pre .0) (c .before .before .before .before .pre .1) (sym (c .before .before .read-slot .ensures) ∙ c .enum-told .given .1))
 
 pub offset-spec : {M : Type 1} → statement M
 offset-spec =

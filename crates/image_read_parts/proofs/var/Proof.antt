@@ -15,18 +15,18 @@ use Rattle.image_read_parts.proofs.var.Tie as tie
 
 -- the record
 abbrev here : tie.After-offset → Record
-here c = headOf (drop (c .before .before .args .i) (recordsIn (c .before .before .args .g) (now (c .before .before .args .s))))
+here c = headOf (drop (c .before .before .args .i) (recordsIn (c .before .before .args .frame) (now (c .before .before .args .image))))
 
 abbrev Var : tie.After-offset → ℕ → Type 0
-Var c at = Stands (identifierBytes (c .before .before .args .g .id)) (IdentifierOk (c .before .before .args .g .id)) (now (c .before .before .args .s)) (c .offset .result + at) (varOf (here c))
+Var c at = Stands (identifierBytes (c .before .before .args .frame .id)) (IdentifierOk (c .before .before .args .frame .id)) (now (c .before .before .args .image)) (c .offset .result + at) (varOf (here c))
 
-room : (c : tie.After-offset) (at : ℕ) → Var c at → Room (c .before .before .args .g .id) (c .offset .result + at) (2 + c .before .before .args .g .id) (now (c .before .before .args .s))
-room c at h = record { width = c .before .before .pre .0 .id .1; inside = identifier-room (c .before .before .args .g .id) (now (c .before .before .args .s)) (c .offset .result + at) _ h }
+room : (c : tie.After-offset) (at : ℕ) → Var c at → Room (c .before .before .args .frame .id) (c .offset .result + at) (2 + c .before .before .args .frame .id) (now (c .before .before .args .image))
+room c at h = record { width = c .before .before .pre .0 .id .1; inside = identifier-room (c .before .before .args .frame .id) (now (c .before .before .args .image)) (c .offset .result + at) _ h }
 
 literal : (c : tie.Then1) → Var (c .before .before) 9
 literal c = let o = c .before .before in var-at-literal _ _ _ _ (o .offset .ensures) (c .if1 .taken)
 
-op : (c : tie.Then2) → Var (c .before .before .before) (6 + (c .before .before .before .before .before .args .g .id + c .before .before .before .before .before .args .g .id))
+op : (c : tie.Then2) → Var (c .before .before .before) (6 + (c .before .before .before .before .before .args .frame .id + c .before .before .before .before .before .args .frame .id))
 op c = let o = c .before .before .before in var-at-op _ _ _ _ (o .offset .ensures) (c .if2 .taken)
 
 first : (c : tie.Else2) → Var (c .before .before .before) 1

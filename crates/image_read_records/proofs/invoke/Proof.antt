@@ -10,7 +10,7 @@ use Rattle.image_read_records.proofs.invoke.Statement.{statement}
 use Rattle.image_read_records.proofs.invoke.Tie as tie
 
 -- where the parts stand
-there : (c : tie.After-offset) → InvokeThere (c .before .before .args .g .id) (now (c .before .before .args .s)) (c .offset .result) (recordAt (c .before .before .args .g) (now (c .before .before .args .s)) (c .before .before .args .i))
+there : (c : tie.After-offset) → InvokeThere (c .before .before .args .frame .id) (now (c .before .before .args .image)) (c .offset .result) (recordAt (c .before .before .args .frame) (now (c .before .before .args .image)) (c .before .before .args .i))
 there c = invoke-there _ _ _ _ (c .before .before .pre .0 .kind) (c .offset .ensures)
 
 offset-requires : tie.Need-offset-requires

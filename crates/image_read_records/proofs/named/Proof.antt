@@ -9,8 +9,8 @@ use Rattle.image_read_records.proofs.named.Statement.{statement}
 use Rattle.image_read_records.proofs.named.Tie as tie
 
 -- the list is in the image
-inside : (c : tie.After-offset) → c .offset .result + (3 + c .before .before .args .g .id) < length (now (c .before .before .args .s))
-inside c = list-run (c .before .before .args .g .id) (named-list (c .before .before .pre) (c .offset .ensures)) .inside
+inside : (c : tie.After-offset) → c .offset .result + (3 + c .before .before .args .frame .id) < length (now (c .before .before .args .image))
+inside c = list-run (c .before .before .args .frame .id) (named-list (c .before .before .pre) (c .offset .ensures)) .inside
 
 offset-requires : tie.Need-offset-requires
 offset-requires c κs = search needs

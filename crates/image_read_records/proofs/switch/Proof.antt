@@ -10,7 +10,7 @@ use Rattle.image_read_records.proofs.switch.Statement.{statement}
 use Rattle.image_read_records.proofs.switch.Tie as tie
 
 -- where the parts stand
-there : (c : tie.After-offset) → HeadThere (c .before .before .args .g .id) (now (c .before .before .args .s)) (c .offset .result) (recordAt (c .before .before .args .g) (now (c .before .before .args .s)) (c .before .before .args .i)) switch (6 + (c .before .before .args .g .id + c .before .before .args .g .id))
+there : (c : tie.After-offset) → HeadThere (c .before .before .args .frame .id) (now (c .before .before .args .image)) (c .offset .result) (recordAt (c .before .before .args .frame) (now (c .before .before .args .image)) (c .before .before .args .i)) switch (6 + (c .before .before .args .frame .id + c .before .before .args .frame .id))
 there c = switch-there _ _ _ _ (c .before .before .pre .kind) (c .offset .ensures)
 
 offset-requires : tie.Need-offset-requires

@@ -94,7 +94,7 @@ skip-bodies-loop-less t c = omega arith
 skip-bodies-loop-again : (t : ℕ) → skip-bodies-lts.Need-loop-again (skip-bodies-claims t) (skip-bodies-at t) skip-bodies.Post skip-bodies-Inv-loop skip-bodies-μ-loop
 skip-bodies-loop-again t c =
     let a = c .before .before .before .before .args in
-    let rs = recordsIn (a .g) (now (a .s)) in
+    let rs = recordsIn (a .frame) (now (a .image)) in
     let l = c .before .before .loop in (
       rw (c .statement .ensures) (stop-within (stmt (a .depth)) rs (l .here)),
       turn (λ n f. stop (times n (stmt (a .depth))) rs f) (λ f. stop (stmt (a .depth)) rs f) (λ n f. stop-times (stmt-exact (a .depth)) n rs f) _ (l .left) (l .here) _ (c .before .loop-test .taken) (l .inv .1) (c .statement .ensures),
@@ -107,7 +107,7 @@ skip-bodies-returns : (t : ℕ) →
     skip-bodies-μ-loop
 skip-bodies-returns t c =
     let a = c .before .before .before .args in
-    let rs = recordsIn (a .g) (now (a .s)) in
+    let rs = recordsIn (a .frame) (now (a .image)) in
     let l = c .before .loop in
     let z : l .left ≡ 0 = omega arith in
     sym (l .inv .1 ∙ (ap (λ n. stop (times n (stmt (a .depth))) rs (l .here)) z ∙ stop-none [] rs (l .here) (l .inv .0)))
@@ -136,7 +136,7 @@ skip-clauses-loop-less t c = omega arith
 skip-clauses-loop-again : (t : ℕ) → skip-clauses-lts.Need-loop-again (skip-clauses-claims t) (skip-clauses-at t) skip-clauses.Post skip-clauses-Inv-loop skip-clauses-μ-loop
 skip-clauses-loop-again t c =
     let a = c .before .before .before .before .before .args in
-    let rs = recordsIn (a .g) (now (a .s)) in
+    let rs = recordsIn (a .frame) (now (a .image)) in
     let l = c .before .before .before .loop in
     let e : c .statement .result ≡ stop (stmt (a .depth)) rs (stop clauseHead rs (l .here)) = cc (c .statement .ensures, c .before .clause-head .ensures) in (
       rw (c .statement .ensures) (stop-within (stmt (a .depth)) rs _),
@@ -146,7 +146,7 @@ skip-clauses-loop-again t c =
 skip-clauses-returns : (t : ℕ) → skip-clauses-lts.Need-returns (skip-clauses-claims t) (skip-clauses-at t) skip-clauses.Post skip-clauses-Inv-loop skip-clauses-μ-loop
 skip-clauses-returns t c =
     let a = c .before .before .before .args in
-    let rs = recordsIn (a .g) (now (a .s)) in
+    let rs = recordsIn (a .frame) (now (a .image)) in
     let l = c .before .loop in
     let z : l .left ≡ 0 = omega arith in
     sym (l .inv .1 ∙ (ap (λ n. stop (clauses (stmt (a .depth)) n) rs (l .here)) z ∙ clauses-none (stmt (a .depth)) rs (l .here) (l .inv .0)))
@@ -169,13 +169,13 @@ statement-sub-skip-clauses t c = omega (arith, c .before .before .before .before
 statement-skip-clauses-requires : (t : ℕ) → statement-lts.Need-skip-clauses-requires (statement-claims t) (statement-at t) statement′.Post
 statement-skip-clauses-requires t c κs =
     let a = c .before .before .before .before .before .before .args in
-    let rs = recordsIn (a .g) (now (a .s)) in
+    let rs = recordsIn (a .frame) (now (a .image)) in
     let h = parts-follow rs (a .depth) (a .f) _ _ _ (c .before .before .before .before .if1 .left) (sym (c .before .before .before .statement-parts .ensures) ∙ c .before .clauses .given .1) in (omega (arith, c .before .before .before .before .if1 .left), (c .before .before .before .before .before .before .pre .1, h .0))
 
 statement-skip-bodies-requires : (t : ℕ) → statement-lts.Need-skip-bodies-requires (statement-claims t) (statement-at t) statement′.Post
 statement-skip-bodies-requires t c κs =
     let a = c .before .before .before .before .before .before .before .args in
-    let rs = recordsIn (a .g) (now (a .s)) in
+    let rs = recordsIn (a .frame) (now (a .image)) in
     let h = parts-follow rs (a .depth) (a .f) _ _ _ (c .before .before .before .before .before .if1 .left) (sym (c .before .before .before .before .statement-parts .ensures) ∙ c .before .before .clauses .given .1) in (omega (arith, c .before .before .before .before .before .if1 .left), (c .before .before .before .before .before .before .before .pre .1, rw (c .skip-clauses .ensures) (stop-within _ rs _)))
 
 statement-enum-told : (t : ℕ) → statement-lts.Need-enum-told (statement-claims t) (statement-at t) statement′.Post
@@ -184,12 +184,12 @@ statement-enum-told t c = search needs
 statement-returns-2 : (t : ℕ) → statement-lts.Need-returns-2 (statement-claims t) (statement-at t) statement′.Post
 statement-returns-2 t c =
     let a = c .before .before .before .before .before .before .before .before .args in
-    let rs = recordsIn (a .g) (now (a .s)) in
+    let rs = recordsIn (a .frame) (now (a .image)) in
     let h = parts-follow rs (a .depth) (a .f) _ _ _ (c .before .before .before .before .before .before .if1 .left) (sym (c .before .before .before .before .before .statement-parts .ensures) ∙ c .before .before .before .clauses .given .1) in
     cc (h .1, c .skip-bodies .ensures, c .before .skip-clauses .ensures)
 
 statement-returns-3 : (t : ℕ) → statement-lts.Need-returns-3 (statement-claims t) (statement-at t) statement′.Post
-statement-returns-3 t c = let a = c .before .before .before .before .before .args in sym (parts-missing (recordsIn (a .g) (now (a .s))) (a .depth) (a .f) (sym (c .before .before .statement-parts .ensures) ∙ c .enum-told .given .1))
+statement-returns-3 t c = let a = c .before .before .before .before .before .args in sym (parts-missing (recordsIn (a .frame) (now (a .image))) (a .depth) (a .f) (sym (c .before .before .statement-parts .ensures) ∙ c .enum-told .given .1))
 
 pub +skip-bodies+skip-clauses+statement-spec : {M : Type 1} → statement M
 +skip-bodies+skip-clauses+statement-spec =

@@ -18,10 +18,10 @@ enum-known-kind : tie.Need-enum-known-kind
 enum-known-kind c = search needs
 
 add-t10 : tie.Need-add-t10
-add-t10 c = let a = c .before .before .before .before .before .before .before .before .before .args in omega (arith, place-few (a .g) (now (a .s)) (c .before .before .before .before .before .before .f .given .0 .0) _ _ (c .before .before .before .before .before .before .before .before .before .pre) (sym (c .before .before .before .before .look .ensures) ∙ c .before .before .kind .given .1))
+add-t10 c = let a = c .before .before .before .before .before .before .before .before .before .args in omega (arith, place-few (a .frame) (now (a .image)) (c .before .before .before .before .before .before .f .given .0 .0) _ _ (c .before .before .before .before .before .before .before .before .before .pre) (sym (c .before .before .before .before .look .ensures) ∙ c .before .before .kind .given .1))
 
 returns : tie.Need-returns
-returns c = let a = c .before .before .before .before .before .before .before .before .before .args in cc (definition-head (recordsIn (a .g) (now (a .s))) _ _ _ (sym (c .before .before .before .before .look .ensures) ∙ c .before .before .kind .given .1) (c .if1 .taken), c .before .before .before .before .before .before .f .given .1)
+returns c = let a = c .before .before .before .before .before .before .before .before .before .args in cc (definition-head (recordsIn (a .frame) (now (a .image))) _ _ _ (sym (c .before .before .before .before .look .ensures) ∙ c .before .before .kind .given .1) (c .if1 .taken), c .before .before .before .before .before .before .f .given .1)
 
 enum-told : tie.Need-enum-told
 enum-told c = search needs
@@ -30,10 +30,10 @@ enum-told-2 : tie.Need-enum-told-2
 enum-told-2 c = search needs
 
 returns-2 : tie.Need-returns-2
-returns-2 c = let a = c .before .before .before .before .before .before .before .before .before .args in cc (definition-other (recordsIn (a .g) (now (a .s))) _ _ _ (sym (c .before .before .before .before .look .ensures) ∙ c .before .before .kind .given .1) (c .if1 .left), c .before .before .before .before .before .before .f .given .1)
+returns-2 c = let a = c .before .before .before .before .before .before .before .before .before .args in cc (definition-other (recordsIn (a .frame) (now (a .image))) _ _ _ (sym (c .before .before .before .before .look .ensures) ∙ c .before .before .kind .given .1) (c .if1 .left), c .before .before .before .before .before .before .f .given .1)
 
 returns-3 : tie.Need-returns-3
-returns-3 c = let a = c .before .before .before .before .before .before .before .args in cc (definition-end (recordsIn (a .g) (now (a .s))) _ (sym (c .before .before .look .ensures) ∙ c .enum-told .given .1), c .before .before .before .before .f .given .1)
+returns-3 c = let a = c .before .before .before .before .before .before .before .args in cc (definition-end (recordsIn (a .frame) (now (a .image))) _ (sym (c .before .before .look .ensures) ∙ c .enum-told .given .1), c .before .before .before .before .f .given .1)
 
 returns-4 : tie.Need-returns-4
 returns-4 c = sym (stop-nothing _ _ _ (c .enum-told2 .given .1))

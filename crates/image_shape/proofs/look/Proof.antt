@@ -10,22 +10,22 @@ use Rattle.image_shape.proofs.look.Statement.{statement}
 use Rattle.image_shape.proofs.look.Tie as tie
 
 -- the record that was looked for
-here : (c : tie.After-offset) → Spot (c .before .before .before .before .before .args .g) (now (c .before .before .before .before .before .args .s)) (c .before .before .before .before .before .args .i) (c .offset .given .0 .0) (c .offset .given .0 .1 .0)
+here : (c : tie.After-offset) → Spot (c .before .before .before .before .before .args .frame) (now (c .before .before .before .before .before .args .image)) (c .before .before .before .before .before .args .i) (c .offset .given .0 .0) (c .offset .given .0 .1 .0)
 here c =
     let a = c .before .before .before .before .before .args in
-    spot (a .g) (now (a .s)) (a .i) _ _ (c .before .before .before .before .before .pre) (c .before .before .before .if1 .left) (sym (c .before .before .read-slot .ensures) ∙ c .offset .given .1)
+    spot (a .frame) (now (a .image)) (a .i) _ _ (c .before .before .before .before .before .pre) (c .before .before .before .if1 .left) (sym (c .before .before .read-slot .ensures) ∙ c .offset .given .1)
 
 returns : tie.Need-returns
-returns c = let a = c .before .before .args in sym (ap nodeOf (unseen (a .g) (now (a .s)) (a .i) (c .before .before .pre) (c .if1 .taken)))
+returns c = let a = c .before .before .args in sym (ap nodeOf (unseen (a .frame) (now (a .image)) (a .i) (c .before .before .pre) (c .if1 .taken)))
 
 add-read-slot : tie.Need-add-read-slot
 add-read-slot c = search needs
 
 mul-read-slot : tie.Need-mul-read-slot
-mul-read-slot c = omega (arith, place-small (c .before .before .args .i) (c .before .before .args .g .place) (omega (arith, c .before .before .pre .few)) (omega (arith, c .before .before .pre .place)))
+mul-read-slot c = omega (arith, place-small (c .before .before .args .i) (c .before .before .args .frame .place) (omega (arith, c .before .before .pre .few)) (omega (arith, c .before .before .pre .place)))
 
 add-read-slot-2 : tie.Need-add-read-slot-2
-add-read-slot-2 c = omega (arith, place-small (c .before .before .args .i) (c .before .before .args .g .place) (omega (arith, c .before .before .pre .few)) (omega (arith, c .before .before .pre .place)), c .before .before .pre .from)
+add-read-slot-2 c = omega (arith, place-small (c .before .before .args .i) (c .before .before .args .frame .place) (omega (arith, c .before .before .pre .few)) (omega (arith, c .before .before .pre .place)), c .before .before .pre .from)
 
 read-slot-requires : tie.Need-read-slot-requires
 read-slot-requires c κs = search needs
@@ -87,7 +87,7 @@ returns-4 c =
     sym (spot-node t ∙ rw (ne-eqb _ _ (c .before .if2 .left), ne-eqb _ _ (c .if3 .left)))
 
 returns-5 : tie.Need-returns-5
-returns-5 c = let a = c .before .before .before .before .before .args in absurd (no-short (a .g) (now (a .s)) (a .i) (c .before .before .before .before .before .pre) (c .before .before .before .if1 .left) (sym (c .before .before .read-slot .ensures) ∙ c .enum-told .given .1))
+returns-5 c = let a = c .before .before .before .before .before .args in absurd (no-short (a .frame) (now (a .image)) (a .i) (c .before .before .before .before .before .pre) (c .before .before .before .if1 .left) (sym (c .before .before .read-slot .ensures) ∙ c .enum-told .given .1))
 
 pub look-spec : {M : Type 1} → statement M
 look-spec =

@@ -39,7 +39,7 @@ loop-less c = omega arith
 loop-again : tie.Need-loop-again Inv-loop μ-loop
 loop-again c =
     let a = c .before .before .before .before .before .args in
-    let rs = recordsIn (a .g) (now (a .s)) in
+    let rs = recordsIn (a .frame) (now (a .image)) in
     let l = c .before .before .before .loop in
     let e : c .statement .result ≡ stop (stmt maxDepth) rs (stop definitionHead rs (l .here)) = cc (c .statement .ensures, c .before .definition-head .ensures) in (
       rw (c .statement .ensures) (stop-within (stmt maxDepth) rs _),
@@ -53,12 +53,12 @@ enum-known-here c = search needs
 returns : tie.Need-returns Inv-loop μ-loop
 returns c =
     let a = c .before .before .before .before .before .before .before .args in
-    let rs = recordsIn (a .g) (now (a .s)) in
+    let rs = recordsIn (a .frame) (now (a .image)) in
     let l = c .before .before .before .before .before .loop in
     let z : l .left ≡ 0 = omega arith in
-    let n = records-length (a .g) (now (a .s)) (c .before .before .before .before .before .before .before .pre) in
-    let e : stop (times (a .d) oneDef) rs (At 0) ≡ l .here = l .inv .1 ∙ (ap (λ n. stop (times n oneDef) rs (l .here)) z ∙ stop-none [] rs (l .here) (l .inv .0)) in
-    sym (shaped-whole (a .d) rs (l .here) e _ (c .before .before .here .given .1) (c .if1 .taken ∙ sym n))
+    let n = records-length (a .frame) (now (a .image)) (c .before .before .before .before .before .before .before .pre) in
+    let e : stop (times (a .defs) oneDef) rs (At 0) ≡ l .here = l .inv .1 ∙ (ap (λ n. stop (times n oneDef) rs (l .here)) z ∙ stop-none [] rs (l .here) (l .inv .0)) in
+    sym (shaped-whole (a .defs) rs (l .here) e _ (c .before .before .here .given .1) (c .if1 .taken ∙ sym n))
 
 enum-told : tie.Need-enum-told Inv-loop μ-loop
 enum-told c = search needs
@@ -66,22 +66,22 @@ enum-told c = search needs
 returns-2 : tie.Need-returns-2 Inv-loop μ-loop
 returns-2 c =
     let a = c .before .before .before .before .before .before .before .args in
-    let rs = recordsIn (a .g) (now (a .s)) in
+    let rs = recordsIn (a .frame) (now (a .image)) in
     let l = c .before .before .before .before .before .loop in
     let z : l .left ≡ 0 = omega arith in
-    let n = records-length (a .g) (now (a .s)) (c .before .before .before .before .before .before .before .pre) in
-    let e : stop (times (a .d) oneDef) rs (At 0) ≡ l .here = l .inv .1 ∙ (ap (λ n. stop (times n oneDef) rs (l .here)) z ∙ stop-none [] rs (l .here) (l .inv .0)) in
-    sym (shaped-part (a .d) rs (l .here) e _ (c .before .before .here .given .1) (λ q. c .if1 .left (q ∙ n)))
+    let n = records-length (a .frame) (now (a .image)) (c .before .before .before .before .before .before .before .pre) in
+    let e : stop (times (a .defs) oneDef) rs (At 0) ≡ l .here = l .inv .1 ∙ (ap (λ n. stop (times n oneDef) rs (l .here)) z ∙ stop-none [] rs (l .here) (l .inv .0)) in
+    sym (shaped-part (a .defs) rs (l .here) e _ (c .before .before .here .given .1) (λ q. c .if1 .left (q ∙ n)))
 
 returns-3 : tie.Need-returns-3 Inv-loop μ-loop
 returns-3 c =
     let a = c .before .before .before .before .before .args in
-    let rs = recordsIn (a .g) (now (a .s)) in
+    let rs = recordsIn (a .frame) (now (a .image)) in
     let l = c .before .before .before .loop in
     let z : l .left ≡ 0 = omega arith in
-    let n = records-length (a .g) (now (a .s)) (c .before .before .before .before .before .pre) in
-    let e : stop (times (a .d) oneDef) rs (At 0) ≡ l .here = l .inv .1 ∙ (ap (λ n. stop (times n oneDef) rs (l .here)) z ∙ stop-none [] rs (l .here) (l .inv .0)) in
-    sym (shaped-nothing (a .d) rs (l .here) e (c .enum-told .given .1))
+    let n = records-length (a .frame) (now (a .image)) (c .before .before .before .before .before .pre) in
+    let e : stop (times (a .defs) oneDef) rs (At 0) ≡ l .here = l .inv .1 ∙ (ap (λ n. stop (times n oneDef) rs (l .here)) z ∙ stop-none [] rs (l .here) (l .inv .0)) in
+    sym (shaped-nothing (a .defs) rs (l .here) e (c .enum-told .given .1))
 
 pub shaped-spec : {M : Type 1} → statement M
 shaped-spec =

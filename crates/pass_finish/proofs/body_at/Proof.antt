@@ -18,10 +18,10 @@ add-result-4 : tie.Need-add-result-4
 add-result-4 c = search needs
 
 mul-result : tie.Need-mul-result
-mul-result c = record { fits = omega (arith, directory-small (c .args .n) (c .args .l .place) (c .pre .1) (c .pre .0 .place .1)) }
+mul-result c = record { fits = omega (arith, directory-small (c .args .n) (c .args .layout .place) (c .pre .1) (c .pre .0 .place .1)) }
 
 add-result-5 : tie.Need-add-result-5
-add-result-5 c = record { fits = omega (arith, body-small (c .args .l) (c .args .n) (c .pre .0) (c .pre .1)) }
+add-result-5 c = record { fits = omega (arith, body-small (c .args .layout) (c .args .n) (c .pre .0) (c .pre .1)) }
 
 returns : tie.Need-returns
 returns c = search needs

@@ -33,8 +33,8 @@ put-directory-requires : tie.Need-put-directory-requires
 put-directory-requires c κs =
     let a = c .before .before .before .before .before .before .before .before .before .before .before .before .before .before .before .args in
     let f = c .before .before .before .before .before .before .before .before .before .before .before .before .before .before .before .pre .0 in
-    let head = header-ends (a .l) _ _ _ (c .before .before .before .put-header .ensures) in
-    let small = body-small (a .l) (a .p .count) (f .known) (f .few) in
+    let head = header-ends (a .layout) _ _ _ (c .before .before .before .put-header .ensures) in
+    let small = body-small (a .layout) (a .so-far .count) (f .known) (f .few) in
     (f .noted, (omega (arith, f .known .place .1), (omega (arith, head, f .few, f .known .place .1, f .known .id .1), omega (arith, c .before .before .before .before .before .before .before .before .before .before .before .before .body-at .ensures, small, f .ends, f .near))))
 
 same-length : tie.Need-same-length
@@ -44,7 +44,7 @@ returns : tie.Need-returns
 returns c =
     let a = c .before .before .before .before .before .before .before .before .before .before .before .before .before .before .before .before .before .before .args in
     let f = c .before .before .before .before .before .before .before .before .before .before .before .before .before .before .before .before .before .before .pre .0 in
-    completes (a .l) (a .d) (a .p .«max_id») (a .p .count) (a .start) (a .p .at - a .start) (take (a .p .count) (now (a .lengths))) (now (a .out)) (f .up) (c .before .before .before .before .before .before .before .before .before .before .before .before .before .before .before .body-at .ensures) (c .before .before .before .before .before .before .before .before .narrow .ensures) (c .before .before .before .before .before .before .before .narrow2 .ensures)
+    completes (a .layout) (a .defs) (a .so-far .«max_id») (a .so-far .count) (a .start) (a .so-far .at - a .start) (take (a .so-far .count) (now (a .lengths))) (now (a .out)) (f .up) (c .before .before .before .before .before .before .before .before .before .before .before .before .before .before .before .body-at .ensures) (c .before .before .before .before .before .before .before .before .narrow .ensures) (c .before .before .before .before .before .before .before .narrow2 .ensures)
     (c .before .before .before .before .before .before .before .before .before .before .before .before .move-up .ensures) (c .before .before .before .before .before .before .put-header .ensures) (c .before .before .put-directory .ensures)
 
 pub complete-spec : {M : Type 1} → statement M

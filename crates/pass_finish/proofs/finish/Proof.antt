@@ -31,7 +31,7 @@ add-length : tie.Need-add-length
 add-length c =
     let a = c .before .before .before .before .before .args in
     let f = c .before .before .before .before .before .pre in
-    record { fits = omega (arith, c .before .body-at .ensures, body-small (a .l) (a .p .count) (f .known) (f .few), f .near) }
+    record { fits = omega (arith, c .before .body-at .ensures, body-small (a .layout) (a .so-far .count) (f .known) (f .few), f .near) }
 
 refuse-requires-2 : tie.Need-refuse-requires-2
 refuse-requires-2 c κs = search needs
@@ -43,8 +43,8 @@ returns-2 : tie.Need-returns-2
 returns-2 c =
     let a = c .before .before .before .before .before .before .before .before .before .before .args in
     let b = c .before .before .before .before .before .before .body-at in
-    let n = b .result + (a .p .at - a .start) in
-    finishes-room n (ap (λ (z : ℕ). z + (a .p .at - a .start)) (b .ensures)) (omega (arith, c .before .before .before .before .before .before .before .if1 .left)) (ap (λ (z : Bool). z && leb n (a .l .largest)) (lt-leb n (length (now (a .out))) (omega (arith, c .before .before .before .before .if2 .taken)))) (c .before .before .refuse2 .ensures)
+    let n = b .result + (a .so-far .at - a .start) in
+    finishes-room n (ap (λ (z : ℕ). z + (a .so-far .at - a .start)) (b .ensures)) (omega (arith, c .before .before .before .before .before .before .before .if1 .left)) (ap (λ (z : Bool). z && leb n (a .layout .largest)) (lt-leb n (length (now (a .out))) (omega (arith, c .before .before .before .before .if2 .taken)))) (c .before .before .refuse2 .ensures)
 
 refuse-requires-3 : tie.Need-refuse-requires-3
 refuse-requires-3 c κs = search needs
@@ -56,10 +56,10 @@ returns-3 : tie.Need-returns-3
 returns-3 c =
     let a = c .before .before .before .before .before .before .before .before .before .before .before .before .args in
     let b = c .before .before .before .before .before .before .before .before .body-at in
-    let n = b .result + (a .p .at - a .start) in
+    let n = b .result + (a .so-far .at - a .start) in
     let y = le-leb n (length (now (a .out))) (omega (arith, c .before .before .before .before .before .before .if2 .left)) in
-    let z = lt-leb n (a .l .largest) (omega (arith, c .before .before .before .before .if3 .taken)) in
-    finishes-room n (ap (λ (z : ℕ). z + (a .p .at - a .start)) (b .ensures)) (omega (arith, c .before .before .before .before .before .before .before .before .before .if1 .left)) (rw (y, z) refl) (c .before .before .refuse3 .ensures)
+    let z = lt-leb n (a .layout .largest) (omega (arith, c .before .before .before .before .if3 .taken)) in
+    finishes-room n (ap (λ (z : ℕ). z + (a .so-far .at - a .start)) (b .ensures)) (omega (arith, c .before .before .before .before .before .before .before .before .before .if1 .left)) (rw (y, z) refl) (c .before .before .refuse3 .ensures)
 
 complete-requires : tie.Need-complete-requires
 complete-requires c κs = search needs
@@ -71,8 +71,8 @@ returns-4 : tie.Need-returns-4
 returns-4 c =
     let a = c .before .before .before .before .before .before .before .before .before .before .before .before .args in
     let b = c .before .before .before .before .before .before .before .before .body-at in
-    let n = b .result + (a .p .at - a .start) in
-    finishes-image n (ap (λ (z : ℕ). z + (a .p .at - a .start)) (b .ensures)) (omega (arith, c .before .before .before .before .before .before .before .before .before .if1 .left)) (omega (arith, c .before .before .before .before .before .before .if2 .left)) (omega (arith, c .before .before .before .before .if3 .left)) (c .before .before .before .before .before .before .before .before .before .before .before .before .pre) (c .before .before .complete .ensures) refl
+    let n = b .result + (a .so-far .at - a .start) in
+    finishes-image n (ap (λ (z : ℕ). z + (a .so-far .at - a .start)) (b .ensures)) (omega (arith, c .before .before .before .before .before .before .before .before .before .if1 .left)) (omega (arith, c .before .before .before .before .before .before .if2 .left)) (omega (arith, c .before .before .before .before .if3 .left)) (c .before .before .before .before .before .before .before .before .before .before .before .before .pre) (c .before .before .complete .ensures) refl
 
 pub finish-spec : {M : Type 1} → statement M
 finish-spec =

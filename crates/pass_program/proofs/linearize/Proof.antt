@@ -18,10 +18,10 @@ enum-known-frame : tie.Need-enum-known-frame
 enum-known-frame c = search needs
 
 -- the image that was opened
-opened : (c : tie.After-known-told) → IsOpened (c .before .before .before .before .before .before .args .l) (now (c .before .before .before .before .before .before .args .s)) (c .before .frame .given .0 .0) (c .before .frame .given .0 .1 .0) (c .before .frame .given .0 .1 .1 .0)
+opened : (c : tie.After-known-told) → IsOpened (c .before .before .before .before .before .before .args .layout) (now (c .before .before .before .before .before .before .args .image)) (c .before .frame .given .0 .0) (c .before .frame .given .0 .1 .0) (c .before .frame .given .0 .1 .1 .0)
 opened c =
     let a = c .before .before .before .before .before .before .args in
-    opened-image (a .l) (now (a .s)) _ _ _ (c .before .before .before .before .before .before .pre .0) (sym (c .before .before .before .open .ensures) ∙ c .before .frame .given .1)
+    opened-image (a .layout) (now (a .image)) _ _ _ (c .before .before .before .before .before .before .pre .0) (sym (c .before .before .before .open .ensures) ∙ c .before .frame .given .1)
 
 linearize-image-requires : tie.Need-linearize-image-requires
 linearize-image-requires c κs = let h = c .before .before .before .before .before .before .before .pre in opened-read (h .0) (h .1) (opened (c .before))
@@ -36,13 +36,13 @@ returns : tie.Need-returns
 unfolding linearizeOf
 returns c =
     let a = c .before .before .before .before .before .before .before .before .before .before .args in
-    opened-replies (opened (c .before .before .before .before)) (λ (P : Prog). linearizing (a .l) P (length (now (a .out)))) (c .before .before .linearize-image .ensures)
+    opened-replies (opened (c .before .before .before .before)) (λ (P : Prog). linearizing (a .layout) P (length (now (a .out)))) (c .before .before .linearize-image .ensures)
 
 returns-2 : tie.Need-returns-2
 unfolding linearizeOf
 returns-2 c =
     let a = c .before .before .before .before .before .before .args in
-    closed-replies (a .l) (now (a .s)) (λ (P : Prog). linearizing (a .l) P (length (now (a .out)))) (now (a .out)) (sym (c .before .before .before .open .ensures) ∙ c .before .question .given .1)
+    closed-replies (a .layout) (now (a .image)) (λ (P : Prog). linearizing (a .layout) P (length (now (a .out)))) (now (a .out)) (sym (c .before .before .before .open .ensures) ∙ c .before .question .given .1)
 
 pub linearize-spec : {M : Type 1} → statement M
 linearize-spec =

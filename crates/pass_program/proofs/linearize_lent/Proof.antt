@@ -47,7 +47,7 @@ same-length-4 c = search needs
 returns-2 : tie.Need-returns-2
 returns-2 c =
     let a = c .before .before .before .before .before .before .before .before .before .before .before .args in
-    checked-no (a .l) (programIn (a .d) (recordsIn (a .g) (now (a .s))) (a .max-id)) (length (now (a .out))) (now (a .out)) (sym (c .before .before .before .before .before .check-image .ensures .0) ∙ c .before .question .given .1)
+    checked-no (a .layout) (programIn (a .defs) (recordsIn (a .frame) (now (a .image))) (a .max-id)) (length (now (a .out))) (now (a .out)) (sym (c .before .before .before .before .before .check-image .ensures .0) ∙ c .before .question .given .1)
 
 pub linearize-lent-spec : {M : Type 1} → statement M
 linearize-lent-spec =

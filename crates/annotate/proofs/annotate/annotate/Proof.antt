@@ -16,10 +16,10 @@ enum-known-frame : tie.Need-enum-known-frame
 enum-known-frame c = search needs
 
 -- the image that was opened
-opened : (c : tie.After-known-told) → IsOpened (c .before .before .before .before .before .before .args .l) (now (c .before .before .before .before .before .before .args .s)) (c .before .frame .given .0 .0) (c .before .frame .given .0 .1 .0) (c .before .frame .given .0 .1 .1 .0)
+opened : (c : tie.After-known-told) → IsOpened (c .before .before .before .before .before .before .args .layout) (now (c .before .before .before .before .before .before .args .image)) (c .before .frame .given .0 .0) (c .before .frame .given .0 .1 .0) (c .before .frame .given .0 .1 .1 .0)
 opened c =
     let a = c .before .before .before .before .before .before .args in
-    opened-image (a .l) (now (a .s)) _ _ _ (c .before .before .before .before .before .before .pre .0) (sym (c .before .before .before .open .ensures) ∙ c .before .frame .given .1)
+    opened-image (a .layout) (now (a .image)) _ _ _ (c .before .before .before .before .before .before .pre .0) (sym (c .before .before .before .open .ensures) ∙ c .before .frame .given .1)
 
 annotate-image-requires : tie.Need-annotate-image-requires
 annotate-image-requires c κs =
@@ -38,7 +38,7 @@ returns c = opened-reply (opened (c .before .before .before .before)) (c .before
 returns-2 : tie.Need-returns-2
 returns-2 c =
     let a = c .before .before .before .before .before .before .args in
-    closed-reply (a .l) (now (a .s)) (a .i) (now (a .out)) (sym (c .before .before .before .open .ensures) ∙ c .before .question .given .1)
+    closed-reply (a .layout) (now (a .image)) (a .i) (now (a .out)) (sym (c .before .before .before .open .ensures) ∙ c .before .question .given .1)
 
 pub annotate-spec : {M : Type 1} → statement M
 annotate-spec =

@@ -23,7 +23,7 @@ annotate-record-requires c κs =
       ready = h .0;
       defined = h .1 .0;
       narrow = h .1 .1;
-      six = question6-flat (programIn (a .d) (recordsIn (a .g) (now (a .s))) (a .max-id)) ∙ (ap (allRecords plainRecord) (sym (h .1 .0 .is)) ∙ (sym (c .before .before .before .before .all-plain .ensures) ∙ c .before .before .before .if1 .taken));
+      six = question6-flat (programIn (a .defs) (recordsIn (a .frame) (now (a .image))) (a .max-id)) ∙ (ap (allRecords plainRecord) (sym (h .1 .0 .is)) ∙ (sym (c .before .before .before .before .all-plain .ensures) ∙ c .before .before .before .if1 .taken));
       seven = sym (c .before .before .in-limits .ensures) ∙ c .before .if2 .taken;
     }
 
@@ -34,24 +34,24 @@ returns : tie.Need-returns
 returns c =
     let a = c .before .before .before .before .before .before .before .before .before .before .args in
     let h = c .before .before .before .before .before .before .before .before .before .before .pre in
-    annotated (a .g .id) (programIn (a .d) (recordsIn (a .g) (now (a .s))) (a .max-id)) (a .i)
-    (question6-flat (programIn (a .d) (recordsIn (a .g) (now (a .s))) (a .max-id)) ∙ (ap (allRecords plainRecord) (sym (h .1 .0 .is)) ∙ (sym (c .before .before .before .before .before .before .before .all-plain .ensures) ∙ c .before .before .before .before .before .before .if1 .taken)))
+    annotated (a .frame .id) (programIn (a .defs) (recordsIn (a .frame) (now (a .image))) (a .max-id)) (a .i)
+    (question6-flat (programIn (a .defs) (recordsIn (a .frame) (now (a .image))) (a .max-id)) ∙ (ap (allRecords plainRecord) (sym (h .1 .0 .is)) ∙ (sym (c .before .before .before .before .before .before .before .all-plain .ensures) ∙ c .before .before .before .before .before .before .if1 .taken)))
     (sym (c .before .before .before .before .before .in-limits .ensures) ∙ c .before .before .before .before .if2 .taken) (c .before .before .annotate-record .ensures)
 
 returns-2 : tie.Need-returns-2
 returns-2 c =
     let a = c .before .before .before .before .before .before .args in
     let h = c .before .before .before .before .before .before .pre in
-    not-limited (a .g .id) (programIn (a .d) (recordsIn (a .g) (now (a .s))) (a .max-id)) (a .i) (now (a .out))
-    (question6-flat (programIn (a .d) (recordsIn (a .g) (now (a .s))) (a .max-id)) ∙ (ap (allRecords plainRecord) (sym (h .1 .0 .is)) ∙ (sym (c .before .before .before .all-plain .ensures) ∙ c .before .before .if1 .taken)))
+    not-limited (a .frame .id) (programIn (a .defs) (recordsIn (a .frame) (now (a .image))) (a .max-id)) (a .i) (now (a .out))
+    (question6-flat (programIn (a .defs) (recordsIn (a .frame) (now (a .image))) (a .max-id)) ∙ (ap (allRecords plainRecord) (sym (h .1 .0 .is)) ∙ (sym (c .before .before .before .all-plain .ensures) ∙ c .before .before .if1 .taken)))
     (sym (c .before .in-limits .ensures) ∙ c .if2 .left)
 
 returns-3 : tie.Need-returns-3
 returns-3 c =
     let a = c .before .before .before .before .args in
     let h = c .before .before .before .before .pre in
-    not-source (a .g .id) (programIn (a .d) (recordsIn (a .g) (now (a .s))) (a .max-id)) (a .i) (now (a .out))
-    (question6-flat (programIn (a .d) (recordsIn (a .g) (now (a .s))) (a .max-id)) ∙ (ap (allRecords plainRecord) (sym (h .1 .0 .is)) ∙ (sym (c .before .all-plain .ensures) ∙ c .if1 .left)))
+    not-source (a .frame .id) (programIn (a .defs) (recordsIn (a .frame) (now (a .image))) (a .max-id)) (a .i) (now (a .out))
+    (question6-flat (programIn (a .defs) (recordsIn (a .frame) (now (a .image))) (a .max-id)) ∙ (ap (allRecords plainRecord) (sym (h .1 .0 .is)) ∙ (sym (c .before .all-plain .ensures) ∙ c .if1 .left)))
 
 pub annotate-image-spec : {M : Type 1} → statement M
 annotate-image-spec =

@@ -23,7 +23,7 @@ put-annotation-requires : tie.Need-put-annotation-requires
 put-annotation-requires c κs =
     let a = c .before .before .before .before .before .before .before .before .args in
     let f = c .before .before .before .before .parts-of .ensures in
-    let y = has-kind (recordAt (a .g) (now (a .s)) (a .i)) ∙ (ap annotatedKind (f .at .kind) ∙ (sym (c .before .before .before .has-annotation .ensures) ∙ c .before .before .if2 .taken)) in
+    let y = has-kind (recordAt (a .frame) (now (a .image)) (a .i)) ∙ (ap annotatedKind (f .at .kind) ∙ (sym (c .before .before .before .has-annotation .ensures) ∙ c .before .before .if2 .taken)) in
     (limited-annotated (c .before .before .before .before .before .before .before .before .pre) (a .i) (c .before .before .before .before .before .if1 .taken) y, length-replicate {A = ℕ} 65536 0)
 
 settle-requires : tie.Need-settle-requires
@@ -36,14 +36,14 @@ returns : tie.Need-returns
 returns c =
     let a = c .before .before .before .before .before .before .before .before .before .before .before .before .before .before .before .before .args in
     let f = c .before .before .before .before .before .before .before .before .before .before .before .before .parts-of .ensures in
-    let y = has-kind (recordAt (a .g) (now (a .s)) (a .i)) ∙ (ap annotatedKind (f .at .kind) ∙ (sym (c .before .before .before .before .before .before .before .before .before .before .before .has-annotation .ensures) ∙ c .before .before .before .before .before .before .before .before .before .before .if2 .taken)) in
+    let y = has-kind (recordAt (a .frame) (now (a .image)) (a .i)) ∙ (ap annotatedKind (f .at .kind) ∙ (sym (c .before .before .before .before .before .before .before .before .before .before .before .has-annotation .ensures) ∙ c .before .before .before .before .before .before .before .before .before .before .if2 .taken)) in
     settled (c .before .before .before .before .before .before .before .before .before .before .before .before .before .before .before .before .pre) (a .i) (place-yes (c .before .before .before .before .before .before .before .before .before .before .before .before .before .before .before .before .pre) (a .i) (c .before .before .before .before .before .before .before .before .before .before .before .before .before .if1 .taken) ∙ y) (c .before .before .before .before .before .before .before .put-annotation .ensures) (c .before .before .settle .ensures)
 
 returns-2 : tie.Need-returns-2
 returns-2 c =
     let a = c .before .before .before .before .before .before .args in
     let f = c .before .before .parts-of .ensures in
-    let n = has-kind (recordAt (a .g) (now (a .s)) (a .i)) ∙ (ap annotatedKind (f .at .kind) ∙ (sym (c .before .has-annotation .ensures) ∙ c .if2 .left)) in
+    let n = has-kind (recordAt (a .frame) (now (a .image)) (a .i)) ∙ (ap annotatedKind (f .at .kind) ∙ (sym (c .before .has-annotation .ensures) ∙ c .if2 .left)) in
     misplaced (c .before .before .before .before .before .before .pre) (a .i) (place-yes (c .before .before .before .before .before .before .pre) (a .i) (c .before .before .before .if1 .taken) ∙ n)
 
 returns-3 : tie.Need-returns-3

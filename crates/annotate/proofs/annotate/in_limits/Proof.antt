@@ -18,21 +18,21 @@ walk-definitions-requires : tie.Need-walk-definitions-requires
 walk-definitions-requires c κs =
     let a = c .before .before .before .before .args in
     let h = c .before .before .before .before .pre in
-    (h .0, walk-stand (h .1) (a .g .count) (sym (c .before .before .within-limits .ensures) ∙ c .before .if1 .taken))
+    (h .0, walk-stand (h .1) (a .frame .count) (sym (c .before .before .within-limits .ensures) ∙ c .before .if1 .taken))
 
 returns : tie.Need-returns
 returns c =
     let a = c .before .before .before .before .before .before .args in
     let h = c .before .before .before .before .before .before .pre in
     ap (λ (v : Verdict). v .room) (c .before .walk-definitions .ensures .0)
-    ∙ sym (answer-room (h .1) (a .max-id) (a .g .count) (records-length (a .g) (now (a .s)) (h .0))
+    ∙ sym (answer-room (h .1) (a .max-id) (a .frame .count) (records-length (a .frame) (now (a .image)) (h .0))
     ∙ rw (← c .before .before .before .before .within-limits .ensures, c .before .before .before .if1 .taken))
 
 returns-2 : tie.Need-returns-2
 returns-2 c =
     let a = c .before .before .before .args in
     let h = c .before .before .before .pre in
-    sym (answer-room (h .1) (a .max-id) (a .g .count) (records-length (a .g) (now (a .s)) (h .0))
+    sym (answer-room (h .1) (a .max-id) (a .frame .count) (records-length (a .frame) (now (a .image)) (h .0))
     ∙ rw (← c .before .within-limits .ensures, c .if1 .left))
 
 pub in-limits-spec : {M : Type 1} → statement M

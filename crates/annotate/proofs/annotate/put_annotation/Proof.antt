@@ -38,7 +38,7 @@ returns c =
     let a = c .before .before .before .before .before .before .before .before .before .before .before .before .before .args in
     let h = c .before .before .before .before .before .before .before .before .before .before .before .before .before .pre in
     let f = c .before .before .before .before .before .before .before .before .before .parts-of .ensures in
-    put-one (a .g .id) (annotations (stmtAt maxDepth (recordsIn (a .g) (now (a .s))) (a .i))) _ _ (c .before .before .before .before .put-clauses .ensures .puts) (clauses-marked (h .0) _ (f .clauses) _ (h .1))
+    put-one (a .frame .id) (annotations (stmtAt maxDepth (recordsIn (a .frame) (now (a .image))) (a .i))) _ _ (c .before .before .before .before .put-clauses .ensures .puts) (clauses-marked (h .0) _ (f .clauses) _ (h .1))
     (switched (h .0) (f .at .kind ∙ c .before .before .before .before .before .before .before .if1 .taken))
 
 add-put-clauses-2 : tie.Need-add-put-clauses-2
@@ -60,7 +60,7 @@ put-statement-requires c κs =
     let b = created (h .0) (f .at .kind ∙ c .before .before .before .before .before .before .before .before .before .if2 .taken) in
     let k = next-stands (h .0) (b .has) _ (w .next ∙ ap (λ (z : Clauses). a .i + 1 + length (flattenClauses z)) (clauses-same (h .0) n (f .clauses))) in
     let e = clauses-size (h .0) n (f .clauses) (length (now (a .row))) (h .1) in
-    (h .0 .source, (k .0, (k .1, (search needs, omega (arith, w .puts .ends, set-short (a .g .id) (markClauses (clausesAt 127 n (recordsIn (a .g) (now (a .s))) (a .i + 1)) [] (replicate (length (now (a .row))) 0)) (length (now (a .row))) (h .0 .narrow) e, h .1)))))
+    (h .0 .source, (k .0, (k .1, (search needs, omega (arith, w .puts .ends, set-short (a .frame .id) (markClauses (clausesAt 127 n (recordsIn (a .frame) (now (a .image))) (a .i + 1)) [] (replicate (length (now (a .row))) 0)) (length (now (a .row))) (h .0 .narrow) e, h .1)))))
 
 same-length-3 : tie.Need-same-length-3
 same-length-3 c = search needs
@@ -78,7 +78,7 @@ returns-2 c =
     let b = created (h .0) (f .at .kind ∙ c .before .before .before .before .before .before .before .before .before .before .before .before .before .before .if2 .taken) in
     let k = length (c .before .before .before .before .before .before .before .before .before .before .before .put-clauses2 .last .1 .1 .1 .1 .0) in
     let e : k ≡ 65536 = search needs in
-    put-two (a .g .id) (annotations (stmtAt maxDepth (recordsIn (a .g) (now (a .s))) (a .i))) _ _ _ _ (w .puts) (c .before .before .before .before .put-statement .ensures .puts) (clauses-marked (h .0) n (f .clauses) (length (now (a .row))) (h .1))
+    put-two (a .frame .id) (annotations (stmtAt maxDepth (recordsIn (a .frame) (now (a .image))) (a .i))) _ _ _ _ (w .puts) (c .before .before .before .before .put-statement .ensures .puts) (clauses-marked (h .0) n (f .clauses) (length (now (a .row))) (h .1))
     (next-marked (h .0) (b .has) _ (w .next ∙ ap (λ (z : Clauses). a .i + 1 + length (flattenClauses z)) (clauses-same (h .0) n (f .clauses))) k e) (b .sets)
 
 add-put-statement : tie.Need-add-put-statement
@@ -104,7 +104,7 @@ returns-3 c =
     let h = c .before .before .before .before .before .before .before .before .before .before .before .before .before .before .before .pre in
     let f = c .before .before .before .before .before .before .before .before .before .before .before .parts-of .ensures in
     let b = followed (h .0) (λ e. c .before .before .before .before .before .before .before .before .before .if1 .left (sym (f .at .kind) ∙ e)) (λ e. c .before .before .before .before .before .before .before .if2 .left (sym (f .at .kind) ∙ e)) in
-    put-one (a .g .id) (annotations (stmtAt maxDepth (recordsIn (a .g) (now (a .s))) (a .i))) _ _ (c .before .before .before .before .put-statement2 .ensures .puts) (next-marked (h .0) (b .has) _ (behind (h .0) b) _ (h .1)) (b .sets)
+    put-one (a .frame .id) (annotations (stmtAt maxDepth (recordsIn (a .frame) (now (a .image))) (a .i))) _ _ (c .before .before .before .before .put-statement2 .ensures .puts) (next-marked (h .0) (b .has) _ (behind (h .0) b) _ (h .1)) (b .sets)
 
 pub put-annotation-spec : {M : Type 1} → statement M
 put-annotation-spec =

@@ -28,7 +28,7 @@ statement-requires c κs =
     let a = c .before .before .before .before .before .before .before .before .before .args in
     let h = c .before .before .before .before .before .before .before .before .before .pre in
     let e = c .before .empty .ensures in
-    (h .0, (h .1 .0, (record { count = e .count ∙ ap length (sym (e .list)); small = omega (arith, e .count) }, subst (λ (z : List VarId). RoomFor z (stmtAt 127 (recordsIn (a .g) (now (a .s))) (a .i))) (sym (e .list)) (h .1 .1 .0))))
+    (h .0, (h .1 .0, (record { count = e .count ∙ ap length (sym (e .list)); small = omega (arith, e .count) }, subst (λ (z : List VarId). RoomFor z (stmtAt 127 (recordsIn (a .frame) (now (a .image))) (a .i))) (sym (e .list)) (h .1 .1 .0))))
 
 put-set-requires : tie.Need-put-set-requires
 put-set-requires c κs = search needs
@@ -47,8 +47,8 @@ returns c =
     let k = c .before .before .before .before .before .before .before .before .before .before .before .before .clear .ensures in
     record {
       next = m .nextIs;
-      puts = subst (λ (z : List ℕ). Puts (now (a .out)) (c .before .before .put-set .last .1 .0) (a .at) (c .before .before .put-set .result) (setBytes (a .g .id) (markedFrom 0 z)))
-          (row-after (markStmt (stmtAt 127 (recordsIn (a .g) (now (a .s))) (a .i))) (m .rowIs) e k) (c .before .before .put-set .ensures);
+      puts = subst (λ (z : List ℕ). Puts (now (a .out)) (c .before .before .put-set .last .1 .0) (a .at) (c .before .before .put-set .result) (setBytes (a .frame .id) (markedFrom 0 z)))
+          (row-after (markStmt (stmtAt 127 (recordsIn (a .frame) (now (a .image))) (a .i))) (m .rowIs) e k) (c .before .before .put-set .ensures);
     }
 
 pub put-statement-spec : {M : Type 1} → statement M

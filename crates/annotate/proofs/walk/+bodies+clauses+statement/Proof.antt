@@ -169,14 +169,14 @@ clauses-bind-requires t c κs =
     let a = c .before .before .before .before .args in
     let h = c .before .before .before .before .pre .1 in
     let x = clause-next (c .before .loop .inv .1) (c .loop-test .taken) in
-    (record { ready = h .0 .ready; inside = omega (arith, x .inside, records-length (a .g) (now (a .s)) (h .0 .ready)); kind = clause-kind x }, (h .1 .1 .0, clause-bound x (setOf (a .bound)) (x .holds .room)))
+    (record { ready = h .0 .ready; inside = omega (arith, x .inside, records-length (a .frame) (now (a .image)) (h .0 .ready)); kind = clause-kind x }, (h .1 .1 .0, clause-bound x (setOf (a .bound)) (x .holds .room)))
 
 clauses-add-statement : (t : ℕ) → clauses-lts.Need-add-statement (clauses-claims t) (clauses-at t) clauses.Post clauses-Inv-loop clauses-μ-loop
 clauses-add-statement t c =
     let a = c .before .before .before .before .before .args in
     let h = c .before .before .before .before .before .pre .1 in
     let x = clause-next (c .before .before .loop .inv .1) (c .before .loop-test .taken) in
-    omega (arith, x .inside, records-length (a .g) (now (a .s)) (h .0 .ready), h .0 .ready .few)
+    omega (arith, x .inside, records-length (a .frame) (now (a .image)) (h .0 .ready), h .0 .ready .few)
 
 clauses-statement-requires : (t : ℕ) → clauses-lts.Need-statement-requires (clauses-claims t) (clauses-at t) clauses.Post clauses-Inv-loop clauses-μ-loop
 clauses-statement-requires t c κs =
@@ -203,14 +203,14 @@ statement-parts-of-requires : (t : ℕ) → statement-lts.Need-parts-of-requires
 statement-parts-of-requires t c κs =
     let a = c .before .before .args in
     let h = c .before .before .pre .1 in
-    let rs = recordsIn (a .g) (now (a .s)) in
-    (h .0 .ready, omega (arith, head-inside (a .depth) rs (a .i) (h .1 .0), records-length (a .g) (now (a .s)) (h .0 .ready)))
+    let rs = recordsIn (a .frame) (now (a .image)) in
+    (h .0 .ready, omega (arith, head-inside (a .depth) rs (a .i) (h .1 .0), records-length (a .frame) (now (a .image)) (h .0 .ready)))
 
 statement-uses-requires : (t : ℕ) → statement-lts.Need-uses-requires (statement-claims t) (statement-at t) statement′.Post
 statement-uses-requires t c κs =
     let a = c .before .before .before .args in
     let h = c .before .before .before .pre .1 in
-    let rs = recordsIn (a .g) (now (a .s)) in
+    let rs = recordsIn (a .frame) (now (a .image)) in
     let f = c .parts-of .ensures in
     (f .at, record-at smallRecord rs (a .i) (h .0 .small) (head-inside (a .depth) rs (a .i) (h .1 .0)))
 
@@ -218,23 +218,23 @@ statement-mark-all-requires : (t : ℕ) → statement-lts.Need-mark-all-requires
 statement-mark-all-requires t c κs =
     let a = c .before .before .before .before .before .args in
     let h = c .before .before .before .before .before .pre .1 in
-    let rs = recordsIn (a .g) (now (a .s)) in
+    let rs = recordsIn (a .frame) (now (a .image)) in
     let f = c .before .before .parts-of .ensures in
     let m = record-at smallRecord rs (a .i) (h .0 .small) (head-inside (a .depth) rs (a .i) (h .1 .0)) in
-    (omega (arith, h .1 .1 .0 .small), omega (arith, c .before .uses .ensures .count, uses-few (recordAt (a .g) (now (a .s)) (a .i)) m))
+    (omega (arith, h .1 .1 .0 .small), omega (arith, c .before .uses .ensures .count, uses-few (recordAt (a .frame) (now (a .image)) (a .i)) m))
 
 statement-sub-clauses : (t : ℕ) → statement-lts.Need-sub-clauses (statement-claims t) (statement-at t) statement′.Post
 statement-sub-clauses t c =
     let a = c .before .before .before .before .before .before .before .before .args in
     let h = c .before .before .before .before .before .before .before .before .pre .1 in
-    let rs = recordsIn (a .g) (now (a .s)) in
+    let rs = recordsIn (a .frame) (now (a .image)) in
     omega (arith, stmt-parts (h .1 .0) .positive)
 
 statement-add-clauses : (t : ℕ) → statement-lts.Need-add-clauses (statement-claims t) (statement-at t) statement′.Post
 statement-add-clauses t c =
     let a = c .before .before .before .before .before .before .before .before .args in
     let h = c .before .before .before .before .before .before .before .before .pre .1 in
-    let rs = recordsIn (a .g) (now (a .s)) in
+    let rs = recordsIn (a .frame) (now (a .image)) in
     let f = c .before .before .before .before .before .parts-of .ensures in
     omega (arith, f .at .inside, h .0 .ready .few)
 
@@ -242,7 +242,7 @@ statement-clauses-requires : (t : ℕ) → statement-lts.Need-clauses-requires (
 statement-clauses-requires t c κs =
     let a = c .before .before .before .before .before .before .before .before .before .args in
     let h = c .before .before .before .before .before .before .before .before .before .pre .1 in
-    let rs = recordsIn (a .g) (now (a .s)) in
+    let rs = recordsIn (a .frame) (now (a .image)) in
     let f = c .before .before .before .before .before .before .parts-of .ensures in
     let m = above-at (a .depth) rs (a .i) (h .1 .0) _ (f .clauses) in
     (omega (arith, stmt-parts (h .1 .0) .positive), (h .0, (m .clauses, (h .1 .1 .0, clauses-room m (h .1 .1 .1)))))
@@ -251,7 +251,7 @@ statement-bind-requires : (t : ℕ) → statement-lts.Need-bind-requires (statem
 statement-bind-requires t c κs =
     let a = c .before .before .before .before .before .before .before .before .before .before .before .before .args in
     let h = c .before .before .before .before .before .before .before .before .before .before .before .before .pre .1 in
-    let rs = recordsIn (a .g) (now (a .s)) in
+    let rs = recordsIn (a .frame) (now (a .image)) in
     let f = c .before .before .before .before .before .before .before .before .before .parts-of .ensures in
     (f .at, (h .1 .1 .0, binders-room (a .depth) rs (a .i) (setOf (a .bound)) (h .1 .0) (h .1 .1 .1)))
 
@@ -259,14 +259,14 @@ statement-sub-bodies : (t : ℕ) → statement-lts.Need-sub-bodies (statement-cl
 statement-sub-bodies t c =
     let a = c .before .before .before .before .before .before .before .before .before .before .before .before .before .args in
     let h = c .before .before .before .before .before .before .before .before .before .before .before .before .before .pre .1 in
-    let rs = recordsIn (a .g) (now (a .s)) in
+    let rs = recordsIn (a .frame) (now (a .image)) in
     omega (arith, stmt-parts (h .1 .0) .positive)
 
 statement-bodies-requires : (t : ℕ) → statement-lts.Need-bodies-requires (statement-claims t) (statement-at t) statement′.Post
 statement-bodies-requires t c κs =
     let a = c .before .before .before .before .before .before .before .before .before .before .before .before .before .before .args in
     let h = c .before .before .before .before .before .before .before .before .before .before .before .before .before .before .pre .1 in
-    let rs = recordsIn (a .g) (now (a .s)) in
+    let rs = recordsIn (a .frame) (now (a .image)) in
     let f = c .before .before .before .before .before .before .before .before .before .before .before .parts-of .ensures in
     let b = below-at (a .depth) rs (a .i) (h .1 .0) _ _ _ (f .clauses) (f .bodies) (c .before .before .before .before .clauses .ensures .nextIs) in
     let x = c .before .bind .ensures in
@@ -279,7 +279,7 @@ statement-returns : (t : ℕ) → statement-lts.Need-returns (statement-claims t
 statement-returns t c =
     let a = c .before .before .before .before .before .before .before .before .before .before .before .before .before .before .before .before .before .args in
     let h = c .before .before .before .before .before .before .before .before .before .before .before .before .before .before .before .before .before .pre .1 in
-    let rs = recordsIn (a .g) (now (a .s)) in
+    let rs = recordsIn (a .frame) (now (a .image)) in
     let f = c .before .before .before .before .before .before .before .before .before .before .before .before .before .before .parts-of .ensures in
     let b = below-at (a .depth) rs (a .i) (h .1 .0) _ _ _ (f .clauses) (f .bodies) (c .before .before .before .before .before .before .before .clauses .ensures .nextIs) in
     let m = c .before .before .before .before .before .before .before .before .before .before .before .mark-all .ensures ∙ ap (λ (xs : List VarId). markAll (setOf (a .bound)) xs (now (a .row))) (c .before .before .before .before .before .before .before .before .before .before .before .before .before .uses .ensures .list) in

@@ -21,7 +21,7 @@ fixed-requires : tie.Need-fixed-requires
 fixed-requires c κs = search needs
 
 returns-3 : tie.Need-returns-3
-returns-3 c = let a = c .before .before .before .before .before .before .args in sym (formed-short (a .w) (now (a .s)) (subst (λ n. length (now (a .s)) < n) (c .before .fixed .ensures) (c .if3 .taken)))
+returns-3 c = let a = c .before .before .before .before .before .before .args in sym (formed-short (a .w) (now (a .bytes)) (subst (λ n. length (now (a .bytes)) < n) (c .before .fixed .ensures) (c .if3 .taken)))
 
 skip-content-requires : tie.Need-skip-content-requires
 skip-content-requires c κs = search needs
@@ -32,8 +32,8 @@ enum-known-end c = search needs
 returns-4 : tie.Need-returns-4
 returns-4 c =
     let a = c .before .before .before .before .before .before .before .before .before .before .before .args in
-    let h : 0 < length (now (a .s)) = omega (arith, c .before .before .before .before .before .before .before .before .before .if1 .left) in
-    sym (formed-whole (a .w) (now (a .s)) h _ (sym (c .before .before .before .before .skip-content .ensures) ∙ c .before .before .end .given .1) (c .if4 .taken))
+    let h : 0 < length (now (a .bytes)) = omega (arith, c .before .before .before .before .before .before .before .before .before .if1 .left) in
+    sym (formed-whole (a .w) (now (a .bytes)) h _ (sym (c .before .before .before .before .skip-content .ensures) ∙ c .before .before .end .given .1) (c .if4 .taken))
 
 enum-told : tie.Need-enum-told
 enum-told c = search needs
@@ -41,14 +41,14 @@ enum-told c = search needs
 returns-5 : tie.Need-returns-5
 returns-5 c =
     let a = c .before .before .before .before .before .before .before .before .before .before .before .args in
-    let h : 0 < length (now (a .s)) = omega (arith, c .before .before .before .before .before .before .before .before .before .if1 .left) in
-    sym (formed-part (a .w) (now (a .s)) h _ (sym (c .before .before .before .before .skip-content .ensures) ∙ c .before .before .end .given .1) (c .if4 .left))
+    let h : 0 < length (now (a .bytes)) = omega (arith, c .before .before .before .before .before .before .before .before .before .if1 .left) in
+    sym (formed-part (a .w) (now (a .bytes)) h _ (sym (c .before .before .before .before .skip-content .ensures) ∙ c .before .before .end .given .1) (c .if4 .left))
 
 returns-6 : tie.Need-returns-6
 returns-6 c =
     let a = c .before .before .before .before .before .before .before .before .before .args in
-    let h : 0 < length (now (a .s)) = omega (arith, c .before .before .before .before .before .before .before .if1 .left) in
-    sym (formed-nothing (a .w) (now (a .s)) h (sym (c .before .before .skip-content .ensures) ∙ c .enum-told .given .1))
+    let h : 0 < length (now (a .bytes)) = omega (arith, c .before .before .before .before .before .before .before .if1 .left) in
+    sym (formed-nothing (a .w) (now (a .bytes)) h (sym (c .before .before .skip-content .ensures) ∙ c .enum-told .given .1))
 
 pub record-formed-spec : {M : Type 1} → statement M
 record-formed-spec =

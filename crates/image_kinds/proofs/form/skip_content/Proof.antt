@@ -100,40 +100,40 @@ skip-list-requires-5 : tie.Need-skip-list-requires-5
 skip-list-requires-5 c κs = search needs
 
 returns : tie.Need-returns
-returns c = let a = c .before .before .before .before .args in cc (stop1 (a .w) (now (a .s)) (At 1), c .before .before .match .keys1)
+returns c = let a = c .before .before .before .before .args in cc (stop1 (a .w) (now (a .bytes)) (At 1), c .before .before .match .keys1)
 
 returns-2 : tie.Need-returns-2
-returns-2 c = let a = c .before .before .before .args in cc (stop2 (a .w) (now (a .s)) (At 1), c .before .match .keys2)
+returns-2 c = let a = c .before .before .before .args in cc (stop2 (a .w) (now (a .bytes)) (At 1), c .before .match .keys2)
 
 returns-3 : tie.Need-returns-3
-returns-3 c = let a = c .before .before .before .before .args in cc (stop3 (a .w) (now (a .s)) (At 1), c .before .before .match .keys3)
+returns-3 c = let a = c .before .before .before .before .args in cc (stop3 (a .w) (now (a .bytes)) (At 1), c .before .before .match .keys3)
 
 returns-4 : tie.Need-returns-4
-returns-4 c = let a = c .before .before .before .before .before .before .args in cc (stop4 (a .w) (now (a .s)) (At 1), c .before .before .before .before .match .keys4)
+returns-4 c = let a = c .before .before .before .before .before .before .args in cc (stop4 (a .w) (now (a .bytes)) (At 1), c .before .before .before .before .match .keys4)
 
 returns-5 : tie.Need-returns-5
-returns-5 c = let a = c .before .before .before .before .before .args in cc (stop5 (a .w) (now (a .s)) (At 1), c .before .before .before .match .keys5)
+returns-5 c = let a = c .before .before .before .before .before .args in cc (stop5 (a .w) (now (a .bytes)) (At 1), c .before .before .before .match .keys5)
 
 returns-6 : tie.Need-returns-6
-returns-6 c = let a = c .before .before .before .before .before .before .args in cc (stop6 (a .w) (now (a .s)) (At 1), c .before .before .before .before .match .keys6)
+returns-6 c = let a = c .before .before .before .before .before .before .args in cc (stop6 (a .w) (now (a .bytes)) (At 1), c .before .before .before .before .match .keys6)
 
 returns-7 : tie.Need-returns-7
-returns-7 c = let a = c .before .before .before .before .before .before .args in cc (stop7 (a .w) (now (a .s)) (At 1), c .before .before .before .before .match .keys7)
+returns-7 c = let a = c .before .before .before .before .before .before .args in cc (stop7 (a .w) (now (a .bytes)) (At 1), c .before .before .before .before .match .keys7)
 
 returns-8 : tie.Need-returns-8
-returns-8 c = let a = c .before .before .before .before .args in cc (stop8 (a .w) (now (a .s)) (At 1), c .before .before .match .keys8)
+returns-8 c = let a = c .before .before .before .before .args in cc (stop8 (a .w) (now (a .bytes)) (At 1), c .before .before .match .keys8)
 
 returns-9 : tie.Need-returns-9
-returns-9 c = let a = c .before .before .before .before .before .before .args in cc (stop9 (a .w) (now (a .s)) (At 1), c .before .before .before .before .match .keys9)
+returns-9 c = let a = c .before .before .before .before .before .before .args in cc (stop9 (a .w) (now (a .bytes)) (At 1), c .before .before .before .before .match .keys9)
 
 returns-10 : tie.Need-returns-10
-returns-10 c = let a = c .before .before .before .before .before .args in cc (stop10 (a .w) (now (a .s)) (At 1), c .before .before .before .match .keys10)
+returns-10 c = let a = c .before .before .before .before .before .args in cc (stop10 (a .w) (now (a .bytes)) (At 1), c .before .before .before .match .keys10)
 
 returns-11 : tie.Need-returns-11
-returns-11 c = let a = c .before .before .before .before .args in cc (stop11 (a .w) (now (a .s)) (At 1), c .before .before .match .keys11)
+returns-11 c = let a = c .before .before .before .before .args in cc (stop11 (a .w) (now (a .bytes)) (At 1), c .before .before .match .keys11)
 
 returns-12 : tie.Need-returns-12
-returns-12 c = let a = c .before .before .args in sym (content-other (a .w) (a .k) (now (a .s)) (At 1) (c .match .rest .0 .0 .0 .0 .0 .0 .0 .0 .0 .0 .1) (c .match .rest .0 .0 .0 .0 .0 .0 .0 .0 .0 .1) (c .match .rest .0 .0 .0 .0 .0 .0 .0 .0 .1) (c .match .rest .0 .0 .0 .0 .0 .0 .0 .1) (c .match .rest .0 .0 .0 .0 .0 .0 .1) (c .match .rest .0 .0 .0 .0 .0 .1) (c .match .rest .0 .0 .0 .0 .1) (c .match .rest .0 .0 .0 .1) (c .match .rest .0 .0 .1) (c .match .rest .0 .1) (c .match .rest .1))
+returns-12 c = let a = c .before .before .args in sym (content-other (a .w) (a .k) (now (a .bytes)) (At 1) (c .match .rest .0 .0 .0 .0 .0 .0 .0 .0 .0 .0 .1) (c .match .rest .0 .0 .0 .0 .0 .0 .0 .0 .0 .1) (c .match .rest .0 .0 .0 .0 .0 .0 .0 .0 .1) (c .match .rest .0 .0 .0 .0 .0 .0 .0 .1) (c .match .rest .0 .0 .0 .0 .0 .0 .1) (c .match .rest .0 .0 .0 .0 .0 .1) (c .match .rest .0 .0 .0 .0 .1) (c .match .rest .0 .0 .0 .1) (c .match .rest .0 .0 .1) (c .match .rest .0 .1) (c .match .rest .1))
 
 pub skip-content-spec : {M : Type 1} → statement M
 skip-content-spec =

@@ -18,7 +18,7 @@ put-number-requires-4 : tie.Need-put-number-requires-4
 put-number-requires-4 c κs =
     let a = c .before .before .before .before .before .before .before .before .before .before .before .before .before .before .args in
     let h = c .before .before .before .before .before .before .before .before .before .before .before .before .before .before .pre in
-    omega (arith, h .0, h .1, c .before .before .before .before .before .before .before .before .before .before .before .put-number .ensures .ends, c .before .before .before .before .before .before .before .put-number2 .ensures .ends, c .before .before .before .put-number3 .ensures .ends, field-length 2 (a .l .number), field-length 2 (a .definitions), field-length (a .l .id) (a .max-id))
+    omega (arith, h .0, h .1, c .before .before .before .before .before .before .before .before .before .before .before .put-number .ensures .ends, c .before .before .before .before .before .before .before .put-number2 .ensures .ends, c .before .before .before .put-number3 .ensures .ends, field-length 2 (a .layout .number), field-length 2 (a .definitions), field-length (a .layout .id) (a .max-id))
 
 same-length : tie.Need-same-length
 same-length c = search needs

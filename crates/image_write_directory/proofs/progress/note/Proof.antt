@@ -24,12 +24,12 @@ same-length c = search needs
 returns : tie.Need-returns
 returns c =
     let a = c .before .before .args in
-    record { at = refl; maxId = refl; puts = noted-one (now (a .lengths)) (a .p .count) (a .next - a .p .at) }
+    record { at = refl; maxId = refl; puts = noted-one (now (a .lengths)) (a .so-far .count) (a .next - a .so-far .at) }
 
 returns-2 : tie.Need-returns-2
 returns-2 c =
     let a = c .before .before .args in
-    record { at = refl; maxId = refl; puts = noted-past (now (a .lengths)) (a .p .count) (a .next - a .p .at) (c .if1 .left) }
+    record { at = refl; maxId = refl; puts = noted-past (now (a .lengths)) (a .so-far .count) (a .next - a .so-far .at) (c .if1 .left) }
 
 pub note-spec : {M : Type 1} → statement M
 note-spec =

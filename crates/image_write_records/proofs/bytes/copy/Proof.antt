@@ -50,8 +50,8 @@ loop-again c =
     let l = c .before .before .before .before .before .before .loop in
     let s = c .before .before .before .before .before .before .before .before .before .before in
     let a = s .args in
-    let e = getD-drop (a .from) (a .s .now) (l .i) 0 in
-    (omega arith, written-next alone 0 (omega (arith, length-drop (a .from) (a .s .now), s .pre)) (omega arith) (rw e (c .before .before .put-byte .ensures)) (l .inv .1))
+    let e = getD-drop (a .from) (a .image .now) (l .i) 0 in
+    (omega arith, written-next alone 0 (omega (arith, length-drop (a .from) (a .image .now), s .pre)) (omega arith) (rw e (c .before .before .put-byte .ensures)) (l .inv .1))
 
 same-length-2 : tie.Need-same-length-2 Inv-loop μ-loop
 same-length-2 c = puts-same (c .before .loop .inv .1 .puts)
@@ -61,7 +61,7 @@ returns-2 c =
     let l = c .before .loop in
     let a = c .before .before .before .before .before .args in
     let e : l .i ≡ a .n = omega arith in
-    puts-as (each-alone (take (a .n) (drop (a .from) (a .s .now)))) (rw e at (l .inv .1 .puts))
+    puts-as (each-alone (take (a .n) (drop (a .from) (a .image .now)))) (rw e at (l .inv .1 .puts))
 
 pub copy-spec : {M : Type 1} → statement M
 copy-spec =

@@ -43,11 +43,11 @@ loop-again c =
     let l = c .before .before .loop in
     let a = s .args in
     let k : a .at + (l .i + 1) ≡ a .at + l .i + 1 = omega arith in
-    let v = getD (a .s .now) (a .from + l .i) 0 in (
+    let v = getD (a .image .now) (a .from + l .i) 0 in (
       omega arith,
       (
         length-set (l .out) (a .at + l .i) v ∙ l .inv .1 .0,
-        rw k (written-next alone 0 (omega (arith, length-drop (a .from) (a .s .now), s .pre)) (omega arith) (rw (getD-drop (a .from) (a .s .now) (l .i) 0) (puts-byte (l .out) (a .at + l .i) v)) (l .inv .1 .1)),
+        rw k (written-next alone 0 (omega (arith, length-drop (a .from) (a .image .now), s .pre)) (omega arith) (rw (getD-drop (a .from) (a .image .now) (l .i) 0) (puts-byte (l .out) (a .at + l .i) v)) (l .inv .1 .1)),
       ),
     )
 
@@ -62,7 +62,7 @@ returns c =
     let l = c .before .loop in
     let a = c .before .before .args in
     let e : l .i ≡ a .n = omega arith in
-    puts-as (each-alone (take (a .n) (drop (a .from) (a .s .now)))) (rw e at (l .inv .1 .1 .puts))
+    puts-as (each-alone (take (a .n) (drop (a .from) (a .image .now)))) (rw e at (l .inv .1 .1 .puts))
 
 pub copy-inside-spec : {M : Type 1} → statement M
 copy-inside-spec =

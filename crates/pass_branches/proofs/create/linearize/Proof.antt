@@ -41,7 +41,7 @@ arrange-before-requires : tie.Need-arrange-before-requires
 arrange-before-requires c κs =
     let s = c .before .before .before .before .before .before .before .before .before .before .before .before in
     let n = c .before .before .before .before .before .context in (
-      paired-fresh (s .args .opened .right) (n .result) (setOf (c .before .before .before .before .ids .result)) (s .args .p .«max_id») (holds-count (n .ensures)) (omega (arith, next-few (c .before .before .before .before .before))) (c .before .before .before .freshen-unless .ensures),
+      paired-fresh (s .args .opened .right) (n .result) (setOf (c .before .before .before .before .ids .result)) (s .args .so-far .«max_id») (holds-count (n .ensures)) (omega (arith, next-few (c .before .before .before .before .before))) (c .before .before .before .freshen-unless .ensures),
       (s .pre .1 .1 .0 .workable, (omega (arith, s .pre .0 .at .ready .id .1), s .pre .1 .1 .1)),
     )
 
@@ -65,7 +65,7 @@ names-count c =
     omega (
       arith,
       c .freshen-unless .ensures .holds .count,
-      unless-length (a .opened .right) (contextOf (n .result)) (setOf (c .before .ids .result)) (a .p .«max_id»),
+      unless-length (a .opened .right) (contextOf (n .result)) (setOf (c .before .ids .result)) (a .so-far .«max_id»),
       holds-count (n .ensures),
       held-count (c .before .before .before .filter .ensures) (n .ensures),
     )

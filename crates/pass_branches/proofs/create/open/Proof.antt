@@ -24,8 +24,8 @@ env-few : (c : tie.After-environment) → c .environment .result .len ≤ 64
 env-few c = let s = c .before .before .before in omega (arith, environment-few (s .args .free-vars-clauses) (c .before .filter .result .len) (s .args .context) (c .environment .ensures), s .pre .1 .0 .room)
 
 -- .. and how many bytes its list has
-env-most : (c : tie.After-environment) → c .environment .result .len * (6 + (c .before .before .before .args .g .id + c .before .before .before .args .g .id)) ≤ 1408
-env-most c = bindings-most _ (c .before .before .before .args .g .id) (env-few c) (omega (arith, c .before .before .before .pre .0 .at .ready .id .1))
+env-most : (c : tie.After-environment) → c .environment .result .len * (6 + (c .before .before .before .args .frame .id + c .before .before .before .args .frame .id)) ≤ 1408
+env-most c = bindings-most _ (c .before .before .before .args .frame .id) (env-few c) (omega (arith, c .before .before .before .pre .0 .at .ready .id .1))
 
 -- the context is right, by the lengths first
 right-is : (c : tie.Joined1) → c .if1 .right ≡ sameContext (bindings (workOf (c .before .before .before .before .before .before .before .args .context))) (bindings (workOf (c .before .before .before .before .before .filter .result)) ++ bindings (workOf (c .before .before .before .before .environment .result)))

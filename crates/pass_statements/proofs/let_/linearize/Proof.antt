@@ -52,7 +52,7 @@ right-is c =
 paired : (c : tie.After-freshen-unless) → Paired (c .freshen-unless .result .context) (c .before .before .before .before .before .before .before .used-all .result)
 paired c =
     let u = c .before .before .before .before .before .before .before in
-    paired-fresh (c .before .before .if1 .right) (u .used-all .result) (setOf (c .before .ids .result)) (c .before .before .before .before .before .before .before .before .before .before .before .before .before .args .p .«max_id») (holds-count (u .used-all .ensures)) (omega (arith, used-few u)) (c .freshen-unless .ensures)
+    paired-fresh (c .before .before .if1 .right) (u .used-all .result) (setOf (c .before .ids .result)) (c .before .before .before .before .before .before .before .before .before .before .before .before .before .args .so-far .«max_id») (holds-count (u .used-all .ensures)) (omega (arith, used-few u)) (c .freshen-unless .ensures)
 
 used-all-requires : tie.Need-used-all-requires
 used-all-requires c κs = (omega (arith, c .before .before .before .before .before .pre .1 .0 .room), omega (arith, few (c .before)))
@@ -115,7 +115,7 @@ returns c =
     let s = c .before .before .before .before .before .before .before .before .before .before .before .before .before .before .before .before .before .before .before .before .before .before .before .before .before .before .before .let-record in
     let l = s .result in
     let e = c .before .before .before .before .before .before .before .before .before .before .before .before .before .before .before .before .before .before .freshen-unless in
-    let-steps {record′ = recordAt (a .g) (now (a .s)) (a .i)} (l .var) (l .ty) (l .tag) (contextOf (l .args)) (workOf (a .context)) (a .in-scope) (e .result) (s .ensures .is) (c .before .before .before .before .before .before .before .before .before .before .before .before .before .before .before .before .before .before .before .before .before .before .before .before .before .before .filter .ensures) (c .before .before .before .before .before .before .before .before .before .before .before .before .before .before .before .before .before .before .before .before .before .before .before .before .before .used-all .ensures) (c .before .before .before .before .before .before .before .before .before .before .before .before .before .before .before .before .before .before .before .ids .ensures) (right-is (c .before .before .before .before .before .before .before .before .before .before .before .before .before .before .before .before .before .before .before .before)) (e .ensures) (c .before .before .before .before .before .before .before .before .before .before .before .before .before .before .arrange-behind .ensures) (c .before .before .before .before .before .before .before .before .put-let .ensures) (c .before .before .before .before .note .ensures) (c .before .own .ensures) refl (c .with-max-id .ensures)
+    let-steps {record′ = recordAt (a .frame) (now (a .image)) (a .i)} (l .var) (l .ty) (l .tag) (contextOf (l .args)) (workOf (a .context)) (a .in-scope) (e .result) (s .ensures .is) (c .before .before .before .before .before .before .before .before .before .before .before .before .before .before .before .before .before .before .before .before .before .before .before .before .before .before .filter .ensures) (c .before .before .before .before .before .before .before .before .before .before .before .before .before .before .before .before .before .before .before .before .before .before .before .before .before .used-all .ensures) (c .before .before .before .before .before .before .before .before .before .before .before .before .before .before .before .before .before .before .before .ids .ensures) (right-is (c .before .before .before .before .before .before .before .before .before .before .before .before .before .before .before .before .before .before .before .before)) (e .ensures) (c .before .before .before .before .before .before .before .before .before .before .before .before .before .before .arrange-behind .ensures) (c .before .before .before .before .before .before .before .before .put-let .ensures) (c .before .before .before .before .note .ensures) (c .before .own .ensures) refl (c .with-max-id .ensures)
 
 pub linearize-spec : {M : Type 1} → statement M
 linearize-spec =

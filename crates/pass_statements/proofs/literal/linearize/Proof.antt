@@ -56,7 +56,7 @@ returns c =
     let l = f .before .literal .result in
     let z : toZ w64 (ofZ w64 (l .lit)) ≡ l .lit = search needs in
     literal-steps (l .lit) (l .var) (f .before .literal .ensures) (f .filter .ensures) (kept-right (inMask (s .args .free-vars-next)) (s .args .context) (s .pre .1 .0 .count) (f .filter .ensures)) (c .before .before .before .before .before .before .before .before .before .before .before .before .before .before .before .arrange-kept .ensures)
-    (puts-as (ap (λ (x : ℤ). recordBytes (s .args .g .id) (literal x (l .var))) z) (c .before .before .before .before .before .before .before .before .put-literal .ensures)) (c .before .before .before .before .note .ensures) (c .own .ensures) refl
+    (puts-as (ap (λ (x : ℤ). recordBytes (s .args .frame .id) (literal x (l .var))) z) (c .before .before .before .before .before .before .before .before .put-literal .ensures)) (c .before .before .before .before .note .ensures) (c .own .ensures) refl
 
 pub linearize-spec : {M : Type 1} → statement M
 linearize-spec =

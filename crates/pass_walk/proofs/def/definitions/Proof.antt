@@ -45,7 +45,7 @@ add-statement c =
     let a = start .args in
     let h = start .pre in
     let x = def-next (c .before .before .before .before .before .before .before .before .before .before .loop .inv .1 .1) (c .before .before .before .before .before .before .before .before .before .loop-test .taken) in
-    omega (arith, x .inside, records-length (a .g) (now (a .s)) (h .sources .ready), h .sources .ready .few)
+    omega (arith, x .inside, records-length (a .frame) (now (a .image)) (h .sources .ready), h .sources .ready .few)
 
 statement-requires : tie.Need-statement-requires Inv-loop μ-loop
 statement-requires c κs =

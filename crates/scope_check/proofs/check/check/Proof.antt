@@ -8,10 +8,10 @@ use Rattle.scope_check.proofs.check.check.Statement.{statement}
 use Rattle.scope_check.proofs.check.check.Tie as tie
 
 -- the image that was opened
-opened : (c : tie.After-known-told) → IsOpened (c .before .before .before .before .before .args .l) (now (c .before .before .before .before .before .args .s)) (c .before .frame .given .0 .0) (c .before .frame .given .0 .1 .0) (c .before .frame .given .0 .1 .1 .0)
+opened : (c : tie.After-known-told) → IsOpened (c .before .before .before .before .before .args .layout) (now (c .before .before .before .before .before .args .image)) (c .before .frame .given .0 .0) (c .before .frame .given .0 .1 .0) (c .before .frame .given .0 .1 .1 .0)
 opened c =
     let a = c .before .before .before .before .before .args in
-    opened-image (a .l) (now (a .s)) _ _ _ (c .before .before .before .before .before .pre) (sym (c .before .before .before .open .ensures) ∙ c .before .frame .given .1)
+    opened-image (a .layout) (now (a .image)) _ _ _ (c .before .before .before .before .before .pre) (sym (c .before .before .before .open .ensures) ∙ c .before .frame .given .1)
 
 open-requires : tie.Need-open-requires
 open-requires c κs = search needs
@@ -34,7 +34,7 @@ returns c = c .before .check-image .ensures .0 ∙ opened-answer (opened (c .bef
 returns-2 : tie.Need-returns-2
 returns-2 c =
     let a = c .before .before .before .before .before .args in
-    sym (closed-answer (a .l) (now (a .s)) (sym (c .before .before .before .open .ensures) ∙ c .before .question .given .1))
+    sym (closed-answer (a .layout) (now (a .image)) (sym (c .before .before .before .open .ensures) ∙ c .before .question .given .1))
 
 pub check-spec : {M : Type 1} → statement M
 check-spec =

@@ -20,7 +20,7 @@ walk-definitions-requires : tie.Need-walk-definitions-requires
 walk-definitions-requires c κs =
     let a = c .before .before .before .before .before .before .before .args in
     let h = c .before .before .before .before .before .before .before .pre in
-    (h .0, walk-stand (h .1) (a .g .count) (sym (c .before .before .within-limits .ensures) ∙ c .before .if2 .taken))
+    (h .0, walk-stand (h .1) (a .frame .count) (sym (c .before .before .within-limits .ensures) ∙ c .before .if2 .taken))
 
 decide-requires : tie.Need-decide-requires
 decide-requires c κs = search needs
@@ -35,7 +35,7 @@ returns c =
     let w = c .before .before .before .walk-definitions .ensures in (
       c .decide .ensures
           ∙ (ap (λ v. decided v (a .max-id)) (w .0)
-          ∙ sym (answer-walk (h .1) (a .max-id) (a .g .count) (records-length (a .g) (now (a .s)) (h .0)) (sym (c .before .before .before .before .before .before .before .before .all-plain .ensures) ∙ c .before .before .before .before .before .before .before .if1 .taken) (sym (c .before .before .before .before .before .before .within-limits .ensures) ∙ c .before .before .before .before .before .if2 .taken))),
+          ∙ sym (answer-walk (h .1) (a .max-id) (a .frame .count) (records-length (a .frame) (now (a .image)) (h .0)) (sym (c .before .before .before .before .before .before .before .before .all-plain .ensures) ∙ c .before .before .before .before .before .before .before .if1 .taken) (sym (c .before .before .before .before .before .before .within-limits .ensures) ∙ c .before .before .before .before .before .if2 .taken))),
       λ p. w .1 (passed-sourced (h .1) p),
     )
 
@@ -43,9 +43,9 @@ returns-2 : tie.Need-returns-2
 returns-2 c =
     let a = c .before .before .before .before .before .before .args in
     let h = c .before .before .before .before .before .before .pre in
-    let n = records-length (a .g) (now (a .s)) (h .0) in
+    let n = records-length (a .frame) (now (a .image)) (h .0) in
     let no = sym (c .before .within-limits .ensures) ∙ c .if2 .left in
-    (sym (answer-7 (h .1) (a .max-id) (a .g .count) n (sym (c .before .before .before .all-plain .ensures) ∙ c .before .before .if1 .taken) no), λ p. absurd (false≢true (sym no ∙ passed-limits (h .1) p (a .g .count) n)))
+    (sym (answer-7 (h .1) (a .max-id) (a .frame .count) n (sym (c .before .before .before .all-plain .ensures) ∙ c .before .before .if1 .taken) no), λ p. absurd (false≢true (sym no ∙ passed-limits (h .1) p (a .frame .count) n)))
 
 returns-3 : tie.Need-returns-3
 returns-3 c =

@@ -26,7 +26,7 @@ add-t9 : tie.Need-add-t9 Inv-loop μ-loop
 add-t9 c =
     let a = c .before .before .before .args in
     let h = c .before .before .before .pre .0 in
-    omega (arith, def-next (c .before .loop .inv) (c .loop-test .taken) .inside, records-length (a .g) (now (a .s)) h, h .few)
+    omega (arith, def-next (c .before .loop .inv) (c .loop-test .taken) .inside, records-length (a .frame) (now (a .image)) h, h .few)
 
 statement-requires : tie.Need-statement-requires Inv-loop μ-loop
 statement-requires c κs = c .before .before .before .pre .0

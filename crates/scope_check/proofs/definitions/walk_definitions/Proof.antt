@@ -39,13 +39,13 @@ enter-head-requires c κs =
     let h = c .before .before .before .before .before .pre .0 in
     let l = c .before .before .loop .inv in
     let x = def-next (l .1 .1) (c .before .loop-test .taken) in
-    (record { ready = h; inside = omega (arith, x .inside, records-length (a .g) (now (a .s)) h); kind = def-kind x }, (refl, record { small = omega arith; room = omega (arith, l .0) }))
+    (record { ready = h; inside = omega (arith, x .inside, records-length (a .frame) (now (a .image)) h); kind = def-kind x }, (refl, record { small = omega arith; room = omega (arith, l .0) }))
 
 add-statement : tie.Need-add-statement Inv-loop μ-loop
 add-statement c =
     let a = c .before .before .before .before .before .before .before .before .args in
     let h = c .before .before .before .before .before .before .before .before .pre .0 in
-    omega (arith, def-next (c .before .before .before .before .before .loop .inv .1 .1) (c .before .before .before .before .loop-test .taken) .inside, records-length (a .g) (now (a .s)) h, h .few)
+    omega (arith, def-next (c .before .before .before .before .before .loop .inv .1 .1) (c .before .before .before .before .loop-test .taken) .inside, records-length (a .frame) (now (a .image)) h, h .few)
 
 slice-aggregate-statement : tie.Need-slice-aggregate-statement Inv-loop μ-loop
 slice-aggregate-statement c = search needs
@@ -57,7 +57,7 @@ put-row-requires : tie.Need-put-row-requires Inv-loop μ-loop
 put-row-requires c κs =
     let a = c .before .before .before .before .before .before .before .before .before .before .before .before .before .before .before .args in
     let h = c .before .before .before .before .before .before .before .before .before .before .before .before .before .before .before .pre .0 in
-    omega (arith, def-next (c .before .before .before .before .before .before .before .before .before .before .before .before .loop .inv .1 .1) (c .before .before .before .before .before .before .before .before .before .before .before .loop-test .taken) .inside, records-length (a .g) (now (a .s)) h, h .few)
+    omega (arith, def-next (c .before .before .before .before .before .before .before .before .before .before .before .before .loop .inv .1 .1) (c .before .before .before .before .before .before .before .before .before .before .before .loop-test .taken) .inside, records-length (a .frame) (now (a .image)) h, h .few)
 
 sub-left : tie.Need-sub-left Inv-loop μ-loop
 sub-left c = omega (arith, c .before .before .before .before .before .before .before .before .before .before .before .before .before .before .loop-test .taken)

@@ -21,12 +21,12 @@ abbrev μ-loop : tie.MeasureT-loop
 -- at a turn that asked the record at i
 turn : (c : tie.After-small-record Inv-loop μ-loop) →
     let s = c .before .before .before in
-    allRecords smallRecord (recordsIn (s .before .args .g) (now (s .before .args .s))) ≡ (c .small-record .result && allRecords smallRecord (drop (c .before .before .loop .i + 1) (recordsIn (s .before .args .g) (now (s .before .args .s)))))
+    allRecords smallRecord (recordsIn (s .before .args .frame) (now (s .before .args .image))) ≡ (c .small-record .result && allRecords smallRecord (drop (c .before .before .loop .i + 1) (recordsIn (s .before .args .frame) (now (s .before .args .image)))))
 turn c =
     let s = c .before .before .before in
-    let rs = recordsIn (s .before .args .g) (now (s .before .args .s)) in
+    let rs = recordsIn (s .before .args .frame) (now (s .before .args .image)) in
     rw (c .small-record .ensures)
-    (c .before .before .loop .inv .1 ∙ all-step smallRecord rs (c .before .before .loop .i) (omega (arith, records-length (s .before .args .g) (now (s .before .args .s)) (s .before .pre), c .before .loop-test .taken)))
+    (c .before .before .loop .inv .1 ∙ all-step smallRecord rs (c .before .before .loop .i) (omega (arith, records-length (s .before .args .frame) (now (s .before .args .image)) (s .before .pre), c .before .loop-test .taken)))
 
 loop-holds : tie.Need-loop-holds Inv-loop μ-loop
 loop-holds c = (omega arith, refl)
@@ -49,7 +49,7 @@ returns c = sym (turn (c .before) ∙ rw (c .if1 .left) refl)
 returns-2 : tie.Need-returns-2 Inv-loop μ-loop
 returns-2 c =
     let a = c .before .before .before .args in
-    sym (c .before .loop .inv .1 ∙ all-end smallRecord (recordsIn (a .g) (now (a .s))) (c .before .loop .i) (omega (arith, records-length (a .g) (now (a .s)) (c .before .before .before .pre), c .loop-test .left)))
+    sym (c .before .loop .inv .1 ∙ all-end smallRecord (recordsIn (a .frame) (now (a .image))) (c .before .loop .i) (omega (arith, records-length (a .frame) (now (a .image)) (c .before .before .before .pre), c .loop-test .left)))
 
 pub all-small-spec : {M : Type 1} → statement M
 all-small-spec =

@@ -18,7 +18,7 @@ small-environment-requires c κs = search needs
 returns : tie.Need-returns
 returns c =
     let a = c .before .before .before .before .before .before .before .args in
-    let h = looked (a .g) (now (a .s)) (a .i) _ _ (c .before .before .before .before .before .before .before .pre .ready) (sym (c .before .before .before .before .before .look .ensures) ∙ c .before .before .before .clauses .given .1) in
+    let h = looked (a .frame) (now (a .image)) (a .i) _ _ (c .before .before .before .before .before .before .before .pre .ready) (sym (c .before .before .before .before .before .look .ensures) ∙ c .before .before .before .clauses .given .1) in
     rw (← c .before .small-environment .ensures, c .if1 .taken, h .count) refl
 
 enum-told : tie.Need-enum-told
@@ -31,7 +31,7 @@ returns-3 : tie.Need-returns-3
 returns-3 c =
     let a = c .before .before .before .before .args in
     let h = c .before .before .before .before .pre in
-    absurd (not-nowhere (a .g) (now (a .s)) (a .i) (h .ready) (h .inside) (sym (c .before .before .look .ensures) ∙ c .enum-told .given .1))
+    absurd (not-nowhere (a .frame) (now (a .image)) (a .i) (h .ready) (h .inside) (sym (c .before .before .look .ensures) ∙ c .enum-told .given .1))
 
 pub small-create-spec : {M : Type 1} → statement M
 small-create-spec =

@@ -27,7 +27,7 @@ returns : tie.Need-returns
 returns c =
     let start = c .before .before .before .before .before .before .before in
     let a = start .args in
-    let r = recordAt (a .g) (now (a .s)) (a .i) in
+    let r = recordAt (a .frame) (now (a .image)) (a .i) in
     let k : kindOf r ≡ 4 = start .pre .0 .kind ∙ c .before .before .before .before .if1 .taken in
     let e : binders r ≡ firstOf r .id ∷ [] = binders-are r ∙ rw (eq-eqb (kindOf r) 4 k) in
     entered-same (a .max-id) (scopedOf (now (a .scope)) (a .e)) e (c .before .before .enter-first .ensures)
@@ -42,7 +42,7 @@ returns-2 : tie.Need-returns-2
 returns-2 c =
     let start = c .before .before .before .before .before .before .before .before in
     let a = start .args in
-    let r = recordAt (a .g) (now (a .s)) (a .i) in
+    let r = recordAt (a .frame) (now (a .image)) (a .i) in
     let k : kindOf r ≡ 6 = start .pre .0 .kind ∙ c .before .before .before .before .if2 .taken in
     let e : binders r ≡ firstOf r .id ∷ [] = binders-are r ∙ rw (ne-eqb (kindOf r) 4 (omega arith), eq-eqb (kindOf r) 6 k) in
     entered-same (a .max-id) (scopedOf (now (a .scope)) (a .e)) e (c .before .before .enter-first2 .ensures)
@@ -57,7 +57,7 @@ returns-3 : tie.Need-returns-3
 returns-3 c =
     let start = c .before .before .before .before .before .before .before .before .before in
     let a = start .args in
-    let r = recordAt (a .g) (now (a .s)) (a .i) in
+    let r = recordAt (a .frame) (now (a .image)) (a .i) in
     let k : kindOf r ≡ 8 = start .pre .0 .kind ∙ c .before .before .before .before .if3 .taken in
     let e : binders r ≡ firstOf r .id ∷ [] = binders-are r ∙ rw (ne-eqb (kindOf r) 4 (omega arith), ne-eqb (kindOf r) 6 (omega arith), eq-eqb (kindOf r) 8 k) in
     entered-same (a .max-id) (scopedOf (now (a .scope)) (a .e)) e (c .before .before .enter-first3 .ensures)
@@ -75,7 +75,7 @@ returns-4 : tie.Need-returns-4
 returns-4 c =
     let start = c .before .before .before .before .before .before .before .before .before .before .before in
     let a = start .args in
-    let r = recordAt (a .g) (now (a .s)) (a .i) in
+    let r = recordAt (a .frame) (now (a .image)) (a .i) in
     let k : kindOf r ≡ 9 = start .pre .0 .kind ∙ c .before .before .before .before .before .if4 .taken in
     let e : binders r ≡ targetOf r .id ∷ [] = binders-are r ∙ rw (ne-eqb (kindOf r) 4 (omega arith), ne-eqb (kindOf r) 6 (omega arith), ne-eqb (kindOf r) 8 (omega arith), eq-eqb (kindOf r) 9 k) in
     entered-same (a .max-id) (scopedOf (now (a .scope)) (a .e)) (e ∙ ap (λ (y : Identifier). y .id ∷ []) (sym (c .before .before .before .before .target .ensures))) (c .before .before .enter-one .ensures)
@@ -90,7 +90,7 @@ returns-5 : tie.Need-returns-5
 returns-5 c =
     let start = c .before .before .before .before .before .before .before .before .before .before .before in
     let a = start .args in
-    let r = recordAt (a .g) (now (a .s)) (a .i) in
+    let r = recordAt (a .frame) (now (a .image)) (a .i) in
     let k : kindOf r ≡ 1 = start .pre .0 .kind ∙ c .before .before .before .before .if5 .taken in
     let e : binders r ≡ ids (listOf r) = binders-are r ∙ rw (ne-eqb (kindOf r) 4 (omega arith), ne-eqb (kindOf r) 6 (omega arith), ne-eqb (kindOf r) 8 (omega arith), ne-eqb (kindOf r) 9 (omega arith), eq-eqb (kindOf r) 1 k) in
     entered-same (a .max-id) (scopedOf (now (a .scope)) (a .e)) e (c .before .before .enter-list .ensures)
@@ -105,7 +105,7 @@ returns-6 : tie.Need-returns-6
 returns-6 c =
     let start = c .before .before .before .before .before .before .before .before .before .before .before .before in
     let a = start .args in
-    let r = recordAt (a .g) (now (a .s)) (a .i) in
+    let r = recordAt (a .frame) (now (a .image)) (a .i) in
     let k : kindOf r ≡ 11 = start .pre .0 .kind ∙ c .before .before .before .before .if6 .taken in
     let e : binders r ≡ ids (listOf r) = binders-are r ∙ rw (ne-eqb (kindOf r) 4 (omega arith), ne-eqb (kindOf r) 6 (omega arith), ne-eqb (kindOf r) 8 (omega arith), ne-eqb (kindOf r) 9 (omega arith), ne-eqb (kindOf r) 1 (omega arith), eq-eqb (kindOf r) 11 k) in
     entered-same (a .max-id) (scopedOf (now (a .scope)) (a .e)) e (c .before .before .enter-list2 .ensures)
@@ -114,7 +114,7 @@ returns-7 : tie.Need-returns-7
 returns-7 c =
     let start = c .before .before .before .before .before .before .before .before in
     let a = start .args in
-    let r = recordAt (a .g) (now (a .s)) (a .i) in
+    let r = recordAt (a .frame) (now (a .image)) (a .i) in
     let h = start .pre .0 .kind in
     let e : binders r ≡ [] = binders-are r ∙ rw (ne-eqb (kindOf r) 4 (λ q. c .before .before .before .before .before .if1 .left (sym h ∙ q)), ne-eqb (kindOf r) 6 (λ q. c .before .before .before .before .if2 .left (sym h ∙ q)), ne-eqb (kindOf r) 8 (λ q. c .before .before .before .if3 .left (sym h ∙ q)), ne-eqb (kindOf r) 9 (λ q. c .before .before .if4 .left (sym h ∙ q)), ne-eqb (kindOf r) 1 (λ q. c .before .if5 .left (sym h ∙ q)), ne-eqb (kindOf r) 11 (λ q. c .if6 .left (sym h ∙ q))) in
     entered-same (a .max-id) (scopedOf (now (a .scope)) (a .e)) e (entered-none (now (a .scope)) (a .e) (start .pre .1))

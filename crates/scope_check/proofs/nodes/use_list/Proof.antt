@@ -29,13 +29,13 @@ list-at-requires : tie.Need-list-at-requires Inv-loop μ-loop
 list-at-requires c κs = (c .before .before .pre .0, c .before .before .pre .1 .0)
 
 shared-slice-read-count : tie.Need-shared-slice-read-count Inv-loop μ-loop
-shared-slice-read-count c = list-run (c .before .before .before .before .args .g .id) (c .before .list-at .ensures) .inside
+shared-slice-read-count c = list-run (c .before .before .before .before .args .frame .id) (c .before .list-at .ensures) .inside
 
 count-requires : tie.Need-count-requires Inv-loop μ-loop
 count-requires c κs = tt
 
 add-at : tie.Need-add-at Inv-loop μ-loop
-add-at c = omega (arith, list-run (c .before .before .before .before .before .args .g .id) (c .before .before .list-at .ensures) .inside)
+add-at c = omega (arith, list-run (c .before .before .before .before .before .args .frame .id) (c .before .before .list-at .ensures) .inside)
 
 loop-holds : tie.Need-loop-holds Inv-loop μ-loop
 loop-holds c =

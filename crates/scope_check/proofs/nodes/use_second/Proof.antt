@@ -20,19 +20,19 @@ use Rattle.scope_check.proofs.nodes.use_second.Statement.{statement}
 use Rattle.scope_check.proofs.nodes.use_second.Tie as tie
 
 -- the operand that the mark announces
-second : (c : tie.Else1) → Second (c .before .before .before .before .before .args .g .id) (recordAt (c .before .before .before .before .before .args .g) (now (c .before .before .before .before .before .args .s)) (c .before .before .before .before .before .args .i))
+second : (c : tie.Else1) → Second (c .before .before .before .before .before .args .frame .id) (recordAt (c .before .before .before .before .before .args .frame) (now (c .before .before .before .before .before .args .image)) (c .before .before .before .before .before .args .i))
 second c =
     let a = c .before .before .before .before .before .args in
-    let r = recordAt (a .g) (now (a .s)) (a .i) in
+    let r = recordAt (a .frame) (now (a .image)) (a .i) in
     let h = c .before .before .before .before .before .pre .0 in
-    let b = tail-byte (a .g .id) 10 r 0 _ (h .kind) (c .before .before .fixed .ensures ∙ omega arith) (tail-some (a .g .id) r (λ q. omega (arith, h .kind)) (λ q. omega (arith, h .kind))) (c .before .byte .ensures) in
-    second-some (a .g .id) r (h .kind) (record-ok (a .g) (now (a .s)) (a .i) 10 h) (λ q. c .if1 .left (b ∙ q))
+    let b = tail-byte (a .frame .id) 10 r 0 _ (h .kind) (c .before .before .fixed .ensures ∙ omega arith) (tail-some (a .frame .id) r (λ q. omega (arith, h .kind)) (λ q. omega (arith, h .kind))) (c .before .byte .ensures) in
+    second-some (a .frame .id) r (h .kind) (record-ok (a .frame) (now (a .image)) (a .i) 10 h) (λ q. c .if1 .left (b ∙ q))
 
-there : (c : tie.Else1) → Stands (identifierBytes (c .before .before .before .before .before .args .g .id)) (IdentifierOk (c .before .before .before .before .before .args .g .id)) (recordBytes (c .before .before .before .before .before .args .g .id) (recordAt (c .before .before .before .before .before .args .g) (now (c .before .before .before .before .before .args .s)) (c .before .before .before .before .before .args .i)))
+there : (c : tie.Else1) → Stands (identifierBytes (c .before .before .before .before .before .args .frame .id)) (IdentifierOk (c .before .before .before .before .before .args .frame .id)) (recordBytes (c .before .before .before .before .before .args .frame .id) (recordAt (c .before .before .before .before .before .args .frame) (now (c .before .before .before .before .before .args .image)) (c .before .before .before .before .before .args .i)))
     (c .before .before .fixed .result + 1) (second c .var)
 there c =
     let a = c .before .before .before .before .before .args in
-    subst (λ (z : ℕ). Stands (identifierBytes (a .g .id)) (IdentifierOk (a .g .id)) (recordBytes (a .g .id) (recordAt (a .g) (now (a .s)) (a .i))) (z + 1) (second c .var)) (sym (c .before .before .fixed .ensures)) (second c .stands)
+    subst (λ (z : ℕ). Stands (identifierBytes (a .frame .id)) (IdentifierOk (a .frame .id)) (recordBytes (a .frame .id) (recordAt (a .frame) (now (a .image)) (a .i))) (z + 1) (second c .var)) (sym (c .before .before .fixed .ensures)) (second c .stands)
 
 fixed-requires : tie.Need-fixed-requires
 fixed-requires c κs = search needs
@@ -40,17 +40,17 @@ fixed-requires c κs = search needs
 byte-requires : tie.Need-byte-requires
 byte-requires c κs =
     let a = c .before .before .before .args in
-    let r = recordAt (a .g) (now (a .s)) (a .i) in
+    let r = recordAt (a .frame) (now (a .image)) (a .i) in
     let h = c .before .before .before .pre .0 in
-    (h .ready, (h .inside, tail-room (a .g) (now (a .s)) (a .i) 10 0 _ h (c .fixed .ensures ∙ omega arith) (tail-some (a .g .id) r (λ q. omega (arith, h .kind)) (λ q. omega (arith, h .kind)))))
+    (h .ready, (h .inside, tail-room (a .frame) (now (a .image)) (a .i) 10 0 _ h (c .fixed .ensures ∙ omega arith) (tail-some (a .frame .id) r (λ q. omega (arith, h .kind)) (λ q. omega (arith, h .kind)))))
 
 returns : tie.Need-returns
 returns c =
     let a = c .before .before .before .before .before .args in
-    let r = recordAt (a .g) (now (a .s)) (a .i) in
+    let r = recordAt (a .frame) (now (a .image)) (a .i) in
     let h = c .before .before .before .before .before .pre .0 in
-    let b = tail-byte (a .g .id) 10 r 0 _ (h .kind) (c .before .before .fixed .ensures ∙ omega arith) (tail-some (a .g .id) r (λ q. omega (arith, h .kind)) (λ q. omega (arith, h .kind))) (c .before .byte .ensures) in
-    sym (used-none (scopeIn (a .n) (now (a .scope))) (a .u)) ∙ sym (ap (λ (xs : List VarId). usedAll (scopeIn (a .n) (now (a .scope))) xs (a .u)) (second-none (a .g .id) r (h .kind) (sym b ∙ c .if1 .taken)))
+    let b = tail-byte (a .frame .id) 10 r 0 _ (h .kind) (c .before .before .fixed .ensures ∙ omega arith) (tail-some (a .frame .id) r (λ q. omega (arith, h .kind)) (λ q. omega (arith, h .kind))) (c .before .byte .ensures) in
+    sym (used-none (scopeIn (a .n) (now (a .scope))) (a .u)) ∙ sym (ap (λ (xs : List VarId). usedAll (scopeIn (a .n) (now (a .scope))) xs (a .u)) (second-none (a .frame .id) r (h .kind) (sym b ∙ c .if1 .taken)))
 
 add-identifier : tie.Need-add-identifier
 add-identifier c = search needs
@@ -59,7 +59,7 @@ identifier-requires : tie.Need-identifier-requires
 identifier-requires c κs =
     let a = c .before .before .before .before .before .args in
     let h = c .before .before .before .before .before .pre .0 in
-    (h .ready, (h .inside, identifier-room (a .g) (now (a .s)) (a .i) _ (there c)))
+    (h .ready, (h .inside, identifier-room (a .frame) (now (a .image)) (a .i) _ (there c)))
 
 use-one-requires : tie.Need-use-one-requires
 use-one-requires c κs = search needs

@@ -154,14 +154,14 @@ clauses-enter-head-requires t c κs =
     let h = start .pre .1 in
     let l = c .before .before .loop .inv in
     let x = clause-next (l .1 .1) (c .before .loop-test .taken) in
-    (record { ready = h .0; inside = omega (arith, x .inside, records-length (a .g) (now (a .s)) (h .0)); kind = clause-kind x }, (refl, kept-scope (l .0) (h .1 .1)))
+    (record { ready = h .0; inside = omega (arith, x .inside, records-length (a .frame) (now (a .image)) (h .0)); kind = clause-kind x }, (refl, kept-scope (l .0) (h .1 .1)))
 
 clauses-add-statement : (t : ℕ) → clauses-lts.Need-add-statement (clauses-claims t) (clauses-at t) clauses.Post clauses-Inv-loop clauses-μ-loop
 clauses-add-statement t c =
     let start = c .before .before .before .before .before .before .before .before .before .before in
     let a = start .args in
     let h = start .pre .1 in
-    omega (arith, clause-next (c .before .before .before .before .before .before .loop .inv .1 .1) (c .before .before .before .before .before .loop-test .taken) .inside, records-length (a .g) (now (a .s)) (h .0), h .0 .few)
+    omega (arith, clause-next (c .before .before .before .before .before .before .loop .inv .1 .1) (c .before .before .before .before .before .loop-test .taken) .inside, records-length (a .frame) (now (a .image)) (h .0), h .0 .few)
 
 clauses-statement-requires : (t : ℕ) → clauses-lts.Need-statement-requires (clauses-claims t) (clauses-at t) clauses.Post clauses-Inv-loop clauses-μ-loop
 clauses-statement-requires t c κs =
@@ -173,7 +173,7 @@ clauses-put-row-requires t c κs =
     let start = c .before .before .before .before .before .before .before .before .before .before .before .before .before .before .before .before .before .before in
     let a = start .args in
     let h = start .pre .1 in
-    omega (arith, clause-next (c .before .before .before .before .before .before .before .before .before .before .before .before .before .before .loop .inv .1 .1) (c .before .before .before .before .before .before .before .before .before .before .before .before .before .loop-test .taken) .inside, records-length (a .g) (now (a .s)) (h .0), h .0 .few)
+    omega (arith, clause-next (c .before .before .before .before .before .before .before .before .before .before .before .before .before .before .loop .inv .1 .1) (c .before .before .before .before .before .before .before .before .before .before .before .before .before .loop-test .taken) .inside, records-length (a .frame) (now (a .image)) (h .0), h .0 .few)
 
 clauses-join-requires : (t : ℕ) → clauses-lts.Need-join-requires (clauses-claims t) (clauses-at t) clauses.Post clauses-Inv-loop clauses-μ-loop
 clauses-join-requires t c κs = c .before .before .before .before .before .before .before .before .before .before .before .before .before .before .before .before .before .before .before .before .before .pre .1 .1 .1 .small
@@ -216,7 +216,7 @@ statement-parts-of-requires t c κs =
     let start = c .before .before .before in
     let a = start .args in
     let h = start .pre .1 in
-    (h .0, omega (arith, head-inside (a .depth) (recordsIn (a .g) (now (a .s))) (a .i) (h .1 .0), records-length (a .g) (now (a .s)) (h .0)))
+    (h .0, omega (arith, head-inside (a .depth) (recordsIn (a .frame) (now (a .image))) (a .i) (h .1 .0), records-length (a .frame) (now (a .image)) (h .0)))
 
 statement-use-node-requires : (t : ℕ) → statement-lts.Need-use-node-requires (statement-claims t) (statement-at t) statement′.Post
 statement-use-node-requires t c κs = (c .before .parts-of .ensures .at, c .before .before .before .before .before .pre .1 .1 .1)
@@ -232,7 +232,7 @@ statement-clauses-requires t c κs =
     let start = c .before .before .before .before .before .before .before .before in
     let a = start .args in
     let h = start .pre .1 in
-    let x = above-at (a .depth) (recordsIn (a .g) (now (a .s))) (a .i) (h .1 .0) _ (c .before .before .before .before .parts-of .ensures .clauses) in
+    let x = above-at (a .depth) (recordsIn (a .frame) (now (a .image))) (a .i) (h .1 .0) _ (c .before .before .before .before .parts-of .ensures .clauses) in
     (omega (arith, x .positive, start .pre .0), (h .0, (x .clauses, h .1 .1)))
 
 statement-enter-next-requires : (t : ℕ) → statement-lts.Need-enter-next-requires (statement-claims t) (statement-at t) statement′.Post
@@ -247,7 +247,7 @@ statement-bodies-requires t c κs =
     let a = start .args in
     let h = start .pre .1 in
     let f = c .before .before .before .before .before .before .before .before .before .before .before .before .before .before .before .parts-of .ensures in
-    let b = below-at (a .depth) (recordsIn (a .g) (now (a .s))) (a .i) (h .1 .0) _ _ _ (f .clauses) (f .bodies) (c .before .before .before .before .before .before .before .before .before .before .clauses .ensures .0 .next) in
+    let b = below-at (a .depth) (recordsIn (a .frame) (now (a .image))) (a .i) (h .1 .0) _ _ _ (f .clauses) (f .bodies) (c .before .before .before .before .before .before .before .before .before .before .clauses .ensures .0 .next) in
     (omega (arith, b .positive, start .pre .0), (h .0, (b .bodies, c .before .before .before .before .enter-next .ensures .scope)))
 
 statement-put-row-requires : (t : ℕ) → statement-lts.Need-put-row-requires (statement-claims t) (statement-at t) statement′.Post
@@ -272,7 +272,7 @@ statement-returns t c =
     let k = c .before .before .before .before .before .before .before .before .before .before .before .before .before .before .before .before .before .before .before .before .before .before .before .clauses .ensures in
     let e = c .before .before .before .before .before .before .before .before .before .before .before .before .before .before .before .before .before .enter-next in
     let w = c .before .before .before .before .before .before .before .before .before .before .before .before .bodies .ensures in
-    let rs = recordsIn (a .g) (now (a .s)) in
+    let rs = recordsIn (a .frame) (now (a .image)) in
     let x = above-at (a .depth) rs (a .i) (h .1 .0) _ (f .clauses) in
     let b = below-at (a .depth) rs (a .i) (h .1 .0) _ _ _ (f .clauses) (f .bodies) (k .0 .next) in
     let Δ = scopeIn (a .n) (now (a .scope)) in (

@@ -28,7 +28,7 @@ clauses-add-statement t c =
     let a = c .before .before .before .before .before .before .before .before .before .before .before .before .before .before .args in
     let h = c .before .before .before .before .before .before .before .before .before .before .before .before .before .before .pre .1 in
     let x = clause-next (c .before .before .before .before .before .before .before .before .before .loop .inv .1 .1) (c .before .before .before .before .before .before .before .before .loop-test .taken) in
-    omega (arith, x .inside, records-length (a .g) (now (a .s)) (h .sources .ready), h .sources .ready .few)
+    omega (arith, x .inside, records-length (a .frame) (now (a .image)) (h .sources .ready), h .sources .ready .few)
 
 pub clauses-statement-requires : (t : ℕ) → clauses-lts.Need-statement-requires (clauses-claims t) (clauses-at t) clauses.Post clauses-Inv-loop clauses-μ-loop
 clauses-statement-requires t c κs =
