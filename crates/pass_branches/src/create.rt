@@ -31,7 +31,7 @@ fn environment(context: Held, next: usize, free_vars_clauses: u64) -> Held
     ensures { λ r. ⌜ HoldsWork r (keptByMask «free_vars_clauses» (movedBehind next (workOf context))) ⌝ }
 {
     let moved = context.move_behind(next);
-    moved.filter(free_vars_clauses)
+    moved.filter_by_set(free_vars_clauses)
 }
 
 // The clauses have the environment.
@@ -47,7 +47,7 @@ pub fn open(
     requires { ⌜ SourceAt frame (now image) i 6 × (Workable context 0 0 × RoomAt «so_far») ⌝ }
     ensures { λ r. ⌜ OpensAs (frame .id) (recordAt frame (now (image .entry)) i) «free_vars_clauses» «free_vars_next» (workOf context) «so_far» r ⌝ }
 {
-    let context_next = context.filter(free_vars_next);
+    let context_next = context.filter_by_set(free_vars_next);
     let closure_environment = environment(context, context_next.len, free_vars_clauses);
     let kept = context_next.len + closure_environment.len;
     let right = if context.len == kept {
@@ -96,7 +96,7 @@ pub fn linearize(
     let statement = create(image, frame, i);
     let captured = opened.context;
     let right = opened.right;
-    let context_next = context.filter(free_vars_next);
+    let context_next = context.filter_by_set(free_vars_next);
     let next = context_next.context();
     let freshened = freshen_unless(right, next, captured.ids(), so_far.max_id);
     let fresh = freshened.context;

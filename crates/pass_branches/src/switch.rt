@@ -53,7 +53,7 @@ pub fn open(
     ensures { λ r. ⌜ OpensAs (frame .id) (recordAt frame (now (image .entry)) i) «free_vars_clauses» 0 (workOf context) «so_far» r ⌝ }
 {
     let statement = switch(image, frame, i);
-    let new_context = context.filter(free_vars_clauses);
+    let new_context = context.filter_by_set(free_vars_clauses);
     let ty = statement.ty;
     let xtor = matched(context, statement.var, ty);
     let right = if context.len == new_context.len + 1 {

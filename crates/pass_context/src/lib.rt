@@ -72,7 +72,7 @@ impl Held {
     }
 
     // Keeps the entries whose places are in the mask. One that goes gives its place to the last, which is looked at next.
-    pub fn filter(self, mask: u64) -> Self
+    pub fn filter_by_set(self, mask: u64) -> Self
         requires { ⌜ self .len ≤ 64 ⌝ }
         ensures { λ r. ⌜ HoldsWork r (keptByMask mask (workOf self)) ⌝ }
     {

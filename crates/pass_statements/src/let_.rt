@@ -31,7 +31,7 @@ pub fn linearize(
     ensures { λ r. ⌜ StepsAs (frame .id) (recordAt frame (now (image .entry)) i) 0 «free_vars_next» (workOf context) «in_scope» (now (out .entry)) (now (out .exit)) (now (lengths .entry)) (now (lengths .exit)) «so_far» r ⌝ }
 {
     let statement = let_record(image, frame, i);
-    let new_context = context.filter(free_vars_next);
+    let new_context = context.filter_by_set(free_vars_next);
     let args = context.used_all(statement.args);
     let var = statement.var;
     let ty = statement.ty;

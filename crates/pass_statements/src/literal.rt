@@ -30,7 +30,7 @@ pub fn linearize(
     ensures { λ r. ⌜ StepsAs (frame .id) (recordAt frame (now (image .entry)) i) 0 «free_vars_next» (workOf context) «in_scope» (now (out .entry)) (now (out .exit)) (now (lengths .entry)) (now (lengths .exit)) «so_far» r ⌝ }
 {
     let statement = literal(image, frame, i);
-    let new_context = context.filter(free_vars_next);
+    let new_context = context.filter_by_set(free_vars_next);
     // after a filter equal counts mean equal lists
     let right = new_context.len == context.len;
     let q = arrange_kept(right, new_context, frame.id, out, lengths, so_far);

@@ -32,7 +32,7 @@ fn stays(e: Entry, fst: VarId, snd: VarId, mask: u64) -> bool
     bit(mask, e.place)
 }
 
-// The input variables are not consumed, so they are kept, beside what the mask has. As in `Held::filter`, one that goes gives its place to the
+// The input variables are not consumed, so they are kept, beside what the mask has. As in `Held::filter_by_set`, one that goes gives its place to the
 // last, which is looked at next.
 fn retain(context: Held, fst: VarId, snd: VarId, mask: u64) -> Held
     requires { ⌜ context .len ≤ 64 ⌝ }

@@ -11,11 +11,11 @@ use Rattle.pass_branches.proofs.create.environment.Tie as tie
 move-behind-requires : tie.Need-move-behind-requires
 move-behind-requires c κs = search needs
 
-filter-requires : tie.Need-filter-requires
-filter-requires c κs = omega (arith, moved-few (c .before .args .next) (c .before .args .context) (c .move-behind .ensures), c .before .pre .0)
+filter-by-set-requires : tie.Need-filter-by-set-requires
+filter-by-set-requires c κs = omega (arith, moved-few (c .before .args .next) (c .before .args .context) (c .move-behind .ensures), c .before .pre .0)
 
 returns : tie.Need-returns
-returns c = subst (λ (z : Work). HoldsWork (c .filter .result) (keptByMask (c .before .before .args .free-vars-clauses) z)) (c .before .move-behind .ensures .list) (c .filter .ensures)
+returns c = subst (λ (z : Work). HoldsWork (c .filter-by-set .result) (keptByMask (c .before .before .args .free-vars-clauses) z)) (c .before .move-behind .ensures .list) (c .filter-by-set .ensures)
 
 pub environment-spec : {M : Type 1} → statement M
-environment-spec = tie.close (tie.spec move-behind-requires filter-requires returns)
+environment-spec = tie.close (tie.spec move-behind-requires filter-by-set-requires returns)

@@ -13,17 +13,17 @@ use Rattle.pass_branches.proofs.create.linearize.Statement.{statement}
 use Rattle.pass_branches.proofs.create.linearize.Tie as tie
 
 -- how many entries and bindings the next has
-entries-few : (c : tie.After-filter) → c .filter .result .len + 1 ≤ 64
-entries-few c = let s = c .before .before .before .before .before .before in kept-room (s .pre .1 .0) (s .args .free-vars-next) (c .filter .ensures)
+entries-few : (c : tie.After-filter-by-set) → c .filter-by-set .result .len + 1 ≤ 64
+entries-few c = let s = c .before .before .before .before .before .before in kept-room (s .pre .1 .0) (s .args .free-vars-next) (c .filter-by-set .ensures)
 
 next-few : (c : tie.After-context) → c .context .result .len + 1 ≤ 64
-next-few c = omega (arith, held-count (c .before .filter .ensures) (c .context .ensures), entries-few (c .before))
+next-few c = omega (arith, held-count (c .before .filter-by-set .ensures) (c .context .ensures), entries-few (c .before))
 
 create-requires : tie.Need-create-requires
 create-requires c κs = search needs
 
-filter-requires : tie.Need-filter-requires
-filter-requires c κs = search needs
+filter-by-set-requires : tie.Need-filter-by-set-requires
+filter-by-set-requires c κs = search needs
 
 context-requires : tie.Need-context-requires
 context-requires c κs = omega (arith, entries-few c)
@@ -58,7 +58,7 @@ note-requires : tie.Need-note-requires
 note-requires c κs = (omega (arith, c .before .before .before .put-create .ensures .ends), omega (arith, c .before .before .before .before .before .before .before .before .before .before .before .before .before .before .before .before .before .before .before .before .before .before .before .before .pre .1 .1 .1 .count, c .before .before .before .before .before .before .before .before .before .before .before .arrange-before .ensures .few))
 
 -- as many names as entries
-names-count : (c : tie.After-freshen-unless) → c .freshen-unless .result .context .len ≡ c .before .before .before .filter .result .len
+names-count : (c : tie.After-freshen-unless) → c .freshen-unless .result .context .len ≡ c .before .before .before .filter-by-set .result .len
 names-count c =
     let n = c .before .before .context in
     let a = c .before .before .before .before .before .before .before .before .before .args in
@@ -67,16 +67,16 @@ names-count c =
       c .freshen-unless .ensures .holds .count,
       unless-length (a .opened .right) (contextOf (n .result)) (setOf (c .before .ids .result)) (a .so-far .«max_id»),
       holds-count (n .ensures),
-      held-count (c .before .before .before .filter .ensures) (n .ensures),
+      held-count (c .before .before .before .filter-by-set .ensures) (n .ensures),
     )
 
 renamed-requires : tie.Need-renamed-requires
 renamed-requires c κs =
-    let f = c .before .before .before .before .before .before .before .before .before .before .before .before .before .before .before .before .before .before .before .before .before .filter .ensures in
+    let f = c .before .before .before .before .before .before .before .before .before .before .before .before .before .before .before .before .before .before .before .before .before .filter-by-set .ensures in
     (f .count ∙ ap length (sym (f .list)), (omega (arith, entries-few (c .before .before .before .before .before .before .before .before .before .before .before .before .before .before .before .before .before .before .before .before .before)), names-count (c .before .before .before .before .before .before .before .before .before .before .before .before .before .before .before .before .before .before)))
 
 own-requires : tie.Need-own-requires
-own-requires c κs = omega (arith, respelled-few (c .before .before .before .before .before .before .before .before .before .before .before .before .before .before .before .before .before .before .before .before .before .before .before .before .before .before .before .before .args .opened .right) (c .before .before .before .before .before .before .before .before .before .before .before .before .before .before .before .before .before .before .before .before .before .before .filter .result) (c .renamed .result) _ (c .renamed .ensures), entries-few (c .before .before .before .before .before .before .before .before .before .before .before .before .before .before .before .before .before .before .before .before .before .before))
+own-requires c κs = omega (arith, respelled-few (c .before .before .before .before .before .before .before .before .before .before .before .before .before .before .before .before .before .before .before .before .before .before .before .before .before .before .before .before .args .opened .right) (c .before .before .before .before .before .before .before .before .before .before .before .before .before .before .before .before .before .before .before .before .before .before .filter-by-set .result) (c .renamed .result) _ (c .renamed .ensures), entries-few (c .before .before .before .before .before .before .before .before .before .before .before .before .before .before .before .before .before .before .before .before .before .before))
 
 add-t38 : tie.Need-add-t38
 add-t38 c = record { fits = omega (arith, c .before .before .before .before .before .before .before .before .before .before .before .before .before .before .before .before .before .before .before .before .before .before .before .before .before .before .before .before .before .pre .1 .0 .places) }
@@ -93,7 +93,7 @@ same-length-2 c = search needs
 returns : tie.Need-returns
 returns c =
     let l = c .before .before .before .before .before .before .before .before .before .before .before .before .before .before .before .before .before .before .before .before .before .before .before .before .before .before .create in
-    create-steps (l .result .var) (l .result .ty) _ (l .result .clauses) (l .ensures) (c .before .before .before .before .before .before .before .before .before .before .before .before .before .before .before .before .before .before .before .before .before .before .before .before .before .before .before .before .before .before .pre .1 .1 .0) (c .before .before .before .before .before .before .before .before .before .before .before .before .before .before .before .before .before .before .before .before .before .before .before .before .filter .ensures) (c .before .before .before .before .before .before .before .before .before .before .before .before .before .before .before .before .before .before .before .before .before .before .before .context .ensures) (c .before .before .before .before .before .before .before .before .before .before .context2 .ensures)
+    create-steps (l .result .var) (l .result .ty) _ (l .result .clauses) (l .ensures) (c .before .before .before .before .before .before .before .before .before .before .before .before .before .before .before .before .before .before .before .before .before .before .before .before .before .before .before .before .before .before .pre .1 .1 .0) (c .before .before .before .before .before .before .before .before .before .before .before .before .before .before .before .before .before .before .before .before .before .before .before .before .filter-by-set .ensures) (c .before .before .before .before .before .before .before .before .before .before .before .before .before .before .before .before .before .before .before .before .before .before .before .context .ensures) (c .before .before .before .before .before .before .before .before .before .before .context2 .ensures)
     (c .before .before .before .before .before .before .before .before .before .before .before .before .before .before .before .before .before .before .before .before .before .before .ids .ensures) (c .before .before .before .before .before .before .before .before .before .before .before .before .before .before .before .before .before .before .before .before .before .freshen-unless .ensures) (c .before .before .before .before .before .before .before .before .before .before .before .before .before .before .before .before .before .arrange-before .ensures) (c .before .before .before .before .before .before .before .before .before .put-create .ensures) (c .before .before .before .before .before .note .ensures) (c .before .before .renamed .ensures)
     (c .before .own .ensures) refl (c .with-max-id .ensures)
 
@@ -102,7 +102,7 @@ linearize-spec =
     tie.close
     (tie.spec
     create-requires
-    filter-requires
+    filter-by-set-requires
     context-requires
     ids-requires
     freshen-unless-requires

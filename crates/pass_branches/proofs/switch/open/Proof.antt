@@ -15,14 +15,14 @@ use Rattle.pass_branches.proofs.switch.open.Statement.{statement}
 use Rattle.pass_branches.proofs.switch.open.Tie as tie
 
 -- how many entries are retained
-kept-few : (c : tie.After-filter) → c .filter .result .len ≤ 64
-kept-few c = let s = c .before .before .before in omega (arith, kept-room (s .pre .1 .0) (s .args .free-vars-clauses) (c .filter .ensures))
+kept-few : (c : tie.After-filter-by-set) → c .filter-by-set .result .len ≤ 64
+kept-few c = let s = c .before .before .before in omega (arith, kept-room (s .pre .1 .0) (s .args .free-vars-clauses) (c .filter-by-set .ensures))
 
 -- the context is right, by the lengths first
-right-is : (c : tie.Joined1) → c .if1 .right ≡ sameContext (bindings (workOf (c .before .before .before .before .before .before .before .args .context))) (bindings (workOf (c .before .before .before .before .filter .result)) ++ (c .before .before .before .matched .result ∷ []))
+right-is : (c : tie.Joined1) → c .if1 .right ≡ sameContext (bindings (workOf (c .before .before .before .before .before .before .before .args .context))) (bindings (workOf (c .before .before .before .before .filter-by-set .result)) ++ (c .before .before .before .matched .result ∷ []))
 right-is c =
     let a = c .before .before .before .before .before .before .before .pre .1 .0 in
-    let new = c .before .before .before .before .filter in
+    let new = c .before .before .before .before .filter-by-set in
     let list = bindings (workOf (new .result)) in
     let last = c .before .before .before .matched .result ∷ [] in
     ⊎-elim
@@ -33,8 +33,8 @@ right-is c =
 switch-requires : tie.Need-switch-requires
 switch-requires c κs = search needs
 
-filter-requires : tie.Need-filter-requires
-filter-requires c κs = search needs
+filter-by-set-requires : tie.Need-filter-by-set-requires
+filter-by-set-requires c κs = search needs
 
 matched-requires : tie.Need-matched-requires
 matched-requires c κs = search needs
@@ -54,7 +54,7 @@ push-requires c κs = search needs
 same-requires : tie.Need-same-requires
 same-requires c κs =
     let s = c .before .before .before .before .before .before .before .before .before .before in
-    (omega (arith, s .pre .1 .0 .room), (omega (arith, kept-count (s .pre .1 .0) (s .args .free-vars-clauses) (c .before .before .before .before .before .before .before .filter .ensures) (c .before .before .context .ensures)), omega (arith, holds-one (c .before .empty .ensures) (c .push .ensures) .count)))
+    (omega (arith, s .pre .1 .0 .room), (omega (arith, kept-count (s .pre .1 .0) (s .args .free-vars-clauses) (c .before .before .before .before .before .before .before .filter-by-set .ensures) (c .before .before .context .ensures)), omega (arith, holds-one (c .before .empty .ensures) (c .push .ensures) .count)))
 
 add-reserve : tie.Need-add-reserve
 add-reserve c = record { fits = omega (arith, kept-few (c .before .before .before .before .before)) }
@@ -73,14 +73,14 @@ reserve-requires c κs =
 returns : tie.Need-returns
 returns c =
     let l = c .before .before .before .before .before .before .before .before .switch in
-    switch-opens (l .result .var) (l .result .ty) (l .result .clauses) (l .ensures) (c .before .before .before .before .before .before .before .filter .ensures) (kept-few (c .before .before .before .before .before .before .before)) (c .before .before .before .before .before .before .matched .ensures) (right-is (c .before .before .before)) (c .before .fixed .ensures) (c .reserve .ensures)
+    switch-opens (l .result .var) (l .result .ty) (l .result .clauses) (l .ensures) (c .before .before .before .before .before .before .before .filter-by-set .ensures) (kept-few (c .before .before .before .before .before .before .before)) (c .before .before .before .before .before .before .matched .ensures) (right-is (c .before .before .before)) (c .before .fixed .ensures) (c .reserve .ensures)
 
 pub open-spec : {M : Type 1} → statement M
 open-spec =
     tie.close
     (tie.spec
     switch-requires
-    filter-requires
+    filter-by-set-requires
     matched-requires
     add-if1
     context-requires

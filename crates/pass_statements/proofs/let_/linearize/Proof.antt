@@ -21,12 +21,12 @@ use Rattle.pass_statements.proofs.let_.linearize.Tie as tie
 let-record-requires : tie.Need-let-record-requires
 let-record-requires c κs = (c .before .before .before .pre .0 .at, c .before .before .before .pre .0 .small)
 
-filter-requires : tie.Need-filter-requires
-filter-requires c κs = omega (arith, c .before .before .before .before .pre .1 .0 .room)
+filter-by-set-requires : tie.Need-filter-by-set-requires
+filter-by-set-requires c κs = omega (arith, c .before .before .before .before .pre .1 .0 .room)
 
 -- what is retained has room for the var
-room : (c : tie.After-filter) → c .filter .result .len + 1 ≤ 64
-room c = kept-room (c .before .before .before .before .before .pre .1 .0) (c .before .before .before .before .before .args .free-vars-next) (c .filter .ensures)
+room : (c : tie.After-filter-by-set) → c .filter-by-set .result .len + 1 ≤ 64
+room c = kept-room (c .before .before .before .before .before .pre .1 .0) (c .before .before .before .before .before .args .free-vars-next) (c .filter-by-set .ensures)
 
 -- the arguments are few
 few : (c : tie.After-let-record) → c .let-record .result .args .len ≤ 32
@@ -38,10 +38,10 @@ used-few c =
     omega (arith, used-count (workOf (c .before .before .before .before .before .before .args .context)) (s .let-record .result .args) (s .let-record .ensures .count) (c .used-all .ensures), few s)
 
 -- the context is compared with what is wanted, unless the counts tell them apart
-right-is : (c : tie.Joined1) → c .if1 .right ≡ sameContext (bindings (workOf (c .before .before .before .before .before .before .before .before .before .before .before .args .context))) (bindings (workOf (c .before .before .before .before .before .before .filter .result)) ++ contextOf (c .before .before .before .before .before .used-all .result))
+right-is : (c : tie.Joined1) → c .if1 .right ≡ sameContext (bindings (workOf (c .before .before .before .before .before .before .before .before .before .before .before .args .context))) (bindings (workOf (c .before .before .before .before .before .before .filter-by-set .result)) ++ contextOf (c .before .before .before .before .before .used-all .result))
 right-is c =
     let a = c .before .before .before .before .before .before .before .before .before .before .before in
-    let f = c .before .before .before .before .before .before .filter in
+    let f = c .before .before .before .before .before .before .filter-by-set in
     let u = c .before .before .before .before .before .used-all in
     ⊎-elim
     (λ w. right-compared (a .args .context) (f .result) (u .result) (w .1 .ensures) (w .3 ∙ w .2 .ensures))
@@ -66,7 +66,7 @@ context-requires c κs = search needs
 same-requires : tie.Need-same-requires
 same-requires c κs =
     let s = c .before .before .before .before .before .before .before .before .before .before .before .before in
-    (omega (arith, s .pre .1 .0 .room), (omega (arith, kept-count (s .pre .1 .0) (s .args .free-vars-next) (c .before .before .before .before .before .before .before .filter .ensures) (c .context .ensures)), omega (arith, used-few (c .before .before .before .before .before .before))))
+    (omega (arith, s .pre .1 .0 .room), (omega (arith, kept-count (s .pre .1 .0) (s .args .free-vars-next) (c .before .before .before .before .before .before .before .filter-by-set .ensures) (c .context .ensures)), omega (arith, used-few (c .before .before .before .before .before .before))))
 
 ids-requires : tie.Need-ids-requires
 ids-requires c κs = omega (arith, room (c .before .before .before .before .before .before))
@@ -77,14 +77,14 @@ freshen-unless-requires c κs =
       holds-count (c .before .before .before .before .before .before .used-all .ensures),
       (
         omega (arith, used-few (c .before .before .before .before .before .before)),
-        (omega (arith, ids-count (workOf (n .filter .result)) (c .ids .ensures), ap length (n .filter .ensures .list), n .filter .ensures .count, room n), c .before .before .before .before .before .before .before .before .before .before .before .before .pre .1 .1 .maxId),
+        (omega (arith, ids-count (workOf (n .filter-by-set .result)) (c .ids .ensures), ap length (n .filter-by-set .ensures .list), n .filter-by-set .ensures .count, room n), c .before .before .before .before .before .before .before .before .before .before .before .before .pre .1 .1 .maxId),
       ),
     )
 
 arrange-behind-requires : tie.Need-arrange-behind-requires
 arrange-behind-requires c κs =
     let h = c .before .before .before .before .before .before .before .before .before .before .before .before .before .before .before .before .pre in
-    (held-workable (c .before .before .before .before .before .before .before .before .before .before .before .filter .ensures) (omega (arith, room (c .before .before .before .before .before .before .before .before .before .before .before))), (paired (c .before .before .before), (omega (arith, h .0 .at .ready .id .1), h .1 .1)))
+    (held-workable (c .before .before .before .before .before .before .before .before .before .before .before .filter-by-set .ensures) (omega (arith, room (c .before .before .before .before .before .before .before .before .before .before .before))), (paired (c .before .before .before), (omega (arith, h .0 .at .ready .id .1), h .1 .1)))
 
 put-let-requires : tie.Need-put-let-requires
 put-let-requires c κs =
@@ -115,14 +115,14 @@ returns c =
     let s = c .before .before .before .before .before .before .before .before .before .before .before .before .before .before .before .before .before .before .before .before .before .before .before .before .before .before .before .let-record in
     let l = s .result in
     let e = c .before .before .before .before .before .before .before .before .before .before .before .before .before .before .before .before .before .before .freshen-unless in
-    let-steps {record′ = recordAt (a .frame) (now (a .image)) (a .i)} (l .var) (l .ty) (l .tag) (contextOf (l .args)) (workOf (a .context)) (a .in-scope) (e .result) (s .ensures .is) (c .before .before .before .before .before .before .before .before .before .before .before .before .before .before .before .before .before .before .before .before .before .before .before .before .before .before .filter .ensures) (c .before .before .before .before .before .before .before .before .before .before .before .before .before .before .before .before .before .before .before .before .before .before .before .before .before .used-all .ensures) (c .before .before .before .before .before .before .before .before .before .before .before .before .before .before .before .before .before .before .before .ids .ensures) (right-is (c .before .before .before .before .before .before .before .before .before .before .before .before .before .before .before .before .before .before .before .before)) (e .ensures) (c .before .before .before .before .before .before .before .before .before .before .before .before .before .before .arrange-behind .ensures) (c .before .before .before .before .before .before .before .before .put-let .ensures) (c .before .before .before .before .note .ensures) (c .before .own .ensures) refl (c .with-max-id .ensures)
+    let-steps {record′ = recordAt (a .frame) (now (a .image)) (a .i)} (l .var) (l .ty) (l .tag) (contextOf (l .args)) (workOf (a .context)) (a .in-scope) (e .result) (s .ensures .is) (c .before .before .before .before .before .before .before .before .before .before .before .before .before .before .before .before .before .before .before .before .before .before .before .before .before .before .filter-by-set .ensures) (c .before .before .before .before .before .before .before .before .before .before .before .before .before .before .before .before .before .before .before .before .before .before .before .before .before .used-all .ensures) (c .before .before .before .before .before .before .before .before .before .before .before .before .before .before .before .before .before .before .before .ids .ensures) (right-is (c .before .before .before .before .before .before .before .before .before .before .before .before .before .before .before .before .before .before .before .before)) (e .ensures) (c .before .before .before .before .before .before .before .before .before .before .before .before .before .before .arrange-behind .ensures) (c .before .before .before .before .before .before .before .before .put-let .ensures) (c .before .before .before .before .note .ensures) (c .before .own .ensures) refl (c .with-max-id .ensures)
 
 pub linearize-spec : {M : Type 1} → statement M
 linearize-spec =
     tie.close
     (tie.spec
     let-record-requires
-    filter-requires
+    filter-by-set-requires
     used-all-requires
     add-if1
     context-requires

@@ -17,17 +17,17 @@ use Rattle.pass_statements.proofs.literal.linearize.Tie as tie
 literal-requires : tie.Need-literal-requires
 literal-requires c κs = c .before .before .before .pre .0 .at
 
-filter-requires : tie.Need-filter-requires
-filter-requires c κs = omega (arith, c .before .before .before .before .pre .1 .0 .room)
+filter-by-set-requires : tie.Need-filter-by-set-requires
+filter-by-set-requires c κs = omega (arith, c .before .before .before .before .pre .1 .0 .room)
 
 -- what is retained has room for the var
-room : (c : tie.After-filter) → c .filter .result .len + 1 ≤ 64
-room c = kept-room (c .before .before .before .before .before .pre .1 .0) (c .before .before .before .before .before .args .free-vars-next) (c .filter .ensures)
+room : (c : tie.After-filter-by-set) → c .filter-by-set .result .len + 1 ≤ 64
+room c = kept-room (c .before .before .before .before .before .pre .1 .0) (c .before .before .before .before .before .args .free-vars-next) (c .filter-by-set .ensures)
 
 arrange-kept-requires : tie.Need-arrange-kept-requires
 arrange-kept-requires c κs =
     let h = c .before .before .before .before .before .before .before .before .before .pre in
-    (held-workable (c .before .before .before .before .filter .ensures) (omega (arith, room (c .before .before .before .before))), (omega (arith, h .0 .at .ready .id .1), h .1 .1))
+    (held-workable (c .before .before .before .before .filter-by-set .ensures) (omega (arith, room (c .before .before .before .before))), (omega (arith, h .0 .at .ready .id .1), h .1 .1))
 
 put-literal-requires : tie.Need-put-literal-requires
 put-literal-requires c κs =
@@ -55,7 +55,7 @@ returns c =
     let f = c .before .before .before .before .before .before .before .before .before .before .before .before .before .before .before .before .before .before .before .before in
     let l = f .before .literal .result in
     let z : toZ w64 (ofZ w64 (l .lit)) ≡ l .lit = search needs in
-    literal-steps (l .lit) (l .var) (f .before .literal .ensures) (f .filter .ensures) (kept-right (inMask (s .args .free-vars-next)) (s .args .context) (s .pre .1 .0 .count) (f .filter .ensures)) (c .before .before .before .before .before .before .before .before .before .before .before .before .before .before .before .arrange-kept .ensures)
+    literal-steps (l .lit) (l .var) (f .before .literal .ensures) (f .filter-by-set .ensures) (kept-right (inMask (s .args .free-vars-next)) (s .args .context) (s .pre .1 .0 .count) (f .filter-by-set .ensures)) (c .before .before .before .before .before .before .before .before .before .before .before .before .before .before .before .arrange-kept .ensures)
     (puts-as (ap (λ (x : ℤ). recordBytes (s .args .frame .id) (literal x (l .var))) z) (c .before .before .before .before .before .before .before .before .put-literal .ensures)) (c .before .before .before .before .note .ensures) (c .own .ensures) refl
 
 pub linearize-spec : {M : Type 1} → statement M
@@ -63,7 +63,7 @@ linearize-spec =
     tie.close
     (tie.spec
     literal-requires
-    filter-requires
+    filter-by-set-requires
     arrange-kept-requires
     put-literal-requires
     note-requires

@@ -1,4 +1,4 @@
--- `retain` meets its contract, as `Held::filter` does: i places are done, and the rule stands for the rest. Assumes nothing.
+-- `retain` meets its contract, as `Held::filter_by_set` does: i places are done, and the rule stands for the rest. Assumes nothing.
 use mathlib.Core.Path.{_≡_, sym, ap, _∙_}
 use mathlib.Core.Bool.{Bool}
 use Prim.Native.Nat.{ℕ, _-_}

@@ -1,4 +1,4 @@
--- `Held::filter` meets its contract: i places are done, and the rule stands for the rest. Assumes nothing.
+-- `Held::filter_by_set` meets its contract: i places are done, and the rule stands for the rest. Assumes nothing.
 use mathlib.Core.Path.{_≡_, sym, ap, _∙_}
 use Prim.Native.Nat.{ℕ, _-_}
 use native.Mathlib.Omega.{arith}
@@ -10,8 +10,8 @@ use Rattle.pass_work_spec.specs.Work.{Work}
 use Rattle.pass_context.specs.Masks.{inMask, keptByMask}
 use Rattle.pass_context.specs.Holding.{entryIn, entriesIn, emptyFlatEntry}
 use Rattle.pass_context.specs.declared.Held.{Held}
-use Rattle.pass_context.proofs.Held.filter.Statement.{statement}
-use Rattle.pass_context.proofs.Held.filter.Tie as tie
+use Rattle.pass_context.proofs.Held.filter_by_set.Statement.{statement}
+use Rattle.pass_context.proofs.Held.filter_by_set.Tie as tie
 
 -- i places are done; the array keeps its length
 record Inv (mask : ℕ) (whole : Work) (out : Held) (n i : ℕ) : Type 0 where
@@ -78,8 +78,8 @@ returns c =
     let e = filtering-done (inMask (c .before .before .args .mask)) (c .loop-test .left) (l .inv .turn) in
     record { count = sym (ap length (sym e) ∙ counted (entriesIn (l .out)) (l .n) (l .inv .turn .within)); list = e }
 
-pub filter-spec : {M : Type 1} → statement M
-filter-spec =
+pub filter-by-set-spec : {M : Type 1} → statement M
+filter-by-set-spec =
     tie.close
     (tie.spec
     Inv-loop
