@@ -14,7 +14,7 @@ use Rattle.pass_context.specs.declared.entries.FlatEntry.{FlatEntry}
 
 -- the binding as it stands in an array of bindings
 abbrev pub flatOf : FlatEntry → FlatBinding
-flatOf e = record { id = e .id; «ty_id» = e .«ty_id»; name = e .name; «ty_name» = e .«ty_name»; chi = e .chi; declared = e .declared }
+flatOf e = record { id = e .id; «ty_id» = e .«ty_id»; name = e .name; «ty_name» = e .«ty_name»; chi = e .chi; declared = e .declared; unused = 0 }
 
 -- the entry that it stands for
 abbrev pub entryIn : FlatEntry → Entry

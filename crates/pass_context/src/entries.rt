@@ -68,6 +68,7 @@ impl FlatEntry {
             ty_name,
             chi,
             declared,
+            unused: 0,
         }
     }
 

@@ -21,4 +21,4 @@ bindingOf f = record {
 
 -- what stands in the unused places of an array: all 0
 abbrev pub emptyFlat : FlatBinding
-emptyFlat = record { id = record { 0 = 0 }; «ty_id» = record { 0 = 0 }; name = record { 0 = 0 }; «ty_name» = record { 0 = 0 }; chi = Prd; declared = false }
+emptyFlat = record { id = record { 0 = 0 }; «ty_id» = record { 0 = 0 }; name = record { 0 = 0 }; «ty_name» = record { 0 = 0 }; chi = Prd; declared = false; unused = 0 }

@@ -35,6 +35,8 @@ pub struct FlatBinding {
     pub chi: Chirality,
     // Whether the type is declared. I64 has no identifier.
     pub declared: bool,
+    // Always 0. It leaves no byte of an element unused, so that an array is cleared at once.
+    pub unused: u16,
 }
 
 pub struct TypingContext {
@@ -123,6 +125,7 @@ impl ContextBinding {
             ty_name,
             chi,
             declared,
+            unused: 0,
         }
     }
 }
@@ -167,6 +170,7 @@ impl FlatBinding {
             ty_name,
             chi,
             declared,
+            unused: 0,
         }
     }
 }

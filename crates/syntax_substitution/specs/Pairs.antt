@@ -15,7 +15,7 @@ use Rattle.syntax_substitution.specs.declared.Substitution.{Substitution
 -- what a pair that stands in an array says
 abbrev pub pairOf : FlatPair → Pair
 pairOf f = record {
-  target = bindingOf (record { id = f .id; «ty_id» = f .«ty_id»; name = f .name; «ty_name» = f .«ty_name»; chi = f .chi; declared = f .declared });
+  target = bindingOf (record { id = f .id; «ty_id» = f .«ty_id»; name = f .name; «ty_name» = f .«ty_name»; chi = f .chi; declared = f .declared; unused = 0 });
   source = record { name = f .«source_name»; id = f .source };
 }
 

@@ -113,6 +113,7 @@ impl FlatPair {
             ty_name,
             chi,
             declared,
+            unused: 0,
         };
         let target = flat.binding();
         let name = self.source_name;
