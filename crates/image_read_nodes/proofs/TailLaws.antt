@@ -21,7 +21,6 @@ use Rattle.image_shape.proofs.Heads.{place, kind-small}
 use Rattle.image_read_parts.specs.Standing.{Stands, ReadsAs, RoomIn, headOf}
 use Rattle.image_read_parts.proofs.StandingLaws.{part-room, part-reads, byte-reads, kind-stands}
 use Rattle.image_read_nodes.specs.Nodes.{recordAt, At}
-use Rattle.scope_check.specs.Environments.{smallEnvironment}
 
 -- ── the record that was looked at ──
 

@@ -5,6 +5,7 @@ use crate::scoping::enter_one;
 use crate::scoping::use_one;
 use image_directory::Frame;
 use image_fields::count;
+use image_kinds::kinds::Kind;
 use image_read_nodes::first;
 use image_read_nodes::list_at;
 use image_read_nodes::operand;
