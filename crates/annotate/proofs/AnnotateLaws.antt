@@ -1,7 +1,7 @@
 -- The annotation of a record: where its clauses and its next stand, the sets that are marked there, and the reply. Assumes nothing.
 use Prim.Native.Nat.{ℕ, zero, suc, _+_, _*_, _≤_, _<_}
 use mathlib.Core.Path.{_≡_, refl, sym, ap, _∙_, subst}
-use mathlib.Core.Bool.{Bool, true, false, _&&_, false≢true}
+use mathlib.Core.Bool.{Bool, true, false, false≢true}
 use mathlib.Core.List.{List, [], _∷_, _++_, append-nil}
 use native.Mathlib.Omega.{arith}
 use lib.Dec.{leb, eqb}
@@ -12,13 +12,13 @@ use Rattle.syntax.proofs.Bools.{both-true}
 use Rattle.model.specs.Syntax.{Stmt, Substitute, Call, Let, Switch, Create, Invoke, Literal, Op, IfC, Clauses, end, Prog}
 use Rattle.model.specs.Sizes.{recordsDefs, depthDefs}
 use Rattle.model.specs.FreeVars.{freeVars, freeVarsClauses, ascending, annotations}
-use Rattle.model.specs.Questions.{asked, askedClauses, askedDefs, plain, anyBinders, question6, question7, small, smallBinders}
+use Rattle.model.specs.Questions.{asked, askedDefs, plain, anyBinders, question6, question7, small}
 use Rattle.image_spec.specs.Parse.{each, field, All}
 use Rattle.image_spec.specs.Records.{Record, definition, substitute, call, let', switch, create, invoke, literal, op, ifc, clause', RecordOk}
 use Rattle.image_spec.specs.Kinds.{kindOf, clausesOf, bodies}
 use Rattle.image_spec.specs.Shape.{flatten, flattenClauses, flattenDefs, maxDepth}
 use Rattle.image_spec.specs.declared.Answer.{Answer}
-use Rattle.image_spec.specs.declared.Answer.the-variants.{Accepted, Refused}
+use Rattle.image_spec.specs.declared.Answer.the-variants.{Refused}
 use Rattle.image_spec.specs.declared.Refusal.{Refusal}
 use Rattle.image_spec.specs.declared.Refusal.the-variants.{Linearized, Limits, Room, Place}
 use Rattle.image_spec.specs.declared.Layout.{Layout}
@@ -27,6 +27,7 @@ use Rattle.image_directory.specs.Slots.{Ready, recordsIn}
 use Rattle.image_directory.specs.declared.Frame.{Frame}
 use Rattle.image_directory.proofs.Places.{records-length}
 use Rattle.image_read_parts.specs.Standing.{headOf}
+use Rattle.image_spec.proofs.ListLaws.{all-left}
 use Rattle.image_read_parts.proofs.TailPlaces.{record-ok}
 use Rattle.image_open.specs.Opening.{openedOf}
 use Rattle.image_open.specs.declared.Opened.the-variants.{Closed}
@@ -36,18 +37,17 @@ use Rattle.image_places_spec.specs.Places.{Begins, stmtAt, clausesAt, StmtStand
 use Rattle.image_places_spec.proofs.PlaceLaws.{stmt-is, clauses-are, stmt-parts, body-parts, head-within}
 use Rattle.image_write_parts.specs.Puts.{Puts}
 use Rattle.image_write_parts.proofs.Putting.{puts-then}
-use Rattle.scope_spec.specs.Flat.{allRecords, plainRecord, smallRecord}
+use Rattle.scope_spec.specs.Flat.{allRecords, smallRecord}
 use Rattle.scope_spec.specs.Rooms.{inRoom, RoomFor, RoomForClauses}
 use Rattle.scope_spec.specs.Marking.{markStmt, markClauses, keep, markedFrom}
-use Rattle.scope_spec.specs.Calls.{Reply, refuses, writes, replyAnswer, replyBuffer, askedOf, hasAnnotation, firstHas, question13, setBytes, annotationBytes, placing, annotating, annotateOf, Replies}
-use Rattle.scope_spec.proofs.FlatLaws.{question6-flat, question7-flat}
+use Rattle.scope_spec.specs.Calls.{writes, replyIfYes, hasAnnotation, firstHas, question13, setBytes, annotationBytes, placing, annotating, annotateOf, Replies}
+use Rattle.scope_spec.proofs.FlatLaws.{question7-flat}
 use Rattle.scope_spec.proofs.Inside.{Inside, inside, asked-parts}
-use Rattle.scope_spec.proofs.IdsFit.{all-left, stmt-ids-fit, clauses-ids-fit, two-bytes}
+use Rattle.scope_spec.proofs.IdsFit.{stmt-ids-fit, clauses-ids-fit, two-bytes}
 use Rattle.scope_spec.proofs.MarkLaws.{FitRow, Marks, allUses, allUsesClauses, marks-stmt, marks-clauses, marked-ascending}
 use Rattle.image_read_nodes.specs.Nodes.{recordAt}
 use Rattle.scope_check.specs.Deciding.{programIn}
 use Rattle.scope_check.proofs.ReplyLaws.{opened-replies, closed-replies}
-use Rattle.annotate_uses.specs.Sources.{Source}
 use Rattle.annotate.specs.Annotating.{annotatedKind, Annotated, Limited, Settled}
 
 -- ── by kind ──
@@ -310,7 +310,7 @@ module _ {g : Frame} {s : List ℕ} {d m : ℕ} (l : Limited g s d m) (i : ℕ) 
       test : leb written (length mid) ≡ leb (length B) (length before)
       test = rw (count, size)
 
-      go : (b : Bool) → leb (length B) (length before) ≡ b → Replies (askedOf b Room (writes B m)) r before after
+      go : (b : Bool) → leb (length B) (length before) ≡ b → Replies (replyIfYes b Room (writes B m)) r before after
       go true e = record { answers = q .answer ∙ rw (test ∙ e, count); leaves = q .buffer ∙ rw (test ∙ e) (p .holds) }
       go false e = record { answers = q .answer ∙ rw (test ∙ e); leaves = q .buffer ∙ rw (test ∙ e, size) }
 

@@ -1,20 +1,22 @@
 // The annotation of a record (questions 1 to 7, 13, 12): the free variables of its clauses, and of what follows them, as sets of IDs.
 use crate::walk::clauses;
 use crate::walk::statement;
-use annotate_marks::clear;
 use annotate_marks::put_set;
 use image_directory::Frame;
+use image_kinds::kinds::Kind;
 use image_open::Opened;
 use image_open::open;
 use image_read_nodes::parts_of;
 use image_spec::Answer;
 use image_spec::Layout;
 use image_spec::Refusal;
+use image_write_bytes::bytes::clear;
 use scope_check::check::within_limits;
 use scope_check::definitions::walk_definitions;
-use scope_check::flat::all_plain;
+use scope_records::flat::Alone;
+use scope_records::flat::all_records;
 use syntax::sets::IdSet;
-ghost use Prim.Native.Nat.{_+_, _*_, _≤_, _<_, _^_};
+ghost use Prim.Native.Nat.{_+_, _≤_, _<_, _^_};
 ghost use mathlib.Core.Path.{_≡_};
 ghost use mathlib.Core.List.{[]};
 ghost use lib.ListN.{length, replicate};
@@ -34,9 +36,6 @@ ghost use Rattle.scope_check.specs.Deciding.{programIn};
 ghost use Rattle.annotate_uses.specs.Sources.{Source};
 ghost use Rattle.annotate.specs.Annotating.{annotatedKind, Wrote, Annotated, Limited, Settled};
 
-// The depth that is left below a statement of an image.
-const BELOW: usize = 127;
-
 // The index that the walk has come to, and the place past what was written.
 pub struct Written {
     pub next: usize,
@@ -46,16 +45,16 @@ pub struct Written {
 fn has_annotation(kind: u8) -> bool
     ensures { λ r. ⌜ r ≡ annotatedKind kind ⌝ }
 {
-    if kind < 4 {
+    if kind < Kind::LET {
         return false;
     }
-    if kind <= 6 {
+    if kind <= Kind::CREATE {
         return true;
     }
-    if kind < 8 {
+    if kind < Kind::LITERAL {
         return false;
     }
-    kind <= 9
+    kind <= Kind::OP
 }
 
 // Writes the free variables of the statement at index i.
@@ -71,7 +70,7 @@ fn put_statement(
     ensures { λ r. ⌜ Wrote r (now (out .entry)) (now (out .exit)) at (i + length (flatten (stmtAt 127 (recordsIn frame (now (image .entry))) i))) (frame .id) (markStmt (stmtAt 127 (recordsIn frame (now (image .entry))) i) [] (replicate (length (now (row .entry))) 0)) ⌝ }
 {
     clear(row);
-    let next = statement(image, frame, BELOW, i, IdSet::empty(), row);
+    let next = statement(image, frame, Layout::DEPTH_BELOW, i, IdSet::empty(), row);
     let end = put_set(row, out, at, frame.id);
     Written { next, end }
 }
@@ -90,7 +89,7 @@ fn put_clauses(
     ensures { λ r. ⌜ Wrote r (now (out .entry)) (now (out .exit)) at (i + length (flattenClauses (clausesAt 127 n (recordsIn frame (now (image .entry))) i))) (frame .id) (markClauses (clausesAt 127 n (recordsIn frame (now (image .entry))) i) [] (replicate (length (now (row .entry))) 0)) ⌝ }
 {
     clear(row);
-    let next = clauses(image, frame, BELOW, n, i, IdSet::empty(), row);
+    let next = clauses(image, frame, Layout::DEPTH_BELOW, n, i, IdSet::empty(), row);
     let end = put_set(row, out, at, frame.id);
     Written { next, end }
 }
@@ -101,10 +100,10 @@ fn put_annotation(image: &[u8], frame: Frame, i: usize, row: &mut [u8], out: &mu
     ensures { λ r. ⌜ Puts (now (out .entry)) (now (out .exit)) 0 r (each (setBytes (frame .id)) (annotations (stmtAt maxDepth (recordsIn frame (now (image .entry))) i))) ⌝ }
 {
     let f = parts_of(image, frame, i);
-    if f.kind == 5 {
+    if f.kind == Kind::SWITCH {
         return put_clauses(image, frame, f.clauses, i + 1, row, out, 0).end;
     }
-    if f.kind == 6 {
+    if f.kind == Kind::CREATE {
         let c = put_clauses(image, frame, f.clauses, i + 1, row, out, 0);
         return put_statement(image, frame, c.next, row, out, c.end).end;
     }
@@ -141,7 +140,7 @@ fn annotate_record(
     if i < count {
         let f = parts_of(image, frame, i);
         if has_annotation(f.kind) {
-            let mut row = [0u8; 65536];
+            let mut row = [0u8; Layout::IDS];
             let written = put_annotation(image, frame, i, &mut row, out);
             return settle(out, written, max_id);
         }
@@ -174,7 +173,7 @@ fn annotate_image(
     requires { ⌜ Ready frame (now image) × (Defined defs (recordsIn frame (now image)) × (frame .id ≤ 2)) ⌝ }
     ensures { λ r. ⌜ Replies (annotating (frame .id) (programIn defs (recordsIn frame (now (image .entry))) «max_id») i (length (now (out .entry)))) r (now (out .entry)) (now (out .exit)) ⌝ }
 {
-    if all_plain(image, frame) {
+    if all_records(image, frame, Alone::Plain) {
         if in_limits(image, frame, defs, max_id) {
             return annotate_record(image, frame, defs, max_id, i, out);
         }

@@ -3,6 +3,7 @@ use annotate_marks::mark_all;
 use annotate_uses::bind;
 use annotate_uses::uses;
 use image_directory::Frame;
+use image_kinds::kinds::Kind;
 use image_read_nodes::parts_of;
 use syntax::sets::IdSet;
 ghost use Prim.Native.Nat.{_+_};
@@ -14,7 +15,7 @@ ghost use Rattle.image_directory.specs.Slots.{recordsIn};
 ghost use Rattle.image_places_spec.specs.Places.{stmtAt, clausesAt, bodiesAt, StmtStands, ClausesStand, BodiesStand};
 ghost use Rattle.scope_spec.specs.Marking.{markStmt, markClauses, markBodies};
 ghost use Rattle.scope_spec.specs.Rooms.{RoomFor, RoomForClauses};
-ghost use Rattle.scope_check.specs.Scoping.{Scope};
+ghost use Rattle.scope_places.specs.Scoping.{Scope};
 ghost use Rattle.annotate_uses.specs.Sources.{Source};
 ghost use Rattle.annotate.specs.Marks.{MarkedTo};
 
@@ -54,7 +55,7 @@ pub fn clauses(
     let mut here = i;
     let mut left = n;
     while 0 < left {
-        let inner = bind(image, frame, here, 11, bound);
+        let inner = bind(image, frame, here, Kind::CLAUSE, bound);
         here = statement(image, frame, depth, here + 1, inner, row);
         left = left - 1;
     }

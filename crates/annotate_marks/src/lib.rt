@@ -4,7 +4,7 @@ use syntax::names::VarId;
 use syntax::sets::IdSet;
 ghost use mathlib.Core.Path.{_≡_};
 ghost use Prim.Native.Nat.{_+_, _*_, _≤_, _<_, _^_};
-ghost use lib.ListN.{length, replicate};
+ghost use lib.ListN.{length};
 ghost use Rattle.syntax.specs.Arrays.{setOf};
 ghost use Rattle.image_spec.specs.Parse.{each, field};
 ghost use Rattle.image_write_parts.specs.Puts.{Puts};
@@ -15,18 +15,6 @@ fn place(id: u32) -> usize
     ensures { λ r. ⌜ r ≡ id ⌝ }
 {
     id as usize
-}
-
-// Sets every byte to zero.
-pub fn clear(row: &mut [u8])
-    ensures { λ _. ⌜ now (row .exit) ≡ replicate (length (now (row .entry))) 0 ⌝ }
-{
-    let n = row.len();
-    let mut i = 0;
-    while i < n {
-        row[i] = 0;
-        i += 1;
-    }
 }
 
 // A variable is used: it is marked, if it is not bound.

@@ -9,6 +9,7 @@ use Rattle.syntax.specs.Arrays.{setOf, SetHolds}
 use Rattle.syntax.specs.Context.{Context, ids}
 use Rattle.syntax.specs.declared.names.VarId.{VarId}
 use Rattle.syntax.specs.declared.sets.IdSet.{IdSet}
+use Rattle.syntax.proofs.Filters.{ids-length}
 use Rattle.model.specs.Syntax.{Clauses, clause}
 use Rattle.image_spec.specs.Records.{Record}
 use Rattle.image_read_parts.specs.Standing.{headOf}
@@ -17,11 +18,10 @@ use Rattle.image_places_spec.specs.Places.{stmtAt, StmtStands}
 use Rattle.image_places_spec.proofs.Steps.{ClauseNext}
 use Rattle.scope_spec.specs.Rooms.{RoomFor, RoomForClauses}
 use Rattle.scope_spec.proofs.RoomLaws.{room-here, room-clause, room-binders}
-use Rattle.scope_check.specs.Scoping.{Scope}
+use Rattle.scope_places.specs.Scoping.{Scope}
 use Rattle.image_read_nodes.proofs.StepLaws.{head-is}
 use Rattle.annotate_uses.specs.Sets.{Room}
 use Rattle.annotate_uses.specs.Sources.{BoundBy}
-use Rattle.annotate_uses.proofs.CountLaws.{ids-length}
 
 -- a set that holds the scope and what is bound
 pub bound-by : (B : List VarId) {x : IdSet} {xs ys : List VarId} → xs ≡ ys → length (B ++ xs) ≤ 64 → SetHolds x (B ++ ys) → BoundBy x (B ++ xs)

@@ -1,27 +1,15 @@
 -- The counts of question 7, of the record at a place. Assumes nothing.
-use Prim.Native.Nat.{ℕ, zero, suc, _≤_, _<_}
+use Prim.Native.Nat.{_≤_}
 use mathlib.Core.Path.{_≡_}
-use mathlib.Core.Bool.{Bool, true}
-use mathlib.Core.List.{List, [], _∷_}
+use mathlib.Core.Bool.{true}
 use mathlib.Core.Option.{none, some}
 use native.Mathlib.Omega.{arith}
 use borrow.Author.Tests.{leb-true}
-use lib.ListN.{length, drop, length-map}
-use Rattle.syntax.specs.Context.{Context, idOf, ids}
-use Rattle.syntax.proofs.Bools.{both-true}
+use lib.ListN.{length}
+use Rattle.syntax.proofs.Filters.{ids-length}
 use Rattle.image_spec.specs.Records.{Record, definition, substitute, call, let', switch, create, invoke, literal, op, ifc, clause'}
-use Rattle.image_read_parts.specs.Standing.{headOf}
 use Rattle.image_places_spec.specs.Views.{usesOf}
-use Rattle.scope_spec.specs.Flat.{allRecords, smallRecord}
-
--- what every record passes, the record at a place passes
-pub record-at : (f : Record → Bool) (rs : List Record) (i : ℕ) → allRecords f rs ≡ true → i < length rs → f (headOf (drop i rs)) ≡ true
-record-at f [] i a h = absurd (omega arith)
-record-at f (r ∷ rs) zero a h = both-true (f r) _ a .0
-record-at f (r ∷ rs) (suc i) a h = record-at f rs i (both-true (f r) _ a .1) (omega arith)
-
-pub ids-length : (Γ : Context) → length (ids Γ) ≡ length Γ
-ids-length Γ = length-map Γ idOf
+use Rattle.scope_spec.specs.Flat.{smallRecord}
 
 pub uses-few : (r : Record) → smallRecord r ≡ true → length (usesOf r) ≤ 33
 uses-few (definition x Γ) h = omega arith

@@ -9,7 +9,7 @@ use Rattle.syntax.specs.declared.sets.IdSet.{IdSet}
 use Rattle.image_directory.specs.Slots.{Ready, recordsIn}
 use Rattle.image_directory.specs.declared.Frame.{Frame}
 use Rattle.scope_spec.specs.Flat.{allRecords, smallRecord}
-use Rattle.scope_check.specs.Scoping.{Scope}
+use Rattle.scope_places.specs.Scoping.{Scope}
 
 -- an accepted image whose counts have passed question 7
 pub record Source (g : Frame) (s : List ℕ) : Type 0 where

@@ -23,7 +23,7 @@ ghost use Rattle.image_places_spec.specs.Views.{binders, usesOf};
 ghost use Rattle.scope_spec.specs.Flat.{smallRecord};
 ghost use Rattle.image_read_parts.specs.Parts.{listOf};
 ghost use Rattle.image_read_nodes.specs.Nodes.{recordAt, At, hasList, operandOf, secondOf};
-ghost use Rattle.scope_check.specs.Scoping.{Scope};
+ghost use Rattle.scope_places.specs.Scoping.{Scope};
 ghost use Rattle.annotate_uses.specs.Sets.{Room};
 ghost use Rattle.annotate_uses.specs.Sources.{BoundBy};
 
@@ -72,7 +72,7 @@ fn add_second(image: &[u8], frame: Frame, i: usize, set: IdSet) -> IdSet
     ensures { λ r. ⌜ SetHolds r (setOf set ++ optionalId (secondOf (recordAt frame (now (image .entry)) i))) ⌝ }
 {
     let w = frame.id;
-    let mark = Kind::fixed(10, w);
+    let mark = Kind::fixed(Kind::IFC, w);
     if byte(image, frame, i, mark) == 0 {
         return set;
     }
@@ -85,23 +85,29 @@ pub fn uses(image: &[u8], frame: Frame, i: usize, kind: u8) -> IdSet
     requires { ⌜ At frame (now image) i kind × (smallRecord (recordAt frame (now image) i) ≡ true) ⌝ }
     ensures { λ r. ⌜ SetHolds r (usesOf (recordAt frame (now (image .entry)) i)) ⌝ }
 {
-    if kind == 3 {
-        return add_list(image, frame, i, 3, IdSet::empty());
+    if kind == Kind::CALL {
+        return add_list(image, frame, i, Kind::CALL, IdSet::empty());
     }
-    if kind == 4 {
-        return add_list(image, frame, i, 4, IdSet::empty());
+    if kind == Kind::LET {
+        return add_list(image, frame, i, Kind::LET, IdSet::empty());
     }
-    if kind == 5 {
-        return only(first(image, frame, i, 5));
+    if kind == Kind::SWITCH {
+        return only(first(image, frame, i, Kind::SWITCH));
     }
-    if kind == 7 {
-        return add_list(image, frame, i, 7, only(first(image, frame, i, 7)));
+    if kind == Kind::INVOKE {
+        return add_list(
+            image,
+            frame,
+            i,
+            Kind::INVOKE,
+            only(first(image, frame, i, Kind::INVOKE)),
+        );
     }
-    if kind == 9 {
-        return add_operand(image, frame, i, only(first(image, frame, i, 9)));
+    if kind == Kind::OP {
+        return add_operand(image, frame, i, only(first(image, frame, i, Kind::OP)));
     }
-    if kind == 10 {
-        return add_second(image, frame, i, only(first(image, frame, i, 10)));
+    if kind == Kind::IFC {
+        return add_second(image, frame, i, only(first(image, frame, i, Kind::IFC)));
     }
     IdSet::empty()
 }
@@ -111,27 +117,27 @@ pub fn bind(image: &[u8], frame: Frame, i: usize, kind: u8, bound: IdSet) -> IdS
     requires { ⌜ At frame (now image) i kind × (Scope bound × (length (setOf bound ++ binders (recordAt frame (now image) i)) ≤ 64)) ⌝ }
     ensures { λ r. ⌜ BoundBy r (setOf bound ++ binders (recordAt frame (now (image .entry)) i)) ⌝ }
 {
-    if kind == 4 {
-        let x = first(image, frame, i, 4);
+    if kind == Kind::LET {
+        let x = first(image, frame, i, Kind::LET);
         return bound.add(x.id);
     }
-    if kind == 6 {
-        let x = first(image, frame, i, 6);
+    if kind == Kind::CREATE {
+        let x = first(image, frame, i, Kind::CREATE);
         return bound.add(x.id);
     }
-    if kind == 8 {
-        let x = first(image, frame, i, 8);
+    if kind == Kind::LITERAL {
+        let x = first(image, frame, i, Kind::LITERAL);
         return bound.add(x.id);
     }
-    if kind == 9 {
+    if kind == Kind::OP {
         let x = target(image, frame, i);
         return bound.add(x.id);
     }
-    if kind == 1 {
-        return add_list(image, frame, i, 1, bound);
+    if kind == Kind::DEFINITION {
+        return add_list(image, frame, i, Kind::DEFINITION, bound);
     }
-    if kind == 11 {
-        return add_list(image, frame, i, 11, bound);
+    if kind == Kind::CLAUSE {
+        return add_list(image, frame, i, Kind::CLAUSE, bound);
     }
     bound
 }

@@ -16,6 +16,23 @@ pub struct Frame {
     pub start: usize,
 }
 
+impl Frame {
+    // The limits of a source (question 7): its records, a count in one of them, and its statements' depth.
+    pub const MAX_SOURCE_RECORDS: usize = 2000;
+
+    pub const MAX_SOURCE_COUNT: u8 = 32;
+
+    pub const MAX_SOURCE_DEPTH: usize = 64;
+
+    // What linearization works with, by the records of its source: at most two are written for each.
+    pub const MAX_OUTPUT_RECORDS: usize = 2 * Frame::MAX_SOURCE_RECORDS;
+
+    // What is worked with is cleared in each call, so a small image gets less of it.
+    pub const FEW_SOURCE_RECORDS: usize = 64;
+
+    pub const FEW_OUTPUT_RECORDS: usize = 2 * Frame::FEW_SOURCE_RECORDS;
+}
+
 // A pair of the directory, or none where the bytes end.
 pub enum Slot {
     Here { offset: usize, size: usize },

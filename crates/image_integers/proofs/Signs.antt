@@ -15,10 +15,6 @@ use mir.ValLaws.{toZ-fits}
 pub back : (a : ℤ) → SFits w64 a → toZ w64 (ofZ w64 a) ≡ a
 back a f = toZ-ofZ f
 
--- two numbers with the same bits are one
-pub same-bits : (a b : ℤ) → SFits w64 a → SFits w64 b → ofZ w64 a ≡ ofZ w64 b → a ≡ b
-same-bits a b f g e = sym (back a f) ∙ ap (toZ w64) e ∙ back b g
-
 -- by the sign
 negative : (a : ℤ) → ltZ a (pos 0) ≡ true → a ≡ negsuc (mag a)
 negative (pos n) t = absurd (false≢true (sym (le-ltb n 0 (omega arith)) ∙ t))

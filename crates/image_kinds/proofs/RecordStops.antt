@@ -81,7 +81,8 @@ module _ (w : ℕ) (s : List ℕ) (f : Found) where
   unfolding content contents
   stop11 = stop-via _ (both (identifier w) (list w)) s f ∙ idThen (list w) f
 
-up : (a : ℕ) {b : ℕ} → a ≤ b → (b ≡ a → ⊥) → suc a ≤ b
+-- past one more
+pub up : (a : ℕ) {b : ℕ} → a ≤ b → (b ≡ a → ⊥) → suc a ≤ b
 up a h n = omega arith
 
 pub content-other : (w k : ℕ) (s : List ℕ) (f : Found) → (k ≡ 1 → ⊥) → (k ≡ 2 → ⊥) → (k ≡ 3 → ⊥) → (k ≡ 4 → ⊥) → (k ≡ 5 → ⊥) → (k ≡ 6 → ⊥)

@@ -14,6 +14,30 @@ pub struct Kind {
 }
 
 impl Kind {
+    // The kind bytes.
+    pub const DEFINITION: u8 = 1;
+
+    pub const SUBSTITUTE: u8 = 2;
+
+    pub const CALL: u8 = 3;
+
+    pub const LET: u8 = 4;
+
+    pub const SWITCH: u8 = 5;
+
+    pub const CREATE: u8 = 6;
+
+    pub const INVOKE: u8 = 7;
+
+    pub const LITERAL: u8 = 8;
+
+    pub const OP: u8 = 9;
+
+    pub const IFC: u8 = 10;
+
+    pub const CLAUSE: u8 = 11;
+
+    // One more than the last.
     pub const COUNT: u8 = 12;
 
     // By the kind byte; 0 is no kind.

@@ -58,10 +58,10 @@ pub fn list_at(image: &[u8], frame: Frame, i: usize, kind: u8) -> usize
 fn first_at(kind: u8) -> usize
     ensures { λ r. ⌜ r ≡ firstAt kind ⌝ }
 {
-    if kind == 8 {
+    if kind == Kind::LITERAL {
         return 9;
     }
-    if kind == 10 {
+    if kind == Kind::IFC {
         return 2;
     }
     1

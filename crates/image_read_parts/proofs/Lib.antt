@@ -2,5 +2,4 @@
 pub mod StandingLaws
 pub mod PartPlaces
 pub mod TailPlaces
-pub mod AtIndex
 pub mod NamedPlaces

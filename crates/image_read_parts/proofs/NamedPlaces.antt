@@ -1,5 +1,5 @@
--- Where the parts by name stand, in a record and in bytes where the record stands: a var (`var-at-first`, `var-at-literal`,
--- `var-at-op`) and a list (`count-at`, `binding-at-place`). Assumes nothing.
+-- Where a record's list stands, in the record and in bytes where the record stands: its count (`count-at`) and its bindings
+-- (`binding-at-place`). Assumes nothing.
 use Prim.Native.Nat.{ℕ, _+_, _*_, _≤_, _<_}
 use mathlib.Core.List.{List}
 use mathlib.Core.Path.{_≡_, refl, ap, sym, _∙_, subst}
@@ -13,51 +13,12 @@ use Rattle.image_spec.specs.Records.{Record, definition, substitute, call, let'
 use Rattle.image_spec.specs.Kinds.{kindOf, fixed, tailBytes}
 use Rattle.image_spec.proofs.FieldLaws.{identifier-length, binding-length}
 use Rattle.image_read_parts.specs.Standing.{Stands}
-use Rattle.image_read_parts.specs.Parts.{varOf, HasVar, listOf, HasList}
+use Rattle.image_read_parts.specs.Parts.{listOf, HasList}
 use Rattle.image_read_parts.proofs.StandingLaws.{inner, stands-room, kind-stands}
 use Rattle.image_read_parts.proofs.TailPlaces.{list-count, list-binding}
-use Rattle.image_read_parts.proofs.PartPlaces.{byteOf, let-var, switch-var, create-var, invoke-var, literal-var, op-var}
+use Rattle.image_read_parts.proofs.PartPlaces.{byteOf}
 
 module _ (w : ℕ) where
-  pub var-here : (r : Record) → RecordOk w r → HasVar r → (kindOf r ≡ 8 → ⊥) → (kindOf r ≡ 9 → ⊥) → Stands (identifierBytes w) (IdentifierOk w) (recordBytes w r) 1 (varOf r)
-  var-here (definition x Γ) ok h a b = absurd h
-  var-here (substitute ps) ok h a b = absurd h
-  var-here (call x Γ) ok h a b = absurd h
-  var-here (let' v t g Γ) ok h a b = let-var w v t g Γ ok
-  var-here (switch v t n) ok h a b = switch-var w v t n ok
-  var-here (create v t e n) ok h a b = create-var w v t e n ok
-  var-here (invoke v g t Γ) ok h a b = invoke-var w v g t Γ ok
-  var-here (literal z v) ok h a b = absurd (a refl)
-  var-here (op f o s v) ok h a b = absurd (b refl)
-  var-here (ifc c f s) ok h a b = absurd h
-  var-here (clause' x Γ) ok h a b = absurd h
-
-  pub var-literal : (r : Record) → RecordOk w r → kindOf r ≡ 8 → Stands (identifierBytes w) (IdentifierOk w) (recordBytes w r) 9 (varOf r)
-  var-literal (definition x Γ) ok h = absurd (omega arith)
-  var-literal (substitute ps) ok h = absurd (omega arith)
-  var-literal (call x Γ) ok h = absurd (omega arith)
-  var-literal (let' v t g Γ) ok h = absurd (omega arith)
-  var-literal (switch v t n) ok h = absurd (omega arith)
-  var-literal (create v t e n) ok h = absurd (omega arith)
-  var-literal (invoke v g t Γ) ok h = absurd (omega arith)
-  var-literal (literal z v) ok h = literal-var w z v ok
-  var-literal (op f o s v) ok h = absurd (omega arith)
-  var-literal (ifc c f s) ok h = absurd (omega arith)
-  var-literal (clause' x Γ) ok h = absurd (omega arith)
-
-  pub var-op : (r : Record) → RecordOk w r → kindOf r ≡ 9 → Stands (identifierBytes w) (IdentifierOk w) (recordBytes w r) (6 + (w + w)) (varOf r)
-  var-op (definition x Γ) ok h = absurd (omega arith)
-  var-op (substitute ps) ok h = absurd (omega arith)
-  var-op (call x Γ) ok h = absurd (omega arith)
-  var-op (let' v t g Γ) ok h = absurd (omega arith)
-  var-op (switch v t n) ok h = absurd (omega arith)
-  var-op (create v t e n) ok h = absurd (omega arith)
-  var-op (invoke v g t Γ) ok h = absurd (omega arith)
-  var-op (literal z v) ok h = absurd (omega arith)
-  var-op (op f o s v) ok h = op-var w f o s v ok
-  var-op (ifc c f s) ok h = absurd (omega arith)
-  var-op (clause' x Γ) ok h = absurd (omega arith)
-
   pub tail-list : (r : Record) → HasList r → tailBytes w r ≡ listBytes w (listOf r)
   tail-list (definition x Γ) h = refl
   tail-list (substitute ps) h = absurd h
@@ -87,20 +48,6 @@ module _ (w : ℕ) where
 
 -- the same in bytes where a record stands
 module _ (w : ℕ) (s : List ℕ) (o : ℕ) (r : Record) (st : Stands (recordBytes w) (RecordOk w) s o r) where
-  kind-is : (k : ℕ) → getD s o 0 ≡ k → kindOf r ≡ k
-  kind-is k e = sym (kind-stands w st .0) ∙ e
-
-  pub var-at-literal : getD s o 0 ≡ 8 → Stands (identifierBytes w) (IdentifierOk w) s (o + 9) (varOf r)
-  var-at-literal e = inner (2 + w) (identifier-length w (varOf r)) (omega arith) st (var-literal w r (st .fits) (kind-is 8 e))
-
-  pub var-at-op : getD s o 0 ≡ 9 → Stands (identifierBytes w) (IdentifierOk w) s (o + (6 + (w + w))) (varOf r)
-  var-at-op e = inner (2 + w) (identifier-length w (varOf r)) (omega arith) st (var-op w r (st .fits) (kind-is 9 e))
-
-  pub var-at-first : HasVar r → (getD s o 0 ≡ 8 → ⊥) → (getD s o 0 ≡ 9 → ⊥) → Stands (identifierBytes w) (IdentifierOk w) s (o + 1) (varOf r)
-  var-at-first h a b =
-      let k = kind-stands w st .0 in
-      inner (2 + w) (identifier-length w (varOf r)) (omega arith) st (var-here w r (st .fits) h (λ e. a (k ∙ e)) (λ e. b (k ∙ e)))
-
   -- a list whose record's fixed part ends at n
   pub count-at : HasList r → (n : ℕ) → n ≡ fixed w (getD s o 0) → Stands byteOf (λ _. Unit {0}) s (o + n) (length (listOf r))
   count-at h n e =

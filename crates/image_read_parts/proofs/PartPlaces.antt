@@ -17,7 +17,7 @@ use Rattle.syntax.specs.declared.op.BinOp.{BinOp}
 use Rattle.syntax.specs.declared.ifc.IfSort.{IfSort}
 use Rattle.image_spec.specs.Parse.{mark}
 use Rattle.image_spec.specs.Fields.{operatorCode, sortCode, integerBytes, identifierBytes, typeBytes, listBytes, IdentifierOk, TypeOk}
-use Rattle.image_spec.specs.Records.{definition, call, let', switch, create, invoke, literal, op, ifc, clause', recordBytes, RecordOk}
+use Rattle.image_spec.specs.Records.{let', switch, create, invoke, literal, op, ifc, recordBytes, RecordOk}
 use Rattle.image_spec.proofs.FieldLaws.{identifier-length, type-length}
 use Rattle.image_read_parts.specs.Standing.{Stands}
 
@@ -30,18 +30,6 @@ abbrev pub byteOf : ℕ → List ℕ
 byteOf b = b ∷ []
 
 module _ (w : ℕ) where
-  pub definition-name : (x : Identifier) (Γ : Context) → RecordOk w (definition x Γ) → Stands (identifierBytes w) (IdentifierOk w) (recordBytes w (definition x Γ)) 1 x
-  unfolding recordBytes RecordOk
-  definition-name x Γ ok = stands-here (1 ∷ []) (listBytes w Γ) 1 refl (ok .0) refl
-
-  pub call-label : (x : Identifier) (Γ : Context) → RecordOk w (call x Γ) → Stands (identifierBytes w) (IdentifierOk w) (recordBytes w (call x Γ)) 1 x
-  unfolding recordBytes RecordOk
-  call-label x Γ ok = stands-here (3 ∷ []) (listBytes w Γ) 1 refl (ok .0) refl
-
-  pub clause-xtor : (x : Identifier) (Γ : Context) → RecordOk w (clause' x Γ) → Stands (identifierBytes w) (IdentifierOk w) (recordBytes w (clause' x Γ)) 1 x
-  unfolding recordBytes RecordOk
-  clause-xtor x Γ ok = stands-here (11 ∷ []) (listBytes w Γ) 1 refl (ok .0) refl
-
   pub let-var : (v : Identifier) (t : Ty) (g : Identifier) (Γ : Context) → RecordOk w (let' v t g Γ) → Stands (identifierBytes w) (IdentifierOk w) (recordBytes w (let' v t g Γ)) 1 v
   unfolding recordBytes RecordOk
   let-var v t g Γ ok = stands-here (4 ∷ []) (typeBytes w t ++ (identifierBytes w g ++ listBytes w Γ)) 1 refl (ok .0) refl

@@ -6,7 +6,7 @@ use mathlib.Core.Option.{some}
 use mathlib.Core.Path.{_≡_, refl, ap, sym, _∙_, subst}
 use native.Mathlib.Omega.{arith}
 use lib.ListN.{length, drop, getD, length-append, length-drop, take-append-drop}
-use lib.Seq.{drop-drop, drop-at, getD-drop}
+use lib.Seq.{drop-drop, drop-at, drop-append-le, getD-drop}
 use native.Mathlib.Nat.{add-zero}
 use mir.Syntax.{w64}
 use mir.Val.{SFits, ofZ, toZ}
@@ -53,10 +53,6 @@ number-run l m k w n v e h q = let x : number w l ≡ got n m = ap (number w) e 
 
 pub code-is : {A : Type 0} {vs : List A} {b : ℕ} {r : A} → numbered vs b ≡ some r → IsCode vs b r
 code-is e = record { is = λ a h. cc (e, h) }
-
--- past one more
-pub up : (a : ℕ) {b : ℕ} → a ≤ b → (b ≡ a → ⊥) → suc a ≤ b
-up a h n = omega arith
 
 pub code-at : {A : Type 0} {vs : List A} {b : ℕ} {r : A} (k : ℕ) → b ≡ k → numbered vs k ≡ some r → IsCode vs b r
 code-at {vs = vs} k e h = code-is (ap (numbered vs) e ∙ h)
@@ -156,17 +152,12 @@ module _ (w : ℕ) {s : List ℕ} {at : ℕ} where
 pub stands-in : {A B : Type 0} {e : A → List ℕ} {f : B → List ℕ} {P : A → Type 0} {Q : B → Type 0} {s : List ℕ} {o at : ℕ} {a : A} {b : B}
     → at ≤ length (e a) → Stands e P s o a → Stands f Q (e a) at b → Stands f Q s (o + at) b
 stands-in {e = e} {f = f} {s = s} {o = o} {at = at} {a = a} {b = b} n h k =
-    let d : drop at (e a ++ h .others) ≡ drop at (e a) ++ h .others = drop-before (e a) (h .others) at n in
+    let d : drop at (e a ++ h .others) ≡ drop at (e a) ++ h .others = drop-append-le at (e a) (h .others) n in
     record {
       others = k .others ++ h .others;
       bytes = sym (drop-drop at o s) ∙ (ap (drop at) (h .bytes) ∙ (d ∙ (ap (λ z. z ++ h .others) (k .bytes) ∙ append-assoc (f b) (k .others) (h .others))));
       fits = k .fits;
     }
-  where
-    drop-before : (l m : List ℕ) (n : ℕ) → n ≤ length l → drop n (l ++ m) ≡ drop n l ++ m
-    drop-before l m zero h = refl
-    drop-before [] m (suc n) h = absurd (omega arith)
-    drop-before (x ∷ l) m (suc n) h = drop-before l m n (omega arith)
 
 -- what is read past the bytes of a record's part is what is read in the record
 pub reads-in : {A B : Type 0} {e : A → List ℕ} {f : B → List ℕ} {P : A → Type 0} {Q : B → Type 0} {s : List ℕ} {o at : ℕ} {a : A} {r : B}
@@ -208,12 +199,6 @@ pub inner : {A B : Type 0} {e : A → List ℕ} {f : B → List ℕ} {P : A → 
 inner {e = e} {f = f} {b = b} n k z h d =
     let p : 0 < length (f b) = omega arith in
     stands-in (omega (arith, stands-room {e = f} p d)) h d
-
-pub inner-room : {A B : Type 0} {e : A → List ℕ} {f : B → List ℕ} {P : A → Type 0} {Q : B → Type 0} {s : List ℕ} {o at : ℕ} {a : A} {b : B} (n : ℕ) → length (f b) ≡ n → 0 < n
-    → Stands e P s o a → Stands f Q (e a) at b → o + at + n ≤ length s
-inner-room {e = e} {f = f} {b = b} n k z h d =
-    let p : 0 < length (f b) = omega arith in
-    omega (arith, stands-room {e = f} p (inner n k z h d))
 
 -- the kind byte of a record that stands at a place
 pub kind-stands : (w : ℕ) {s : List ℕ} {o : ℕ} {r : Record} → Stands (recordBytes w) (RecordOk w) s o r → (getD s o 0 ≡ kindOf r) × (o < length s)

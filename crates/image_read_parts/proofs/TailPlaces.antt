@@ -1,18 +1,16 @@
--- Where counts, bindings and marks stand in the bytes of a record: at the end of its fixed part, as long as the table of kinds says.
+-- Where the count and the bindings of a list stand in the bytes of a record: at the end of its fixed part, as long as the table of kinds says.
 -- w is the number of bytes of an ID. Assumes nothing.
 use Prim.Native.Nat.{ℕ, zero, suc, _+_, _*_, _<_}
-use mathlib.Core.List.{List, [], _∷_, _++_, append-nil}
-use mathlib.Core.Option.{none, some}
+use mathlib.Core.List.{List, [], _∷_}
 use mathlib.Core.Path.{_≡_, ap, sym, _∙_}
 use native.Mathlib.Omega.{arith}
 use native.Mathlib.Nat.{suc-mul, zero-mul}
 use lib.ListN.{length, drop, getD}
 use lib.Seq.{drop-drop, drop-at}
 use Rattle.syntax.specs.Context.{Context}
-use Rattle.syntax.specs.declared.names.Identifier.{Identifier}
 use Rattle.syntax.specs.declared.context.ContextBinding.{ContextBinding}
-use Rattle.image_spec.specs.Parse.{each, All, mark}
-use Rattle.image_spec.specs.Fields.{identifierBytes, bindingBytes, listBytes, IdentifierOk, BindingOk, ListOk}
+use Rattle.image_spec.specs.Parse.{each, All}
+use Rattle.image_spec.specs.Fields.{bindingBytes, listBytes, BindingOk, ListOk}
 use Rattle.image_spec.specs.Records.{Record, recordBytes, RecordOk}
 use Rattle.image_spec.specs.Kinds.{kindOf, fixed, tailBytes}
 use Rattle.image_spec.proofs.FieldLaws.{binding-length}
@@ -59,26 +57,3 @@ module _ (w : ℕ) where
               ∙ (sym (drop-drop (j * (6 + (w + w))) 1 (drop (fixed w (kindOf r)) (recordBytes w r))) ∙ (ap (drop (j * (6 + (w + w)))) e ∙ b .bytes));
           fits = b .fits;
         }
-
-  -- the mark of an IfC's second operand, and the operand
-  pub ifc-none : (r : Record) → tailBytes w r ≡ mark (identifierBytes w) none → Stands byteOf (λ _. Unit {0}) (recordBytes w r) (fixed w (kindOf r)) 0
-  ifc-none r is = record { others = []; bytes = tail-at w r ∙ is; fits = tt }
-
-  pub ifc-some : (r : Record) (x : Identifier) → tailBytes w r ≡ mark (identifierBytes w) (some x) → Stands byteOf (λ _. Unit {0}) (recordBytes w r) (fixed w (kindOf r)) 1
-  ifc-some r x is = record { others = identifierBytes w x; bytes = tail-at w r ∙ is; fits = tt }
-
-  pub ifc-snd : (r : Record) (x : Identifier) → tailBytes w r ≡ mark (identifierBytes w) (some x) → IdentifierOk w x
-      → Stands (identifierBytes w) (IdentifierOk w) (recordBytes w r) (fixed w (kindOf r) + 1) x
-  ifc-snd r x is ok = record {
-    others = [];
-    bytes = sym (drop-drop 1 (fixed w (kindOf r)) (recordBytes w r)) ∙ (ap (drop 1) (tail-at w r ∙ is) ∙ sym (append-nil (identifierBytes w x)));
-    fits = ok;
-  }
-
-  -- the mark of a Create's environment
-  pub create-none : (r : Record) (n : ℕ) → tailBytes w r ≡ mark (listBytes w) none ++ (n ∷ []) → Stands byteOf (λ _. Unit {0}) (recordBytes w r) (fixed w (kindOf r)) 0
-  create-none r n is = record { others = n ∷ []; bytes = tail-at w r ∙ is; fits = tt }
-
-  pub create-some : (r : Record) (Γ : Context) (n : ℕ) → tailBytes w r ≡ mark (listBytes w) (some Γ) ++ (n ∷ [])
-      → Stands byteOf (λ _. Unit {0}) (recordBytes w r) (fixed w (kindOf r)) 1
-  create-some r Γ n is = record { others = listBytes w Γ ++ (n ∷ []); bytes = tail-at w r ∙ is; fits = tt }

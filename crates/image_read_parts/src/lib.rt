@@ -24,7 +24,7 @@ ghost use Rattle.image_spec.specs.Fields.{chiralities, operators, sorts, intege
 ghost use Rattle.image_spec.specs.Records.{recordBytes, RecordOk};
 ghost use Rattle.image_directory.specs.Slots.{Ready, recordsIn};
 ghost use Rattle.syntax.specs.Context.{emptyBinding};
-ghost use Rattle.image_read_parts.specs.Parts.{varOf, HasVar, listOf, HasList};
+ghost use Rattle.image_read_parts.specs.Parts.{listOf, HasList};
 ghost use Rattle.image_read_parts.specs.Standing.{Stands, ReadsAs, IsCode, headOf, Room, RoomIn};
 
 fn half(n: u32) -> u16
@@ -169,23 +169,6 @@ pub fn binding(image: &[u8], frame: Frame, i: usize, at: usize) -> ContextBindin
     let w = frame.id;
     let start = offset(image, frame, i);
     binding_at(image, w, start + at)
-}
-
-// The var of the record at index i, which is that of a Let, Switch, Create, Invoke, Literal or Op.
-pub fn var(image: &[u8], frame: Frame, i: usize) -> Identifier
-    requires { ⌜ Ready frame (now image) × ((i < frame .count) × HasVar (headOf (drop i (recordsIn frame (now image))))) ⌝ }
-    ensures { λ r. ⌜ r ≡ varOf (headOf (drop i (recordsIn frame (now (image .entry))))) ⌝ }
-{
-    let w = frame.id;
-    let start = offset(image, frame, i);
-    let kind = image[start];
-    if kind == 8 {
-        return identifier_at(image, w, start + 9);
-    }
-    if kind == 9 {
-        return identifier_at(image, w, start + (6 + (w + w)));
-    }
-    identifier_at(image, w, start + 1)
 }
 
 // How many bindings the list of the record at index i has, which is a definition, Call, Let, Invoke or clause.

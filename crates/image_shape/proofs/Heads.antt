@@ -3,6 +3,7 @@ use Prim.Native.Nat.{ℕ, _+_, _-_, _≤_, _<_}
 use mathlib.Core.List.{List, [], _∷_}
 use mathlib.Core.Bool.{Bool, true, false, cond}
 use mathlib.Core.Path.{_≡_, refl, ap, sym, _∙_}
+use mathlib.Core.Logic.{inl, inr}
 use native.Mathlib.Omega.{arith}
 use borrow.Author.Tests.{le-leb}
 use lib.Dec.{leb, eqb}
@@ -19,7 +20,7 @@ use Rattle.image_fields.proofs.Stops.{stop-none, never-stops}
 use Rattle.image_directory.specs.Slots.{recordsIn, Ready}
 use Rattle.image_directory.specs.declared.Frame.{Frame}
 use Rattle.image_directory.proofs.Places.{records-length, Spot}
-use Rattle.image_shape.specs.Nodes.{nodeOf}
+use Rattle.image_shape.specs.Nodes.{nodeOf, IsHead, headParser}
 use Rattle.image_shape.specs.declared.Node.the-variants.{Is, End}
 
 -- the node of the record at a place of an image
@@ -94,19 +95,6 @@ clause-not (op f o g v) h n l = refl
 clause-not (ifc c f g) h n l = refl
 clause-not (clause' x bs) h n l = absurd (h refl)
 
-pub clause-head : (rs : List Record) (i k c : ℕ) → nodeOf (drop i rs) ≡ Is k c → k ≡ 11 → stop clauseHead rs (At i) ≡ At (i + 1)
-clause-head rs i k c h e =
-    let v = place rs i k c h in
-    at-record {B = ℕ} clauseHead (λ l. got 0 l) rs i (v .head) (v .fits) (v .list) (clause-yes (v .head) (sym (v .kind) ∙ e)) ∙ stop-none {A = ℕ} 0 rs (At (i + 1)) (v .fits)
-
-pub clause-other : (rs : List Record) (i k c : ℕ) → nodeOf (drop i rs) ≡ Is k c → (k ≡ 11 → ⊥) → stop clauseHead rs (At i) ≡ Nothing
-clause-other rs i k c h e =
-    let v = place rs i k c h in
-    at-record {B = ℕ} clauseHead (λ l. refused) rs i (v .head) (v .fits) (v .list) (clause-not (v .head) (λ q. e (v .kind ∙ q))) ∙ never-stops Record ℕ rs (At (i + 1))
-
-pub clause-end : (rs : List Record) (i : ℕ) → nodeOf (drop i rs) ≡ End → stop clauseHead rs (At i) ≡ Nothing
-clause-end rs i h = at-end clauseHead rs i refl h
-
 definition-yes : (r : Record) → kindOf r ≡ 1 → (n : ℕ) (l : List Record) → foundIn n (definitionHead (r ∷ l)) ≡ foundIn {A = ℕ} n (got 0 l)
 definition-yes (definition i bs) h n l = refl
 definition-yes (substitute ps) h n l = absurd (omega arith)
@@ -133,18 +121,32 @@ definition-not (op f o g v) h n l = refl
 definition-not (ifc c f g) h n l = refl
 definition-not (clause' x bs) h n l = refl
 
-pub definition-head : (rs : List Record) (i k c : ℕ) → nodeOf (drop i rs) ≡ Is k c → k ≡ 1 → stop definitionHead rs (At i) ≡ At (i + 1)
-definition-head rs i k c h e =
-    let v = place rs i k c h in
-    at-record {B = ℕ} definitionHead (λ l. got 0 l) rs i (v .head) (v .fits) (v .list) (definition-yes (v .head) (sym (v .kind) ∙ e)) ∙ stop-none {A = ℕ} 0 rs (At (i + 1)) (v .fits)
+-- by a record's kind: the head that is looked for, or not
+head-yes : (k : ℕ) → IsHead k → (r : Record) → kindOf r ≡ k → (n : ℕ) (l : List Record) → foundIn n (headParser k (r ∷ l)) ≡ foundIn {A = ℕ} n (got 0 l)
+head-yes k (inl e) r h = rw e (definition-yes r (h ∙ e))
+head-yes k (inr e) r h = rw e (clause-yes r (h ∙ e))
 
-pub definition-other : (rs : List Record) (i k c : ℕ) → nodeOf (drop i rs) ≡ Is k c → (k ≡ 1 → ⊥) → stop definitionHead rs (At i) ≡ Nothing
-definition-other rs i k c h e =
-    let v = place rs i k c h in
-    at-record {B = ℕ} definitionHead (λ l. refused) rs i (v .head) (v .fits) (v .list) (definition-not (v .head) (λ q. e (v .kind ∙ q))) ∙ never-stops Record ℕ rs (At (i + 1))
+head-not : (k : ℕ) → IsHead k → (r : Record) → (kindOf r ≡ k → ⊥) → (n : ℕ) (l : List Record) → foundIn n (headParser k (r ∷ l)) ≡ foundIn {X = Record} {A = ℕ} n refused
+head-not k (inl e) r h = rw e (definition-not r (λ q. h (q ∙ sym e)))
+head-not k (inr e) r h = rw e (clause-not r (λ q. h (q ∙ sym e)))
 
-pub definition-end : (rs : List Record) (i : ℕ) → nodeOf (drop i rs) ≡ End → stop definitionHead rs (At i) ≡ Nothing
-definition-end rs i h = at-end definitionHead rs i refl h
+head-empty : (k : ℕ) → IsHead k → headParser k [] ≡ refused
+head-empty k (inl e) = rw e refl
+head-empty k (inr e) = rw e refl
+
+module _ (w : ℕ) (o : IsHead w) (rs : List Record) (i : ℕ) where
+  pub head-here : (k c : ℕ) → nodeOf (drop i rs) ≡ Is k c → k ≡ w → stop (headParser w) rs (At i) ≡ At (i + 1)
+  head-here k c h e =
+      let v = place rs i k c h in
+      at-record {B = ℕ} (headParser w) (λ l. got 0 l) rs i (v .head) (v .fits) (v .list) (head-yes w o (v .head) (sym (v .kind) ∙ e)) ∙ stop-none {A = ℕ} 0 rs (At (i + 1)) (v .fits)
+
+  pub head-other : (k c : ℕ) → nodeOf (drop i rs) ≡ Is k c → (k ≡ w → ⊥) → stop (headParser w) rs (At i) ≡ Nothing
+  head-other k c h e =
+      let v = place rs i k c h in
+      at-record {B = ℕ} (headParser w) (λ l. refused) rs i (v .head) (v .fits) (v .list) (head-not w o (v .head) (λ q. e (v .kind ∙ q))) ∙ never-stops Record ℕ rs (At (i + 1))
+
+  pub head-end : nodeOf (drop i rs) ≡ End → stop (headParser w) rs (At i) ≡ Nothing
+  head-end h = at-end (headParser w) rs i (head-empty w o) h
 
 -- there are few records, and a place with one is small
 pub place-few : (g : Frame) (s : List ℕ) (i k c : ℕ) → Ready g s → nodeOf (drop i (recordsIn g s)) ≡ Is k c → i + 1 ≤ 4000

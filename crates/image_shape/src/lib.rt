@@ -10,11 +10,11 @@ ghost use mathlib.Core.Path.{_≡_};
 ghost use Prim.Native.Nat.{_+_, _<_};
 ghost use lib.ListN.{length, drop};
 ghost use Rattle.image_spec.specs.Parse.{times};
-ghost use Rattle.image_spec.specs.Shape.{stmt, clauses, clauseHead, definitionHead, definitions};
+ghost use Rattle.image_spec.specs.Shape.{stmt, clauses, definitions};
 ghost use Rattle.image_spec.specs.Image.{isSome};
 ghost use Rattle.image_fields.specs.Found.{stop, Within};
 ghost use Rattle.image_directory.specs.Slots.{Ready, recordsIn};
-ghost use Rattle.image_shape.specs.Nodes.{nodeOf, partsAt};
+ghost use Rattle.image_shape.specs.Nodes.{nodeOf, IsHead, headParser, partsAt};
 
 // A record as the walk sees it.
 pub enum Node {
@@ -36,13 +36,13 @@ pub fn look(image: &[u8], frame: Frame, i: usize) -> Node
     match read_slot(image, place, from + i * (place + place)) {
         Slot::Here { offset, size } => {
             let kind = image[offset];
-            if kind == 5 {
+            if kind == Kind::SWITCH {
                 return Node::Is {
                     kind,
                     clauses: image[offset + size - 1],
                 };
             }
-            if kind == 6 {
+            if kind == Kind::CREATE {
                 return Node::Is {
                     kind,
                     clauses: image[offset + size - 1],
@@ -54,34 +54,15 @@ pub fn look(image: &[u8], frame: Frame, i: usize) -> Node
     }
 }
 
-// Past the record of a clause.
-fn clause_head(image: &[u8], frame: Frame, f: Found) -> Found
-    requires { ⌜ Ready frame (now image) ⌝ }
-    ensures { λ r. ⌜ r ≡ stop clauseHead (recordsIn frame (now (image .entry))) f ⌝ }
+// Past the record of a definition, or of a clause.
+fn head(image: &[u8], frame: Frame, wanted: u8, f: Found) -> Found
+    requires { ⌜ Ready frame (now image) × IsHead wanted ⌝ }
+    ensures { λ r. ⌜ r ≡ stop (headParser wanted) (recordsIn frame (now (image .entry))) f ⌝ }
 {
     match f {
         Found::At(i) => match look(image, frame, i) {
             Node::Is { kind, clauses: _ } => {
-                if kind == 11 {
-                    return Found::At(i + 1);
-                }
-                Found::Nothing
-            }
-            Node::End => Found::Nothing,
-        },
-        Found::Nothing => Found::Nothing,
-    }
-}
-
-// Past the record of a definition.
-fn definition_head(image: &[u8], frame: Frame, f: Found) -> Found
-    requires { ⌜ Ready frame (now image) ⌝ }
-    ensures { λ r. ⌜ r ≡ stop definitionHead (recordsIn frame (now (image .entry))) f ⌝ }
-{
-    match f {
-        Found::At(i) => match look(image, frame, i) {
-            Node::Is { kind, clauses: _ } => {
-                if kind == 1 {
+                if kind == wanted {
                     return Found::At(i + 1);
                 }
                 Found::Nothing
@@ -109,10 +90,10 @@ fn statement_parts(image: &[u8], frame: Frame, f: Found) -> Parts
     match f {
         Found::At(i) => match look(image, frame, i) {
             Node::Is { kind, clauses } => {
-                if kind == 1 {
+                if kind == Kind::DEFINITION {
                     return Parts::Missing;
                 }
-                if kind == 11 {
+                if kind == Kind::CLAUSE {
                     return Parts::Missing;
                 }
                 Parts::Follow {
@@ -175,7 +156,7 @@ fn skip_clauses(image: &[u8], frame: Frame, depth: usize, n: usize, f: Found) ->
     let mut here = f;
     let mut left = n;
     while 0 < left {
-        here = statement(image, frame, depth, clause_head(image, frame, here));
+        here = statement(image, frame, depth, head(image, frame, Kind::CLAUSE, here));
         left = left - 1;
     }
     here
@@ -193,7 +174,7 @@ pub fn shaped(image: &[u8], frame: Frame, defs: usize) -> bool
             image,
             frame,
             Layout::MAX_DEPTH,
-            definition_head(image, frame, here),
+            head(image, frame, Kind::DEFINITION, here),
         );
         left = left - 1;
     }

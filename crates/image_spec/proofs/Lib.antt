@@ -1,4 +1,5 @@
 -- The laws of the format, in the order in which they build on each other.
+pub mod ListLaws
 pub mod ParseLaws
 pub mod FieldLaws
 pub mod RecordLaws

@@ -18,7 +18,7 @@ use Rattle.image_spec.specs.Layout.{layout1, maxRecords, LayoutOk, heade
 use Rattle.image_spec.specs.Records.{Record, recordBytes}
 use Rattle.image_spec.specs.Shape.{flattenDefs, DefOk, definitions}
 use Rattle.image_spec.specs.Image.{ifGot, ifSome, isSome, Header, headerBytes, header, Entry, entryBytes, entry, tiles, recordsAt, tiledFrom, recordsFrom, entriesOf, imageOf, image, ImageOk}
-use Rattle.image_spec.specs.Reading.{headerOf, definitionCount, recordCount, recordsOf, definitionsOf, question1, question2, question3, question4, question5, programOf, Reading, accept, asked, reading}
+use Rattle.image_spec.specs.Reading.{headerOf, definitionCount, recordCount, recordsOf, definitionsOf, question1, question2, question3, question4, question5, programOf, Reading, accept, ifYes, reading}
 use Rattle.image_spec.proofs.ParseLaws.{Sound, none-read, one-read, Exact, both-exact, times-exact, number-exact}
 use Rattle.image_spec.proofs.ShapeLaws.{parse-flatten, flatten-parse}
 use Rattle.image_spec.proofs.ReadingLaws.{all-yes}
@@ -33,9 +33,9 @@ module _ (L : Layout) where
 
   -- ---- what reads as a program is the image of it
 
-  asked-yes : (t : Bool) (q : Refusal) (next : Reading) (p : Prog) → asked t q next ≡ accept p → (t ≡ true) × (next ≡ accept p)
-  asked-yes true q next p e = (refl, e)
-  asked-yes false q next p e = let z : _≡_ {A = ℕ} 0 1 = cc (e) in absurd (omega arith)
+  yes-accepted : (t : Bool) (q : Refusal) (next : Reading) (p : Prog) → ifYes t q next ≡ accept p → (t ≡ true) × (next ≡ accept p)
+  yes-accepted true q next p e = (refl, e)
+  yes-accepted false q next p e = let z : _≡_ {A = ℕ} 0 1 = cc (e) in absurd (omega arith)
 
   -- an image that is accepted: all answers are yes
   pub record Accepts (s : List ℕ) (p : Prog) : Type 0 where
@@ -49,11 +49,11 @@ module _ (L : Layout) where
   pub accepts : (s : List ℕ) (p : Prog) → reading L s ≡ accept p → Accepts s p
   unfolding reading
   accepts s p e =
-      let a = asked-yes _ _ _ p e in
-      let b = asked-yes _ _ _ p (a .1) in
-      let c = asked-yes _ _ _ p (b .1) in
-      let d = asked-yes _ _ _ p (c .1) in
-      let f = asked-yes _ _ _ p (d .1) in
+      let a = yes-accepted _ _ _ p e in
+      let b = yes-accepted _ _ _ p (a .1) in
+      let c = yes-accepted _ _ _ p (b .1) in
+      let d = yes-accepted _ _ _ p (c .1) in
+      let f = yes-accepted _ _ _ p (d .1) in
       record { yes1 = a .0; yes2 = b .0; yes3 = c .0; yes4 = d .0; yes5 = f .0; is = cc (f .1) }
 
   -- the header that question 2 finds

@@ -1,5 +1,5 @@
 -- Reading a statement from flat records is exact for flattening it, at each depth: `stmt-exact`; and definitions: `definitions-exact`.
--- Flattening and reading in pre-order are inverse within the depth bound: `parse-flatten`, `flatten-parse`. Assumes nothing.
+-- Flattening and reading in pre-order are inverse within the depth bound: `parse-flatten`, `flatten-parse`. How deep definitions are: `shallow-all`. Assumes nothing.
 use Prim.Native.Nat.{ℕ, zero, suc, _+_, _≤_}
 use mathlib.Core.List.{List, [], _∷_, _++_, append-assoc}
 use mathlib.Core.Path.{_≡_, refl, ap}
@@ -9,7 +9,7 @@ use lib.ListN.{length}
 use Rattle.syntax.specs.Context.{Context}
 use Rattle.syntax.specs.declared.names.Identifier.{Identifier}
 use Rattle.model.specs.Syntax.{Stmt, Substitute, Call, Let, Switch, Create, Invoke, Literal, Op, IfC, Clauses, end, clause, Def}
-use Rattle.model.specs.Sizes.{depth, depthClauses, countClauses}
+use Rattle.model.specs.Sizes.{depth, depthClauses, depthDefs, countClauses}
 use Rattle.image_spec.specs.Parse.{got, Parser, times, All}
 use Rattle.image_spec.specs.Records.{Record, definition, substitute, call, let', switch, create, invoke, literal, op, ifc, clause'}
 use Rattle.image_spec.specs.Shape.{flatten, flattenClauses, flattenDef, flattenDefs, clauseHead, definitionHead, clauses, step, stmt, maxDepth, DefOk, oneDef, definitions}
@@ -140,3 +140,8 @@ parse-flatten ds o = whole-left (definitions-exact (length ds)) ds (refl, o)
 pub flatten-parse : (D : ℕ) (rs : List Record) (ds : List Def) → definitions D rs ≡ some ds → ((length ds ≡ D) × All DefOk ds) × (rs ≡ flattenDefs ds)
 unfolding definitions
 flatten-parse D rs ds e = whole-right (definitions-exact D) rs ds e
+
+-- definitions of a small depth are shallow, each
+pub shallow-all : (b : ℕ) (ds : List Def) → depthDefs ds ≤ b → All (λ (e : Def). depth (e .body) ≤ b) ds
+shallow-all b [] h = tt
+shallow-all b (d ∷ ds) h = (omega arith, shallow-all b ds (omega arith))

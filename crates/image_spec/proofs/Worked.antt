@@ -4,7 +4,6 @@ use Prim.Native.Nat.{ℕ}
 use mathlib.Core.List.{List, [], _∷_}
 use mathlib.Core.Path.{_≡_, refl}
 use lib.IntN.{pos}
-use lib.ListN.{length}
 use Rattle.syntax.specs.Context.{Context}
 use Rattle.syntax.specs.declared.names.Identifier.{Identifier}
 use Rattle.syntax.specs.declared.types.Ty.the-variants.{I64}
@@ -49,12 +48,6 @@ linearized-bytes =
     ∷ 0x01 ∷ 0x01 ∷ 0x00 ∷ 0x00 ∷ 0x00 ∷ 0x00
     ∷ 0x08 ∷ 0x07 ∷ 0x00 ∷ 0x00 ∷ 0x00 ∷ 0x00 ∷ 0x00 ∷ 0x00 ∷ 0x00 ∷ 0x02 ∷ 0x00 ∷ 0x01 ∷ 0x00
     ∷ 0x03 ∷ 0x01 ∷ 0x00 ∷ 0x00 ∷ 0x00 ∷ 0x00 ∷ []
-
-pub source-length : length source-bytes ≡ 55
-source-length = refl
-
-pub linearized-length : length linearized-bytes ≡ 45
-linearized-length = refl
 
 pub source-written : image layout1 source ≡ source-bytes
 unfolding image flattenDefs flatten recordBytes

@@ -69,18 +69,18 @@ pub data Reading : Type 0 where
   accept : Prog → Reading
 
 -- a no is the answer; after a yes, the questions that follow decide
-abbrev pub asked : Bool → Refusal → Reading → Reading
-asked true q next = next
-asked false q next = refuse q
+abbrev pub ifYes : Bool → Refusal → Reading → Reading
+ifYes true q next = next
+ifYes false q next = refuse q
 
 -- document 01, "The questions": the first no over the whole image decides. Reading takes 1 to 5
 unfoldable pub reading : Layout → List ℕ → Reading
 reading L s =
-    asked (question1 L s) Size
-    (asked (question2 L s) LayoutNumber
-    (asked (question3 L s) Directory
-    (asked (question4 L s) RecordForm
-    (asked (question5 L s) Shape
+    ifYes (question1 L s) Size
+    (ifYes (question2 L s) LayoutNumber
+    (ifYes (question3 L s) Directory
+    (ifYes (question4 L s) RecordForm
+    (ifYes (question5 L s) Shape
     (accept (programOf L s))))))
 
 -- document 01, "The questions": acceptance reports the bytes written (0 for reading) and the image's max_id

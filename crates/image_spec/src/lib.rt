@@ -22,6 +22,14 @@ impl Layout {
 
     pub const MAX_DEPTH: usize = 128;
 
+    // The depth that is left below a statement.
+    pub const DEPTH_BELOW: usize = Layout::MAX_DEPTH - 1;
+
+    // The largest ID of layout 1 (question 11), and how many there are.
+    pub const MAX_ID: u32 = 65535;
+
+    pub const IDS: usize = 65536;
+
     pub fn one() -> Layout
         ensures { λ r. ⌜ r ≡ layout1 ⌝ }
     {

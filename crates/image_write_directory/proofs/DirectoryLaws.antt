@@ -14,9 +14,9 @@ use Rattle.image_write_directory.specs.Emitting.{entriesFrom, total}
 pub left : (lengths : List ℕ) (n i : ℕ) → List ℕ
 left lengths n i = take (n - i) (drop i lengths)
 
-all-left : (lengths : List ℕ) (n : ℕ) → left lengths n 0 ≡ take n lengths
+left-whole : (lengths : List ℕ) (n : ℕ) → left lengths n 0 ≡ take n lengths
 unfolding left
-all-left lengths n = let e : n - 0 ≡ n = omega arith in ap (λ (k : ℕ). take k lengths) e
+left-whole lengths n = let e : n - 0 ≡ n = omega arith in ap (λ (k : ℕ). take k lengths) e
 
 left-next : (lengths : List ℕ) (n i : ℕ) → i < n → n ≤ length lengths → left lengths n i ≡ getD lengths i 0 ∷ left lengths n (i + 1)
 unfolding left
@@ -41,9 +41,9 @@ pub record DirectoryLeft (w : ℕ) (lengths : List ℕ) (n : ℕ) (out₀ : List
 
 pub directory-begins : (w : ℕ) (lengths : List ℕ) (n : ℕ) (out : List ℕ) (at start : ℕ) → start + total (take n lengths) < 2 ^ 32 → at + 16 * n < 2 ^ 64 → DirectoryLeft w lengths n out at start out start at 0
 directory-begins w lengths n out at start h k = record {
-  fits = rw (all-left lengths n) h;
+  fits = rw (left-whole lengths n) h;
   far = omega arith;
-  ends = λ o m p. puts-as (ap (λ (z : List ℕ). each (entryBytes w) (entriesFrom start z)) (all-left lengths n)) p;
+  ends = λ o m p. puts-as (ap (λ (z : List ℕ). each (entryBytes w) (entriesFrom start z)) (left-whole lengths n)) p;
 }
 
 module _ {w : ℕ} {lengths : List ℕ} {n : ℕ} {out₀ : List ℕ} {at start : ℕ} {out : List ℕ} {place here i : ℕ} (d : DirectoryLeft w lengths n out₀ at start out place here i) where

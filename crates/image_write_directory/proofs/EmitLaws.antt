@@ -1,21 +1,18 @@
 -- Laws of records that are written: none, one, some after others, and some at a place that was kept free for them. Assumes nothing.
 use Prim.Native.Nat.{ℕ, _+_, _-_, _≤_}
 use mathlib.Core.Path.{_≡_, refl, sym, ap, _∙_, subst}
-use mathlib.Core.List.{List, [], _∷_, _++_, append-nil, append-assoc}
+use mathlib.Core.List.{List, [], _∷_, _++_, append-nil}
 use native.Mathlib.Omega.{arith}
-use lib.ListN.{length, set, length-map}
+use lib.ListN.{length, length-map}
 use Rattle.image_spec.specs.Parse.{each}
 use Rattle.image_spec.specs.Records.{Record, recordBytes}
 use Rattle.image_spec.specs.Image.{entriesOf}
 use Rattle.image_spec.specs.declared.Layout.{Layout}
+use Rattle.image_spec.proofs.ListLaws.{each-append}
 use Rattle.image_write_parts.specs.Puts.{Puts}
 use Rattle.image_write_parts.proofs.Putting.{set-past, puts-none, puts-as, puts-then, puts-reserved}
 use Rattle.image_write_directory.specs.Emitting.{sizesOf, Emits, Noted, entriesFrom}
 use Rattle.image_write_directory.specs.declared.progress.Progress.{Progress}
-
-pub each-append : (w : ℕ) (R S : List Record) → each (recordBytes w) (R ++ S) ≡ each (recordBytes w) R ++ each (recordBytes w) S
-each-append w [] S = refl
-each-append w (r ∷ R) S = ap (λ (z : List ℕ). recordBytes w r ++ z) (each-append w R S) ∙ sym (append-assoc (recordBytes w r) (each (recordBytes w) R) (each (recordBytes w) S))
 
 pub sizes-append : (w : ℕ) (R S : List Record) → sizesOf w (R ++ S) ≡ sizesOf w R ++ sizesOf w S
 sizes-append w [] S = refl
@@ -35,16 +32,20 @@ emits-one {w} {out} {out′} {lengths} {lengths′} {p} {q} {next} r a n =
 
 pub emits-then : {w : ℕ} {a b c d e f : List ℕ} {p q r : Progress} {R S : List Record} → Emits w a b d e p q R → Emits w b c e f q r S → Emits w a c d f p r (R ++ S)
 emits-then {w} {R = R} {S = S} x y = record {
-  bytes = puts-as (sym (each-append w R S)) (puts-then (x .bytes) (y .bytes));
+  bytes = puts-as (sym (each-append (recordBytes w) R S)) (puts-then (x .bytes) (y .bytes));
   noted = puts-as (sym (sizes-append w R S)) (puts-then (x .noted) (y .noted));
 }
+
+-- as many more as were written
+pub emits-count : {w : ℕ} {out out′ lengths lengths′ : List ℕ} {p q : Progress} {R : List Record} → Emits w out out′ lengths lengths′ p q R → q .count ≡ p .count + length R
+emits-count {w = w} {p = p} {R = R} e = e .noted .ends ∙ ap (λ (k : ℕ). p .count + k) (length-map R (λ (r : Record). length (recordBytes w r)))
 
 -- S was written behind a place for R, and then R there. (What R leads to is not where the writing goes on.)
 pub emits-reserved : {w : ℕ} {a b c d e f : List ℕ} {p free q r : Progress} {R S : List Record}
     → free .at ≡ p .at + length (each (recordBytes w) R) → free .count ≡ p .count + length R
     → Emits w a b d e free q S → Emits w b c e f p r R → Emits w a c d f p q (R ++ S)
 emits-reserved {w} {a} {b} {c} {d} {e} {f} {p} {free} {q} {r} {R} {S} x y s t = record {
-  bytes = puts-as (sym (each-append w R S)) (puts-reserved {k = length (each (recordBytes w) R)} refl (subst (λ (z : ℕ). Puts a b z (q .at) (each (recordBytes w) S)) x (s .bytes)) (t .bytes));
+  bytes = puts-as (sym (each-append (recordBytes w) R S)) (puts-reserved {k = length (each (recordBytes w) R)} refl (subst (λ (z : ℕ). Puts a b z (q .at) (each (recordBytes w) S)) x (s .bytes)) (t .bytes));
   noted = puts-as (sym (sizes-append w R S)) (puts-reserved {k = length R} (length-map R (λ (z : Record). length (recordBytes w z))) (subst (λ (z : ℕ). Puts d e z (q .count) (sizesOf w S)) y (s .noted)) (t .noted));
 }
 
@@ -53,9 +54,6 @@ pub entries-sizes : (L : Layout) (at : ℕ) (R : List Record) → entriesOf L at
 entries-sizes L at [] = refl
 entries-sizes L at (r ∷ R) = ap (λ z. (at, length (recordBytes (L .id) r)) ∷ z) (entries-sizes L (at + length (recordBytes (L .id) r)) R)
 
--- one length noted, or left out past the end
-pub noted-one : (l : List ℕ) (i x : ℕ) → Puts l (set l i x) i (i + 1) (x ∷ [])
-noted-one l i x = record { holds = refl; ends = refl }
-
+-- a length that is left out past the end
 pub noted-past : (l : List ℕ) (i x : ℕ) → length l ≤ i → Puts l l i (i + 1) (x ∷ [])
 noted-past l i x h = record { holds = sym (set-past l i x h); ends = refl }

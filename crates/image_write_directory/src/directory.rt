@@ -26,7 +26,7 @@ pub fn put_header(
     put_number(out, c, layout.place, records)
 }
 
-fn narrow(n: usize) -> u32
+pub fn narrow(n: usize) -> u32
     requires { ⌜ n < 2 ^ 32 ⌝ }
     ensures { λ r. ⌜ r ≡ n ⌝ }
 {

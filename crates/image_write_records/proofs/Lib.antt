@@ -1,4 +1,3 @@
 -- The laws of lists and records that are written part by part.
 pub mod Writing
 pub mod Joining
-pub mod Moving

@@ -1,4 +1,5 @@
 // Lists of bindings, and the parts of a Substitute.
+use image_kinds::kinds::Kind;
 use image_write_parts::put_binding;
 use image_write_parts::put_byte;
 use image_write_parts::put_identifier;
@@ -41,7 +42,7 @@ pub fn put_substitute(out: &mut [u8], at: usize, n: usize) -> usize
     requires { ⌜ (at + 2 < 2 ^ 64) × (n ≤ 128) ⌝ }
     ensures { λ r. ⌜ Puts (now (out .entry)) (now (out .exit)) at r (2 ∷ (n ∷ [])) ⌝ }
 {
-    let next = put_byte(out, at, 2);
+    let next = put_byte(out, at, Kind::SUBSTITUTE);
     put_byte(out, next, count_byte(n))
 }
 

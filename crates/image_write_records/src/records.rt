@@ -1,5 +1,6 @@
 // Records by kind. Call and Invoke come out with empty args, and Create with its environment.
 use crate::lists::put_list;
+use image_kinds::kinds::Kind;
 use image_write_parts::operator_code;
 use image_write_parts::put_byte;
 use image_write_parts::put_identifier;
@@ -59,7 +60,7 @@ pub fn put_call(out: &mut [u8], at: usize, w: usize, label: Identifier) -> usize
     requires { ⌜ (at + 8192 < 2 ^ 64) × (w ≤ 8) ⌝ }
     ensures { λ r. ⌜ Puts (now (out .entry)) (now (out .exit)) at r (recordBytes w (call label [])) ⌝ }
 {
-    let next = put_named(out, at, w, 3, label);
+    let next = put_named(out, at, w, Kind::CALL, label);
     put_byte(out, next, 0)
 }
 
@@ -75,7 +76,7 @@ pub fn put_let(
     requires { ⌜ (at + 8192 < 2 ^ 64) × ((w ≤ 8) × (args .len ≤ 64)) ⌝ }
     ensures { λ r. ⌜ Puts (now (out .entry)) (now (out .exit)) at r (recordBytes w (let' var ty tag (contextOf args))) ⌝ }
 {
-    let next = put_typed(out, at, w, 4, var, ty);
+    let next = put_typed(out, at, w, Kind::LET, var, ty);
     let after = put_identifier(out, next, w, tag);
     put_list(out, after, w, args)
 }
@@ -91,7 +92,7 @@ pub fn put_switch(
     requires { ⌜ (at + 8192 < 2 ^ 64) × (w ≤ 8) ⌝ }
     ensures { λ r. ⌜ Puts (now (out .entry)) (now (out .exit)) at r (recordBytes w (switch var ty clauses)) ⌝ }
 {
-    let next = put_typed(out, at, w, 5, var, ty);
+    let next = put_typed(out, at, w, Kind::SWITCH, var, ty);
     put_byte(out, next, clauses)
 }
 
@@ -107,7 +108,7 @@ pub fn put_create(
     requires { ⌜ (at + 8192 < 2 ^ 64) × ((w ≤ 8) × (environment .len ≤ 64)) ⌝ }
     ensures { λ r. ⌜ Puts (now (out .entry)) (now (out .exit)) at r (recordBytes w (create var ty (some (contextOf environment)) clauses)) ⌝ }
 {
-    let next = put_typed(out, at, w, 6, var, ty);
+    let next = put_typed(out, at, w, Kind::CREATE, var, ty);
     let after = put_byte(out, next, 1);
     let last = put_list(out, after, w, environment);
     put_byte(out, last, clauses)
@@ -124,7 +125,7 @@ pub fn put_invoke(
     requires { ⌜ (at + 8192 < 2 ^ 64) × (w ≤ 8) ⌝ }
     ensures { λ r. ⌜ Puts (now (out .entry)) (now (out .exit)) at r (recordBytes w (invoke var tag ty [])) ⌝ }
 {
-    let next = put_named(out, at, w, 7, var);
+    let next = put_named(out, at, w, Kind::INVOKE, var);
     let after = put_identifier(out, next, w, tag);
     let last = put_type(out, after, w, ty);
     put_byte(out, last, 0)
@@ -134,7 +135,7 @@ pub fn put_literal(out: &mut [u8], at: usize, w: usize, lit: i64, var: Identifie
     requires { ⌜ (at + 8192 < 2 ^ 64) × (w ≤ 8) ⌝ }
     ensures { λ r. ⌜ Puts (now (out .entry)) (now (out .exit)) at r (recordBytes w (literal lit var)) ⌝ }
 {
-    let next = put_byte(out, at, 8);
+    let next = put_byte(out, at, Kind::LITERAL);
     let after = put_integer(out, next, lit);
     put_identifier(out, after, w, var)
 }
@@ -151,7 +152,7 @@ pub fn put_op(
     requires { ⌜ (at + 8192 < 2 ^ 64) × (w ≤ 8) ⌝ }
     ensures { λ r. ⌜ Puts (now (out .entry)) (now (out .exit)) at r (recordBytes w (op fst operator snd var)) ⌝ }
 {
-    let next = put_named(out, at, w, 9, fst);
+    let next = put_named(out, at, w, Kind::OP, fst);
     let after = put_byte(out, next, operator_code(operator));
     let last = put_identifier(out, after, w, snd);
     put_identifier(out, last, w, var)
@@ -181,7 +182,7 @@ pub fn put_ifc(
     requires { ⌜ (at + 8192 < 2 ^ 64) × (w ≤ 8) ⌝ }
     ensures { λ r. ⌜ Puts (now (out .entry)) (now (out .exit)) at r (recordBytes w (ifc sort fst (ifMarked marked snd))) ⌝ }
 {
-    let next = put_byte(out, at, 10);
+    let next = put_byte(out, at, Kind::IFC);
     let after = put_byte(out, next, sort_code(sort));
     let last = put_identifier(out, after, w, fst);
     put_marked(out, last, w, marked, snd)

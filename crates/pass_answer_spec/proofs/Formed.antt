@@ -21,8 +21,8 @@ use Rattle.image_spec.specs.Parse.{All}
 use Rattle.image_spec.specs.Fields.{BindingOk}
 use Rattle.image_spec.specs.Records.{RecordOk}
 use Rattle.image_spec.specs.Shape.{flatten, flattenClauses, flattenDefs}
-use Rattle.scope_spec.proofs.IdsFit.{all-left, all-right}
-use Rattle.pass_answer_spec.proofs.Held.{all-++, one-more, joined-holds, filter-holds, behind-holds, pairs-hold, RenamingOk, rename-holds, renameOption-holds, renameContext-holds, renameUnless-holds, freshenUnless-holds, freshVarUnless-holds}
+use Rattle.image_spec.proofs.ListLaws.{all-++, all-left, all-right}
+use Rattle.pass_answer_spec.proofs.Held.{one-more, joined-holds, filter-holds, behind-holds, pairs-hold, RenamingOk, rename-holds, renameOption-holds, renameContext-holds, renameUnless-holds, freshenUnless-holds, freshVarUnless-holds}
 
 -- max_id never falls
 linearizeDefs-grows : (ds : List Def) (m : ℕ) → m ≤ (linearizeDefs ds m) .1

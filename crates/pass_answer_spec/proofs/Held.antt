@@ -23,14 +23,11 @@ use Rattle.model.specs.Rules.{freshenUnless, freshVar, freshVarUnless, moveBehi
 use Rattle.model.proofs.Good.{move-perm}
 use Rattle.image_spec.specs.Parse.{All, Marked}
 use Rattle.image_spec.specs.Fields.{IdentifierOk, BindingOk, PairOk}
+use Rattle.image_spec.proofs.ListLaws.{all-++}
 
 -- ── each of a list ──
 
 module _ {A : Type 0} (P : A → Type 0) where
-  pub all-++ : (a b : List A) → All P a → All P b → All P (a ++ b)
-  all-++ [] b h k = k
-  all-++ (x ∷ a) b h k = (h .0, all-++ a b (h .1) k)
-
   all-perm : {s t : List A} → Perm s t → All P s → All P t
   all-perm nil h = h
   all-perm (keep a p) h = (h .0, all-perm p (h .1))

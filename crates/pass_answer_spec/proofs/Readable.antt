@@ -7,15 +7,14 @@ use native.Mathlib.Omega.{arith}
 use lib.ListN.{length}
 use Rattle.model.specs.Syntax.{Def, Prog}
 use Rattle.model.specs.Pass.{linearizeDefs, linearize}
-use Rattle.model.specs.Sizes.{depthDefs}
 use Rattle.model.specs.Questions.{Accepted}
 use Rattle.model.proofs.Widths.{leb-says, linearized-readable}
 use Rattle.image_spec.specs.declared.Layout.{Layout}
-use Rattle.image_spec.specs.Parse.{All}
 use Rattle.image_spec.specs.Layout.{layout1}
-use Rattle.image_spec.specs.Shape.{maxDepth, DefOk}
+use Rattle.image_spec.specs.Shape.{maxDepth}
 use Rattle.image_spec.specs.Image.{image, ImageOk}
 use Rattle.image_spec.specs.Reading.{accept, reading, programOf}
+use Rattle.image_spec.proofs.ShapeLaws.{shallow-all}
 use Rattle.image_spec.proofs.FlatLengths.{flattenDefs-length}
 use Rattle.image_spec.proofs.OneToOne.{only-its-image, reads-back, layout1-ok}
 use Rattle.scope_spec.specs.Calls.{writes}
@@ -29,10 +28,6 @@ unfolding linearizeDefs
 linearizeDefs-length [] m = refl
 linearizeDefs-length (d ∷ ds) m = ap suc (linearizeDefs-length ds _)
 
-each-shallow : (ds : List Def) → depthDefs ds ≤ maxDepth → All DefOk ds
-each-shallow [] h = tt
-each-shallow (d ∷ ds) h = (omega arith, each-shallow ds (omega arith))
-
 -- the linearized program has an image of the layout, where its max_id and the image's length are such as the layout can hold
 pub linearized-fits : (L : Layout) (P : Prog) → ImageOk L P → Accepted P → linearize P .maxId < 256 ^ (L .id) → length (image L (linearize P)) ≤ L .largest → ImageOk L (linearize P)
 unfolding linearize
@@ -44,7 +39,7 @@ linearized-fits L P o a m h =
       few = omega (arith, q .0, flattenDefs-length (linearize P .defs));
       short = h;
       formed = linearizeDefs-formed (L .id) (P .defs) (o .formed) (P .maxId) m (q .2);
-      shallow = each-shallow (linearize P .defs) (q .1);
+      shallow = shallow-all maxDepth (linearize P .defs) (q .1);
     }
 
 -- .. of layout 1, whose IDs question 11 is about

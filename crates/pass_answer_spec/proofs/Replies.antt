@@ -16,9 +16,9 @@ use Rattle.model.specs.Questions.{Accepted}
 use Rattle.image_spec.specs.declared.Layout.{Layout}
 use Rattle.image_spec.specs.declared.Refusal.{Refusal}
 use Rattle.image_spec.specs.Image.{image}
-use Rattle.image_spec.specs.Reading.{Reading, accept, asked, reading, programOf}
+use Rattle.image_spec.specs.Reading.{Reading, accept, ifYes, reading, programOf}
 use Rattle.image_spec.proofs.ReadingLaws.{all-yes}
-use Rattle.scope_spec.specs.Calls.{Reply, refuses, writes, askedOf, replyAfter}
+use Rattle.scope_spec.specs.Calls.{Reply, refuses, writes, replyIfYes, replyAfter}
 use Rattle.pass_answer_spec.specs.Calls.{question12, linearizing, linearizeOf}
 use Rattle.pass_answer_spec.specs.FirstNo.{questions, FirstNo, AllYes}
 
@@ -27,40 +27,40 @@ use Rattle.pass_answer_spec.specs.FirstNo.{questions, FirstNo, AllYes}
 -- the refusal at the first no, or the reply
 abbrev answered : List (Bool × Refusal) → Reply → Reply
 answered [] R = R
-answered (t ∷ ts) R = askedOf (t .0) (t .1) (answered ts R)
+answered (t ∷ ts) R = replyIfYes (t .0) (t .1) (answered ts R)
 
 module _ (bytes : List ℕ) (m : ℕ) where
   refused-no : (ts : List (Bool × Refusal)) (q : Refusal) → answered ts (writes bytes m) ≡ refuses q → FirstNo ts q
   refused-no [] q e = let z : _≡_ {A = ℕ} 0 1 = cc (e) in absurd (omega arith)
   refused-no (t ∷ ts) q e = go (t .0) refl (λ k. refused-no ts q k) e
     where
-      go : (b : Bool) → t .0 ≡ b → (answered ts (writes bytes m) ≡ refuses q → FirstNo ts q) → askedOf b (t .1) (answered ts (writes bytes m)) ≡ refuses q → FirstNo (t ∷ ts) q
+      go : (b : Bool) → t .0 ≡ b → (answered ts (writes bytes m) ≡ refuses q → FirstNo ts q) → replyIfYes b (t .1) (answered ts (writes bytes m)) ≡ refuses q → FirstNo (t ∷ ts) q
       go true y ih k = inr (y, ih k)
       go false y ih k = inl (y, cc (k))
 
   no-refused : (ts : List (Bool × Refusal)) (q : Refusal) → FirstNo ts q → answered ts (writes bytes m) ≡ refuses q
   no-refused [] q n = absurd n
-  no-refused (t ∷ ts) q (inl n) = ap (λ (b : Bool). askedOf b (t .1) (answered ts (writes bytes m))) (n .0) ∙ ap refuses (n .1)
-  no-refused (t ∷ ts) q (inr n) = ap (λ (b : Bool). askedOf b (t .1) (answered ts (writes bytes m))) (n .0) ∙ no-refused ts q (n .1)
+  no-refused (t ∷ ts) q (inl n) = ap (λ (b : Bool). replyIfYes b (t .1) (answered ts (writes bytes m))) (n .0) ∙ ap refuses (n .1)
+  no-refused (t ∷ ts) q (inr n) = ap (λ (b : Bool). replyIfYes b (t .1) (answered ts (writes bytes m))) (n .0) ∙ no-refused ts q (n .1)
 
   written-yes : (ts : List (Bool × Refusal)) (R : Reply) → answered ts R ≡ writes bytes m → AllYes ts × (R ≡ writes bytes m)
   written-yes [] R e = (tt, e)
   written-yes (t ∷ ts) R e = go (t .0) refl (λ k. written-yes ts R k) e
     where
-      go : (b : Bool) → t .0 ≡ b → (answered ts R ≡ writes bytes m → AllYes ts × (R ≡ writes bytes m)) → askedOf b (t .1) (answered ts R) ≡ writes bytes m
+      go : (b : Bool) → t .0 ≡ b → (answered ts R ≡ writes bytes m → AllYes ts × (R ≡ writes bytes m)) → replyIfYes b (t .1) (answered ts R) ≡ writes bytes m
           → AllYes (t ∷ ts) × (R ≡ writes bytes m)
       go true y ih k = let r = ih k in ((y, r .0), r .1)
       go false y ih k = let z : _≡_ {A = ℕ} 0 1 = cc (k) in absurd (omega arith)
 
 yes-written : (R : Reply) (ts : List (Bool × Refusal)) → AllYes ts → answered ts R ≡ R
 yes-written R [] y = refl
-yes-written R (t ∷ ts) y = ap (λ (b : Bool). askedOf b (t .1) (answered ts R)) (y .0) ∙ yes-written R ts (y .1)
+yes-written R (t ∷ ts) y = ap (λ (b : Bool). replyIfYes b (t .1) (answered ts R)) (y .0) ∙ yes-written R ts (y .1)
 
 -- ── the twelve questions ──
 
-after-asked : (t : Bool) (q : Refusal) (r : Reading) (k : Prog → Reply) → replyAfter (asked t q r) k ≡ askedOf t q (replyAfter r k)
-after-asked true q r k = refl
-after-asked false q r k = refl
+after-yes : (t : Bool) (q : Refusal) (r : Reading) (k : Prog → Reply) → replyAfter (ifYes t q r) k ≡ replyIfYes t q (replyAfter r k)
+after-yes true q r k = refl
+after-yes false q r k = refl
 
 module _ (L : Layout) (s : List ℕ) (size : ℕ) where
   -- what is written where all answers are yes
@@ -69,7 +69,7 @@ module _ (L : Layout) (s : List ℕ) (size : ℕ) where
 
   in-order : linearizeOf L s size ≡ answered (questions L s size) written
   unfolding linearizeOf linearizing reading questions
-  in-order = simp after-asked
+  in-order = simp after-yes
 
   -- document 01, "The questions": the first no over the whole image decides
   pub refused-exactly : (q : Refusal) → (linearizeOf L s size ≡ refuses q → FirstNo (questions L s size) q) × (FirstNo (questions L s size) q → linearizeOf L s size ≡ refuses q)

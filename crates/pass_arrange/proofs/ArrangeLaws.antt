@@ -16,7 +16,8 @@ use Rattle.image_spec.specs.Fields.{pairBytes}
 use Rattle.image_spec.specs.Records.{substitute, recordBytes}
 use Rattle.image_write_parts.specs.Puts.{Puts}
 use Rattle.image_write_parts.proofs.Putting.{puts-as, puts-then}
-use Rattle.image_write_records.proofs.Writing.{Written, written-next, each-map, storedBytes, pair-length}
+use Rattle.image_write_parts.proofs.Writing.{Written, written-next, each-map}
+use Rattle.image_write_records.proofs.Writing.{storedBytes, pair-length}
 use Rattle.image_write_directory.specs.Emitting.{Noted}
 use Rattle.image_write_directory.specs.declared.progress.Progress.{Progress}
 use Rattle.image_write_directory.proofs.EmitLaws.{emits-none, emits-one}
@@ -25,7 +26,7 @@ use Rattle.syntax_substitution.specs.declared.FlatPair.{FlatPair}
 use Rattle.syntax_substitution.proofs.Pairing.{Zipped, zipped-done}
 use Rattle.syntax_substitution.specs.declared.Substitution.{Substitution}
 use Rattle.pass_step_spec.specs.Steps.{arranged}
-use Rattle.pass_arrange.specs.Stepping.{Arranges}
+use Rattle.pass_step.specs.Stepping.{Arranges}
 
 -- a Substitute is short
 pairs-short : (w : ℕ) (ps : List (ContextBinding × Identifier)) → w ≤ 8 → length (each (pairBytes w) ps) ≤ 32 * length ps

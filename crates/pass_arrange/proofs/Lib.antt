@@ -1,6 +1,3 @@
--- Laws of what the steps of linearization are made of.
+-- Laws of a rearrangement.
 pub mod PairLaws
 pub mod ArrangeLaws
-pub mod ReserveLaws
-pub mod StepLaws
-pub mod FreshLaws

@@ -1,3 +1,2 @@
--- What a step of linearization needs and does.
-pub mod Drawn
-pub mod Stepping
+-- The order of a rearrangement.
+pub mod Joined

@@ -7,15 +7,17 @@ use pass_context::Held;
 use syntax::context::ContextBinding;
 use syntax::context::TypingContext;
 use syntax_substitution::FlatPair;
-use syntax_substitution::Pair;
 use syntax_substitution::Substitution;
 ghost use Prim.Native.Nat.{_≤_};
+ghost use mathlib.Core.Path.{_≡_};
+ghost use mathlib.Core.Bool.{cond};
 ghost use mathlib.Core.List.{[], _∷_, _++_};
 ghost use Rattle.pass_work_spec.specs.Work.{bindings};
 ghost use Rattle.pass_context.specs.Holding.{workOf};
 ghost use Rattle.syntax.specs.Arrays.{contextOf};
 ghost use Rattle.pass_step_spec.specs.Steps.{arranged};
-ghost use Rattle.pass_arrange.specs.Stepping.{RoomAt, Paired, Workable, Arranges};
+ghost use Rattle.pass_arrange.specs.Joined.{joined};
+ghost use Rattle.pass_step.specs.Stepping.{RoomAt, Paired, Workable, Arranges};
 
 // What is kept stays under its names.
 pub fn arrange_kept(
@@ -33,7 +35,7 @@ pub fn arrange_kept(
         return so_far;
     }
     let none = TypingContext::empty();
-    arrange_behind(right, kept, none, none, w, out, lengths, so_far)
+    arrange(right, false, none, none, kept, w, out, lengths, so_far)
 }
 
 // The context becomes the targets.
@@ -53,7 +55,7 @@ pub fn arrange_args(
         return so_far;
     }
     let none = Held::empty();
-    arrange_before(right, targets, wanted, none, w, out, lengths, so_far)
+    arrange(right, true, targets, wanted, none, w, out, lengths, so_far)
 }
 
 // The targets, and behind them the closure under its name.
@@ -74,7 +76,7 @@ pub fn arrange_closure(
         return so_far;
     }
     let last = Held::empty().own(0, closure);
-    arrange_before(right, targets, wanted, last, w, out, lengths, so_far)
+    arrange(right, true, targets, wanted, last, w, out, lengths, so_far)
 }
 
 // What is kept, and behind it one more.
@@ -96,61 +98,33 @@ pub fn arrange_one(
     }
     let targets = TypingContext::empty().push(target);
     let sources = TypingContext::empty().push(wanted);
-    arrange_behind(right, kept, targets, sources, w, out, lengths, so_far)
+    arrange(
+        right,
+        false,
+        targets,
+        sources,
+        kept,
+        w,
+        out,
+        lengths,
+        so_far,
+    )
 }
 
-// What is kept, and behind it the targets. The pairs are built and then written in one function, here and below: given to another they would be
-// copied.
-pub fn arrange_behind(
-    right: bool,
-    kept: Held,
-    targets: TypingContext,
-    wanted: TypingContext,
-    w: usize,
-    out: &mut [u8],
-    lengths: &mut [usize],
-    so_far: Progress,
-) -> Progress
-    requires { ⌜ Workable kept 0 0 × (Paired targets wanted × ((w ≤ 8) × RoomAt «so_far»)) ⌝ }
-    ensures { λ r. ⌜ Arranges w (now (out .entry)) (now (out .exit)) (now (lengths .entry)) (now (lengths .exit)) «so_far» r (arranged right (bindings (workOf kept) ++ contextOf targets) (bindings (workOf kept) ++ contextOf wanted)) ⌝ }
+// Where a list stands that is put behind n others, or before them.
+fn place(behind: bool, n: usize) -> usize
+    ensures { λ r. ⌜ r ≡ cond behind n 0 ⌝ }
 {
-    if right {
-        return so_far;
+    if behind {
+        return n;
     }
-    let k = kept.len;
-    let n = k + targets.len;
-    let none = Pair::empty().flat();
-    let mut all = Substitution {
-        pairs: [none; Substitution::MAX],
-        len: n,
-    };
-    let mut i = 0;
-    while i < n {
-        if i < k {
-            let e = kept.entries[i];
-            let b = e.flat_binding();
-            all.pairs[i] = FlatPair::of(b, b);
-            i += 1;
-        } else {
-            let target = targets.bindings[i - k];
-            let b = wanted.bindings[i - k];
-            all.pairs[i] = FlatPair::of(target, b);
-            i += 1;
-        }
-    }
-    let mut here = put_substitute(out, so_far.at, n);
-    let mut j = 0;
-    while j < n {
-        let pair = all.pairs[j];
-        here = put_pair(out, here, w, pair);
-        j += 1;
-    }
-    note(lengths, so_far, here)
+    0
 }
 
-// The targets, and behind them what is kept.
-pub fn arrange_before(
+// The targets before what is kept, or behind it. The pairs are built and then written in one function: given to another they would be copied.
+pub fn arrange(
     right: bool,
+    targets_first: bool,
     targets: TypingContext,
     wanted: TypingContext,
     kept: Held,
@@ -160,27 +134,30 @@ pub fn arrange_before(
     so_far: Progress,
 ) -> Progress
     requires { ⌜ Paired targets wanted × (Workable kept 0 0 × ((w ≤ 8) × RoomAt «so_far»)) ⌝ }
-    ensures { λ r. ⌜ Arranges w (now (out .entry)) (now (out .exit)) (now (lengths .entry)) (now (lengths .exit)) «so_far» r (arranged right (contextOf targets ++ bindings (workOf kept)) (contextOf wanted ++ bindings (workOf kept))) ⌝ }
+    ensures { λ r. ⌜ Arranges w (now (out .entry)) (now (out .exit)) (now (lengths .entry)) (now (lengths .exit)) «so_far» r (arranged right (joined «targets_first» (contextOf targets) (bindings (workOf kept))) (joined «targets_first» (contextOf wanted) (bindings (workOf kept)))) ⌝ }
 {
     if right {
         return so_far;
     }
-    let k = targets.len;
-    let n = k + kept.len;
-    let none = Pair::empty().flat();
+    let kept_at = place(targets_first, targets.len);
+    let targets_at = place(!targets_first, kept.len);
+    let front = kept_at + targets_at;
+    let n = targets.len + kept.len;
+    let none = FlatPair::empty();
     let mut all = Substitution {
         pairs: [none; Substitution::MAX],
         len: n,
     };
     let mut i = 0;
     while i < n {
-        if i < k {
-            let target = targets.bindings[i];
-            let b = wanted.bindings[i];
+        if (i < front) == targets_first {
+            let at = i - targets_at;
+            let target = targets.bindings[at];
+            let b = wanted.bindings[at];
             all.pairs[i] = FlatPair::of(target, b);
             i += 1;
         } else {
-            let e = kept.entries[i - k];
+            let e = kept.entries[i - kept_at];
             let b = e.flat_binding();
             all.pairs[i] = FlatPair::of(b, b);
             i += 1;

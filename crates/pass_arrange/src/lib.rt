@@ -1,5 +1,2 @@
-// What every step of linearization is made of: the Substitute where the context is not right, fresh names, a place for what is written later.
+// The Substitute where the context is not right.
 pub mod arrange;
-pub mod fresh;
-pub mod reserve;
-pub mod stepped;

@@ -13,7 +13,8 @@ use Rattle.syntax.proofs.Flats.{seen-at}
 use Rattle.pass_work_spec.specs.declared.Entry.{Entry}
 use Rattle.pass_work_spec.specs.Work.{Work, bindings, own, owns, movedBehind, respell, respelled}
 use Rattle.pass_work_spec.proofs.Lengths.{owns-length}
-use Rattle.pass_context.specs.Holding.{entryIn, entriesIn, emptyFlatEntry, emptyEntry}
+use Rattle.pass_entries.specs.Entries.{entryIn, emptyFlatEntry, emptyEntry}
+use Rattle.pass_context.specs.Holding.{entriesIn}
 use Rattle.pass_context.specs.declared.Held.{Held}
 use Rattle.pass_context.proofs.Stores.{mapped-at, mapped-count, joined-left, joined-right, joined-behind}
 

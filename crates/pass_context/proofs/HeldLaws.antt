@@ -11,9 +11,10 @@ use Rattle.syntax.proofs.Flats.{seen-stored}
 use Rattle.pass_work_spec.specs.declared.Entry.{Entry}
 use Rattle.pass_work_spec.specs.Work.{Work}
 use Rattle.pass_work_spec.specs.Placed.{Fits}
-use Rattle.pass_context.specs.Holding.{entryIn, entriesIn, workOf, HoldsWork}
+use Rattle.pass_entries.specs.Entries.{entryIn}
+use Rattle.pass_context.specs.Holding.{entriesIn, workOf, HoldsWork}
 use Rattle.pass_context.specs.declared.Held.{Held}
-use Rattle.pass_context.specs.declared.entries.FlatEntry.{FlatEntry}
+use Rattle.pass_entries.specs.declared.entries.FlatEntry.{FlatEntry}
 use Rattle.pass_context.proofs.Stores.{Built, built-done}
 
 pub stored-behind : (h : Held) (a : FlatEntry) (e : Entry) → h .len < length (entriesIn h) → entryIn a ≡ e →

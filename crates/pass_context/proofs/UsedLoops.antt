@@ -11,7 +11,7 @@ use Rattle.syntax.specs.declared.names.Identifier.{Identifier}
 use Rattle.syntax.specs.declared.context.ContextBinding.{ContextBinding}
 use Rattle.syntax.proofs.Lists.{rest, rest-cons, rest-end}
 use Rattle.pass_work_spec.specs.Work.{Work, spelling, used, usedBinding, usedAll}
-use Rattle.pass_context.specs.Holding.{emptyEntry}
+use Rattle.pass_entries.specs.Entries.{emptyEntry}
 use Rattle.pass_context.proofs.Stores.{Built, built-start, built-reads, built-next, built-stays, mapped-at, mapped-count}
 
 -- ── one variable: the entries from j on are left to look at ──

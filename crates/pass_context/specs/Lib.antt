@@ -1,3 +1,2 @@
--- What the array of entries holds, and the test of a mask's bit.
+-- What the array of entries holds.
 pub mod Holding
-pub mod Masks

@@ -1,14 +1,13 @@
 // The context at work: up to 64 entries by value with a count, and what the rules do to it.
-pub mod entries;
-pub mod masks;
 
-use crate::entries::FlatEntry;
-use crate::entries::flat;
-use crate::entries::owned;
-use crate::entries::respell;
-use crate::entries::spelled;
-use crate::entries::used_binding;
-use crate::masks::bit;
+use pass_entries::entries::FlatEntry;
+use pass_entries::entries::flat;
+use pass_entries::entries::owned;
+use pass_entries::entries::respell;
+use pass_entries::entries::spelled;
+use pass_entries::entries::used_binding;
+use pass_entries::masks::bit;
+use pass_entries::masks::with_bit;
 use pass_work_spec::Entry;
 use syntax::context::ContextBinding;
 use syntax::context::TypingContext;
@@ -22,17 +21,14 @@ ghost use Rattle.syntax.specs.Context.{ids, sameContext};
 ghost use Rattle.syntax.specs.Arrays.{contextOf, Holds, SetHolds};
 ghost use Rattle.pass_work_spec.specs.Work.{bindings, own, owns, used, usedAll, movedBehind, respelled};
 ghost use Rattle.pass_context.specs.Holding.{workOf, HoldsWork};
-ghost use Rattle.pass_context.specs.Masks.{keptByMask};
+ghost use Rattle.pass_entries.specs.Masks.{keptByMask, withPlaces};
 
 pub struct Held {
-    pub entries: [FlatEntry; Held::MAX],
+    pub entries: [FlatEntry; TypingContext::MAX],
     pub len: usize,
 }
 
 impl Held {
-    // How many bindings can be in scope.
-    pub const MAX: usize = 64;
-
     pub fn empty() -> Self
         ensures { λ r. ⌜ HoldsWork r [] ⌝ }
     {
@@ -43,20 +39,9 @@ impl Held {
             spelled: false,
         });
         Held {
-            entries: [none; Held::MAX],
+            entries: [none; TypingContext::MAX],
             len: 0,
         }
-    }
-
-    pub fn push(self, e: Entry) -> Self
-        requires { ⌜ self .len < 64 ⌝ }
-        ensures { λ r. ⌜ HoldsWork r (workOf self ++ (e ∷ [])) ⌝ }
-    {
-        let at = self.len;
-        let mut next = self;
-        next.entries[at] = flat(e);
-        next.len = at + 1;
-        next
     }
 
     // A binder at the n-th place in scope.
@@ -69,6 +54,24 @@ impl Held {
         next.entries[at] = flat(owned(n, b));
         next.len = at + 1;
         next
+    }
+
+    // The mask with the places of the entries that stand for two variables.
+    pub fn with_places(self, mask: u64, fst: VarId, snd: VarId) -> u64
+        requires { ⌜ self .len ≤ 64 ⌝ }
+        ensures { λ r. ⌜ r ≡ withPlaces fst snd (workOf self) mask ⌝ }
+    {
+        let n = self.len;
+        let mut places = mask;
+        let mut i = 0;
+        while i < n {
+            let e = self.entries[i];
+            if e.source.same(fst) || e.source.same(snd) {
+                places = with_bit(places, e.place);
+            }
+            i += 1;
+        }
+        places
     }
 
     // Keeps the entries whose places are in the mask. One that goes gives its place to the last, which is looked at next.

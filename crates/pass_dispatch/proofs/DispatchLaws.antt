@@ -14,19 +14,17 @@ use Rattle.image_spec.specs.Records.{Record, definition, substitute, call, let'
 use Rattle.image_spec.specs.Kinds.{kindOf}
 use Rattle.image_write_directory.specs.declared.progress.Progress.{Progress}
 use Rattle.image_read_nodes.specs.Nodes.{recordAt}
-use Rattle.image_read_records.proofs.ListPlaces.{at-made}
+use Rattle.pass_records.proofs.ListPlaces.{at-made}
 use Rattle.pass_work_spec.specs.Work.{Work}
-use Rattle.pass_context.proofs.MaskLaws.{marked-past}
+use Rattle.pass_entries.proofs.MaskLaws.{marked-past}
 use Rattle.pass_step_spec.specs.Steps.{Step, stepOf}
 use Rattle.pass_step_spec.specs.Fronts.{wanted, rightOf, frontRecords, frontBytes, tailSize}
-use Rattle.pass_arrange.specs.Stepping.{Says, SourceAt, Steps, StepsAs, Leaves, LeavesAs, OpensAs}
-use Rattle.pass_arrange.specs.declared.stepped.Stepped.{Stepped}
-use Rattle.pass_arrange.specs.declared.stepped.Opened.{Opened}
+use Rattle.pass_step.specs.Stepping.{Says, SourceAt, Steps, StepsAs, Leaves, LeavesAs, OpensAs}
+use Rattle.pass_step.proofs.StepLaws.{source-as}
+use Rattle.pass_step.specs.declared.stepped.Stepped.{Stepped}
+use Rattle.pass_step.specs.declared.stepped.Opened.{Opened}
 
 -- ── what a kind asks for ──
-
-pub source-as : {g : Frame} {s : List ℕ} {i kind : ℕ} (k : ℕ) → kind ≡ k → SourceAt g s i kind → SourceAt g s i k
-source-as {g} {s} {i} k e a = subst (λ (z : ℕ). SourceAt g s i z) e a
 
 -- one of three kinds, and neither of the first two
 pub last-of : {kind : ℕ} (a b k : ℕ) → (eqb kind a || (eqb kind b || eqb kind k)) ≡ true → (kind ≡ a → ⊥) → (kind ≡ b → ⊥) → kind ≡ k

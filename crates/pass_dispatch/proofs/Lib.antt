@@ -1,3 +1,2 @@
 -- Laws of the choice by kind, and of what stands before a body.
 pub mod DispatchLaws
-pub mod EnterLaws

@@ -1,3 +1,2 @@
 -- What stands before a body, and which statements a step is for.
-pub mod Entering
 pub mod Choices

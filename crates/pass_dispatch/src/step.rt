@@ -1,21 +1,23 @@
 // The statement at hand, by its kind.
 use image_directory::Frame;
 use image_write_directory::progress::Progress;
-use pass_arrange::stepped::Opened;
-use pass_arrange::stepped::Stepped;
-use pass_branches::create;
-use pass_branches::switch;
 use pass_context::Held;
-use pass_statements::call;
-use pass_statements::ifc;
-use pass_statements::invoke;
-use pass_statements::let_;
-use pass_statements::literal;
-use pass_statements::op;
+use pass_statement_call::call;
+use pass_statement_create::create;
+use pass_statement_ifc::ifc;
+use pass_statement_invoke::invoke;
+use pass_statement_let::let_;
+use pass_statement_literal::literal;
+use pass_statement_op::op;
+use pass_statement_switch::switch;
+use pass_step::stepped::FreeVars;
+use pass_step::stepped::Opened;
+use pass_step::stepped::Stepped;
 ghost use Prim.Native.Nat.{_≤_};
 ghost use Rattle.image_read_nodes.specs.Nodes.{recordAt};
+ghost use Rattle.pass_entries.specs.Masks.{InPlaces};
 ghost use Rattle.pass_context.specs.Holding.{workOf};
-ghost use Rattle.pass_arrange.specs.Stepping.{RoomAt, SourceAt, Workable, OpensAs, StepsAs, LeavesAs};
+ghost use Rattle.pass_step.specs.Stepping.{RoomAt, SourceAt, Workable, OpensAs, StepsAs, LeavesAs};
 ghost use Rattle.pass_dispatch.specs.Choices.{Binds, Settles};
 
 // What comes before the clauses of a Switch or a Create.
@@ -24,26 +26,17 @@ pub fn open(
     frame: Frame,
     i: usize,
     kind: u8,
-    free_vars_clauses: u64,
-    free_vars_next: u64,
+    free_vars: FreeVars,
     context: Held,
     so_far: Progress,
 ) -> Opened
     requires { ⌜ SourceAt frame (now image) i kind × ((5 ≤ kind) × ((kind ≤ 6) × (Workable context 0 0 × RoomAt «so_far»))) ⌝ }
-    ensures { λ r. ⌜ OpensAs (frame .id) (recordAt frame (now (image .entry)) i) «free_vars_clauses» «free_vars_next» (workOf context) «so_far» r ⌝ }
+    ensures { λ r. ⌜ OpensAs (frame .id) (recordAt frame (now (image .entry)) i) («free_vars» .clauses) («free_vars» .next) (workOf context) «so_far» r ⌝ }
 {
     if kind == 5 {
-        return switch::open(image, frame, i, free_vars_clauses, context, so_far);
+        return switch::open(image, frame, i, free_vars.clauses, context, so_far);
     }
-    create::open(
-        image,
-        frame,
-        i,
-        free_vars_clauses,
-        free_vars_next,
-        context,
-        so_far,
-    )
+    create::open(image, frame, i, free_vars, context, so_far)
 }
 
 // The step of a statement that binds, and has no clauses: Let, Literal or Op.
@@ -52,18 +45,17 @@ pub fn bind(
     frame: Frame,
     i: usize,
     kind: u8,
-    free_vars_clauses: u64,
-    free_vars_next: u64,
+    free_vars: FreeVars,
     context: Held,
     in_scope: u8,
     out: &mut [u8],
     lengths: &mut [usize],
     so_far: Progress,
 ) -> Stepped
-    requires { ⌜ SourceAt frame (now image) i kind × (Binds kind × (Workable context «in_scope» 1 × RoomAt «so_far»)) ⌝ }
-    ensures { λ r. ⌜ StepsAs (frame .id) (recordAt frame (now (image .entry)) i) «free_vars_clauses» «free_vars_next» (workOf context) «in_scope» (now (out .entry)) (now (out .exit)) (now (lengths .entry)) (now (lengths .exit)) «so_far» r ⌝ }
+    requires { ⌜ SourceAt frame (now image) i kind × (Binds kind × (InPlaces (workOf context) × (Workable context «in_scope» 1 × RoomAt «so_far»))) ⌝ }
+    ensures { λ r. ⌜ StepsAs (frame .id) (recordAt frame (now (image .entry)) i) («free_vars» .clauses) («free_vars» .next) (workOf context) «in_scope» (now (out .entry)) (now (out .exit)) (now (lengths .entry)) (now (lengths .exit)) «so_far» r ⌝ }
 {
-    let next = free_vars_next;
+    let next = free_vars.next;
     match kind {
         4 => let_::linearize(
             image,
@@ -107,8 +99,7 @@ pub fn settle(
     frame: Frame,
     i: usize,
     kind: u8,
-    free_vars_clauses: u64,
-    free_vars_next: u64,
+    free_vars: FreeVars,
     context: Held,
     in_scope: u8,
     out: &mut [u8],
@@ -116,7 +107,7 @@ pub fn settle(
     so_far: Progress,
 ) -> Progress
     requires { ⌜ SourceAt frame (now image) i kind × (Settles kind × (Workable context «in_scope» 0 × RoomAt «so_far»)) ⌝ }
-    ensures { λ r. ⌜ LeavesAs (frame .id) (recordAt frame (now (image .entry)) i) «free_vars_clauses» «free_vars_next» (workOf context) «in_scope» (now (out .entry)) (now (out .exit)) (now (lengths .entry)) (now (lengths .exit)) «so_far» r ⌝ }
+    ensures { λ r. ⌜ LeavesAs (frame .id) (recordAt frame (now (image .entry)) i) («free_vars» .clauses) («free_vars» .next) (workOf context) «in_scope» (now (out .entry)) (now (out .exit)) (now (lengths .entry)) (now (lengths .exit)) «so_far» r ⌝ }
 {
     match kind {
         3 => call::linearize(image, frame, i, context, in_scope, out, lengths, so_far),

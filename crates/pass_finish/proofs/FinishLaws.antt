@@ -1,4 +1,4 @@
--- The end of linearization, by what was written before it: how many records there are, their lengths and their bytes (`emits-count`,
+-- The end of linearization, by what was written before it: how many records there are, their lengths and their bytes (`written-count`,
 -- `emits-sizes`, `emits-total`), so that the code can end it (`emits-finishable`); the three answers (`finishes-draws`, `finishes-room`,
 -- `finishes-image`); and that they are the end of linearization's answer (`closing-is`). Assumes nothing.
 use Prim.Native.Nat.{ℕ, _+_, _-_, _*_, _≤_, _<_, _^_}
@@ -9,7 +9,7 @@ use native.Mathlib.Omega.{arith}
 use native.Mathlib.Nat.{le-refl, mul-le-mul}
 use borrow.Author.Tests.{le-leb, lt-leb}
 use lib.Dec.{leb}
-use lib.ListN.{length, take, drop, replicate, length-append, length-map}
+use lib.ListN.{length, take, drop, replicate, length-append}
 use lib.Seq.{sets}
 use Rattle.model.specs.Syntax.{Prog}
 use Rattle.model.specs.Pass.{linearize}
@@ -30,19 +30,19 @@ use Rattle.image_write_parts.specs.Puts.{Puts}
 use Rattle.image_write_parts.proofs.Putting.{puts-same, puts-then}
 use Rattle.image_write_directory.specs.Emitting.{sizesOf, Emits, entriesFrom, total}
 use Rattle.image_write_directory.specs.declared.progress.Progress.{Progress}
-use Rattle.image_write_directory.proofs.EmitLaws.{entries-sizes}
-use Rattle.scope_spec.specs.Calls.{refuses, askedOf, afterRefusal, Replies}
+use Rattle.image_write_directory.proofs.EmitLaws.{emits-count, entries-sizes}
+use Rattle.scope_spec.specs.Calls.{refuses, replyIfYes, afterRefusal, Replies}
 use Rattle.pass_answer_spec.specs.Calls.{question12, linearizing}
 use Rattle.pass_finish.specs.Finishing.{closing, heading, Clears, Finishable, Finishes}
 use Rattle.pass_finish.proofs.Completing.{put-back, completed}
 
 -- the tail of linearization's answer
 pub closing-is : (L : Layout) (P : Prog) (size : ℕ) → linearizing L P size ≡
-    askedOf (question6 P) Linearized
-    (askedOf (question7 P) Limits
-    (askedOf (question8 P) Binders
-    (askedOf (question9 P) Scope
-    (askedOf (question10 P) MaxId
+    replyIfYes (question6 P) Linearized
+    (replyIfYes (question7 P) Limits
+    (replyIfYes (question8 P) Binders
+    (replyIfYes (question9 P) Scope
+    (replyIfYes (question10 P) MaxId
     (closing L (linearize P) size)))))
 unfolding linearizing question12 closing
 closing-is L P size = refl
@@ -55,8 +55,8 @@ total-sizes w (r ∷ R) = ap (λ (z : ℕ). length (recordBytes w r) + z) (total
 
 module _ {w : ℕ} {before out lengths₀ lengths : List ℕ} {start m : ℕ} {p : Progress} {R : List Record}
     (e : Emits w before out lengths₀ lengths (record { at = start; count = 0; «max_id» = m }) p R) where
-  pub emits-count : p .count ≡ length R
-  emits-count = omega (arith, e .noted .ends, length-map R (λ (r : Record). length (recordBytes w r)))
+  pub written-count : p .count ≡ length R
+  written-count = omega (arith, emits-count e)
 
   pub emits-sizes : p .count ≤ length lengths → take (p .count) lengths ≡ sizesOf w R
   emits-sizes h =
@@ -120,7 +120,7 @@ module _ (L : Layout) (Q : Prog) {start m : ℕ} {p : Progress} {lengths₀ leng
       let R = flattenDefs (Q .defs) in
       let k : p .at - start ≡ length (each (recordBytes (L .id)) R) = omega (arith, e .bytes .ends) in
       image-length L (length (Q .defs)) (Q .maxId) R
-      ∙ ap (λ (z : ℕ). bodyAt L z + length (each (recordBytes (L .id)) R)) (sym (emits-count e))
+      ∙ ap (λ (z : ℕ). bodyAt L z + length (each (recordBytes (L .id)) R)) (sym (written-count e))
       ∙ ap (λ (z : ℕ). bodyAt L (p .count) + z) (sym k)
 
   image-is : p .count ≤ length lengths
@@ -131,7 +131,7 @@ module _ (L : Layout) (Q : Prog) {start m : ℕ} {p : Progress} {lengths₀ leng
       let bytes = each (recordBytes (L .id)) R in
       let D = length (Q .defs) in
       ap (λ z. headerBytes L (L .number, (D, (Q .maxId, length R))) ++ (each (entryBytes (L .place)) z ++ bytes)) (entries-sizes L (bodyAt L (length R)) R)
-      ∙ ap (λ (z : ℕ). headerBytes L (L .number, (D, (Q .maxId, z))) ++ (each (entryBytes (L .place)) (entriesFrom (bodyAt L z) (sizesOf (L .id) R)) ++ bytes)) (sym (emits-count e))
+      ∙ ap (λ (z : ℕ). headerBytes L (L .number, (D, (Q .maxId, z))) ++ (each (entryBytes (L .place)) (entriesFrom (bodyAt L z) (sizesOf (L .id) R)) ++ bytes)) (sym (written-count e))
       ∙ ap (λ (z : List ℕ). headerBytes L (L .number, (D, (Q .maxId, p .count))) ++ (each (entryBytes (L .place)) (entriesFrom (bodyAt L (p .count)) z) ++ bytes)) (sym (emits-sizes e h))
       ∙ sym (append-assoc (headerBytes L (L .number, (D, (Q .maxId, p .count)))) (each (entryBytes (L .place)) (entriesFrom (bodyAt L (p .count)) (take (p .count) lengths))) bytes)
 

@@ -18,13 +18,13 @@ use Rattle.image_spec.specs.Image.{headerBytes, entryBytes, image}
 use Rattle.image_open.specs.Opening.{Known}
 use Rattle.image_write_directory.specs.Emitting.{Emits, entriesFrom, total}
 use Rattle.image_write_directory.specs.declared.progress.Progress.{Progress}
-use Rattle.scope_spec.specs.Calls.{Reply, writes, askedOf, Replies}
+use Rattle.scope_spec.specs.Calls.{Reply, writes, replyIfYes, Replies}
 
 -- document 01, questions 11 and 12 of the program that linearization gives, and its image
 unfoldable pub closing : Layout → Prog → (size : ℕ) → Reply
 closing L Q size =
-    askedOf (leb (Q .maxId) 65535) Draws
-    (askedOf (leb (length (image L Q)) size && leb (length (image L Q)) (L .largest)) Room
+    replyIfYes (leb (Q .maxId) 65535) Draws
+    (replyIfYes (leb (length (image L Q)) size && leb (length (image L Q)) (L .largest)) Room
     (writes (image L Q) (Q .maxId)))
 
 -- the header and the directory of n records of these lengths

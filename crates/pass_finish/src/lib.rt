@@ -1,26 +1,20 @@
 // The end of linearization (questions 11 and 12): the records are written, and the header and the directory come before them.
-use annotate_marks::clear;
 use image_spec::Answer;
 use image_spec::Layout;
 use image_spec::Refusal;
+use image_write_bytes::bytes::clear;
+use image_write_bytes::bytes::move_up;
+use image_write_directory::directory::narrow;
 use image_write_directory::directory::put_directory;
 use image_write_directory::directory::put_header;
 use image_write_directory::progress::Progress;
-use image_write_records::bytes::move_up;
-ghost use Prim.Native.Nat.{_+_, _-_, _≤_, _<_, _^_};
+ghost use Prim.Native.Nat.{_+_, _-_, _≤_, _<_};
 ghost use mathlib.Core.Path.{_≡_};
 ghost use lib.ListN.{length, take, drop};
 ghost use lib.Seq.{sets};
 ghost use Rattle.image_spec.specs.Layout.{bodyAt};
 ghost use Rattle.image_open.specs.Opening.{Known};
 ghost use Rattle.pass_finish.specs.Finishing.{heading, Clears, Finishable, Finishes};
-
-fn narrow(n: usize) -> u32
-    requires { ⌜ n < 2 ^ 32 ⌝ }
-    ensures { λ r. ⌜ r ≡ n ⌝ }
-{
-    n as u32
-}
 
 // Where the records of an image of n records begin.
 fn body_at(layout: Layout, n: usize) -> usize
@@ -72,7 +66,7 @@ pub fn finish(
     ensures { λ r. ⌜ Finishes layout defs start «so_far» (now (lengths .entry)) (now (out .entry)) (now (out .exit)) r ⌝ }
 {
     let max_id = so_far.max_id;
-    if 65535 < max_id {
+    if Layout::MAX_ID < max_id {
         return refuse(out, Refusal::Draws);
     }
     let length = body_at(layout, so_far.count) + (so_far.at - start);

@@ -24,7 +24,7 @@ use Rattle.image_spec.specs.Layout.{bodyAt}
 use Rattle.image_spec.specs.Parse.{each}
 use Rattle.image_spec.specs.Records.{recordBytes}
 use Rattle.image_spec.specs.Shape.{flatten, flattenDefs}
-use Rattle.image_spec.specs.Reading.{accept, asked, answerOf}
+use Rattle.image_spec.specs.Reading.{accept, ifYes, answerOf}
 use Rattle.image_spec.proofs.FlatLengths.{flattenDefs-length}
 use Rattle.image_directory.specs.Slots.{recordsIn}
 use Rattle.image_directory.specs.declared.Frame.{Frame}
@@ -35,21 +35,23 @@ use Rattle.image_open.specs.Opening.{Known}
 use Rattle.image_open.proofs.OpenedLaws.{IsOpened}
 use Rattle.image_places_spec.specs.Places.{Begins}
 use Rattle.scope_spec.specs.FreeRows.{rowUnder, rowsStmt, rowsDefs}
-use Rattle.scope_spec.specs.Calls.{Reply, askedOf, checking, Replies}
+use Rattle.scope_spec.specs.Calls.{Reply, replyIfYes, checking, Replies}
 use Rattle.scope_spec.proofs.FreeViews.{rows-length}
 use Rattle.scope_spec.proofs.IdsFit.{two-bytes}
 use Rattle.scope_check.specs.Definitions.{defsIn}
 use Rattle.scope_check.specs.Deciding.{programIn}
 use Rattle.scope_check.proofs.CheckLaws.{opened-defined}
-use Rattle.scope_check.specs.Masks.{Passed}
+use Rattle.scope_walk.specs.Masks.{Passed}
 use Rattle.scope_check.proofs.DefWalks.{passed-plain, passed-small, passed-stand}
 use Rattle.pass_work_spec.specs.Work.{workDefs}
 use Rattle.pass_work_spec.proofs.Rooms.{works-fit}
 use Rattle.pass_work_spec.proofs.Bounds.{work-near}
 use Rattle.pass_work_spec.proofs.SamePass.{work-defs}
 use Rattle.pass_step_spec.proofs.SizeBounds.{defs-bytes, defs-fewer, defs-more, defs-same-count}
-use Rattle.pass_walk.specs.Walking.{Sources, DefsAhead, Writes}
-use Rattle.pass_walk.proofs.RoomLaws.{emits-at, emits-count}
+use Rattle.pass_walk.specs.Walking.{Sources, Writes}
+use Rattle.pass_definitions.specs.Defining.{DefsAhead}
+use Rattle.image_write_directory.proofs.EmitLaws.{emits-count}
+use Rattle.pass_walk.proofs.RoomLaws.{emits-at}
 use Rattle.pass_answer_spec.specs.Calls.{linearizing}
 use Rattle.pass_finish.specs.Finishing.{closing, Finishable, Finishes}
 use Rattle.pass_finish.proofs.FinishLaws.{closing-is, body-small, emits-finishable}
@@ -119,7 +121,7 @@ module _ {L : Layout} {g : Frame} {s : List ℕ} {d m : ℕ} (c : Checked L g s 
   pub rows-begin : (rows : List ℕ) {rows′ : List ℕ} → 2 * g .count ≤ length rows → rows′ ≡ sets rows 0 (rowsDefs (defsIn d (recordsIn g s))) → Begins rows′ 0 (rowsDefs (defsIn d (recordsIn g s)))
   rows-begin rows k e = subst (λ (z : List ℕ). Begins z 0 (rowsDefs (P .defs))) (sym e) (stored rows (rowsDefs (P .defs)) (omega (arith, rows-defs-length (P .defs), count, k)))
 
-  pub defs-ahead : {rows : List ℕ} → Begins rows 0 (rowsDefs (defsIn d (recordsIn g s))) → DefsAhead g s rows d begin (defsIn d (recordsIn g s))
+  pub defs-ahead : {rows : List ℕ} → Begins rows 0 (rowsDefs (defsIn d (recordsIn g s))) → DefsAhead g s rows d 0 begin (defsIn d (recordsIn g s))
   defs-ahead b = record {
     sources = sources;
     stand = passed-stand (c .read .defined) passed;
@@ -164,7 +166,7 @@ module _ {L : Layout} {g : Frame} {s : List ℕ} {d m : ℕ} (r : Read L g s d m
   program = programIn d (recordsIn g s) m
 
   all-yes : {size top : ℕ} (a b c u v : Bool) → question6 program ≡ a → question7 program ≡ b → question8 program ≡ c → question9 program ≡ u → question10 program ≡ v
-      → answerOf (asked a Linearized (asked b Limits (asked c Binders (asked u Scope (asked v MaxId (accept program)))))) ≡ Accepted size top → Checked L g s d m
+      → answerOf (ifYes a Linearized (ifYes b Limits (ifYes c Binders (ifYes u Scope (ifYes v MaxId (accept program)))))) ≡ Accepted size top → Checked L g s d m
   all-yes true true true true true six seven eight nine ten e = record { read = r; six = six; seven = seven; eight = eight; nine = nine; ten = ten }
   all-yes false b c u v six seven eight nine ten e = let z : _≡_ {A = ℕ} 0 1 = cc (e) in absurd (omega arith)
   all-yes true false c u v six seven eight nine ten e = let z : _≡_ {A = ℕ} 0 1 = cc (e) in absurd (omega arith)
@@ -184,8 +186,8 @@ pub checked-no : (L : Layout) (P : Prog) (size : ℕ) (before : List ℕ) {q : R
 unfolding checking linearizing
 checked-no L P size before {q} e = go (question6 P) (question7 P) (question8 P) (question9 P) (question10 P) _ e
   where
-    go : (a b c u v : Bool) (k : Reply) → answerOf (asked a Linearized (asked b Limits (asked c Binders (asked u Scope (asked v MaxId (accept P)))))) ≡ Refused q
-        → Replies (askedOf a Linearized (askedOf b Limits (askedOf c Binders (askedOf u Scope (askedOf v MaxId k))))) (Refused q) before before
+    go : (a b c u v : Bool) (k : Reply) → answerOf (ifYes a Linearized (ifYes b Limits (ifYes c Binders (ifYes u Scope (ifYes v MaxId (accept P)))))) ≡ Refused q
+        → Replies (replyIfYes a Linearized (replyIfYes b Limits (replyIfYes c Binders (replyIfYes u Scope (replyIfYes v MaxId k))))) (Refused q) before before
     go true true true true true k e = let z : _≡_ {A = ℕ} 0 1 = cc (e) in absurd (omega arith)
     go false b c u v k e = let z : q ≡ Linearized = cc (e) in rw z record { answers = refl; leaves = refl }
     go true false c u v k e = let z : q ≡ Limits = cc (e) in rw z record { answers = refl; leaves = refl }

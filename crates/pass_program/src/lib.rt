@@ -5,8 +5,8 @@ use image_open::open;
 use image_spec::Answer;
 use image_spec::Layout;
 use image_write_directory::progress::Progress;
+use pass_definitions::program::definitions;
 use pass_finish::finish;
-use pass_walk::def::definitions;
 use scope_check::check::check_image;
 ghost use Prim.Native.Nat.{_*_, _≤_};
 ghost use lib.ListN.{length};
@@ -21,9 +21,6 @@ ghost use Rattle.scope_check.specs.Deciding.{programIn};
 ghost use Rattle.pass_answer_spec.specs.Calls.{linearizing, linearizeOf};
 ghost use Rattle.pass_finish.specs.Finishing.{closing};
 ghost use Rattle.pass_program.specs.Programs.{Read, Checked};
-
-// How many records a small image has at the most. What is worked with is cleared in each call, so a small image gets less of it.
-const FEW: usize = 64;
 
 // Questions 11 and 12, of an image that has passed 1 to 10. The records are written behind the place of a directory for as many records as the
 // source has; there may be up to twice as many. `rows` has two masks of each record of the source, `lengths` has room for the length of each that
@@ -86,9 +83,9 @@ fn linearize_image(
     requires { ⌜ Read layout frame (now image) defs «max_id» ⌝ }
     ensures { λ r. ⌜ Replies (linearizing layout (programIn defs (recordsIn frame (now (image .entry))) «max_id») (length (now (out .entry)))) r (now (out .entry)) (now (out .exit)) ⌝ }
 {
-    if frame.count <= FEW {
-        let mut rows = [0u64; 128];
-        let mut lengths = [0usize; 128];
+    if frame.count <= Frame::FEW_SOURCE_RECORDS {
+        let mut rows = [0u64; Frame::FEW_OUTPUT_RECORDS];
+        let mut lengths = [0usize; Frame::FEW_OUTPUT_RECORDS];
         return linearize_lent(
             image,
             layout,
@@ -100,8 +97,8 @@ fn linearize_image(
             out,
         );
     }
-    let mut rows = [0u64; 4000];
-    let mut lengths = [0usize; 4000];
+    let mut rows = [0u64; Frame::MAX_OUTPUT_RECORDS];
+    let mut lengths = [0usize; Frame::MAX_OUTPUT_RECORDS];
     linearize_lent(
         image,
         layout,

@@ -1,4 +1,4 @@
--- One statement of the pass over contexts at work (work/specs/Work.antt), from its record alone. Every statement goes the same way:
+-- One statement of the pass over contexts at work (pass_work_spec/specs/Work.antt), from its record alone. Every statement goes the same way:
 --   1. its record and its annotations give the context for its clauses: `clauseContext`;
 --   2. its clauses are linearized there;
 --   3. with the max_id after them comes its step: the records that stand before its clauses in the output, and the context, the count of

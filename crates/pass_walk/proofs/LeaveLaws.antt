@@ -11,15 +11,15 @@ use Rattle.image_directory.specs.declared.Frame.{Frame}
 use Rattle.image_write_directory.specs.declared.progress.Progress.{Progress}
 use Rattle.image_places_spec.specs.Views.{binders}
 use Rattle.image_read_nodes.specs.Nodes.{recordAt, At}
-use Rattle.image_read_records.proofs.ListPlaces.{at-made}
+use Rattle.pass_records.proofs.ListPlaces.{at-made}
 use Rattle.pass_work_spec.specs.Work.{Work}
 use Rattle.pass_context.specs.Holding.{workOf}
 use Rattle.pass_context.specs.declared.Held.{Held}
 use Rattle.pass_step_spec.specs.Steps.{Step, stepOf, stepOther, stepCall, stepSwitch, stepInvoke, stepIfC}
 use Rattle.pass_step_spec.specs.Fronts.{wanted, rightOf}
-use Rattle.pass_arrange.specs.Stepping.{Says, StepsAs, LeavesAs, OpenedAs}
-use Rattle.pass_arrange.specs.declared.stepped.Stepped.{Stepped}
-use Rattle.pass_arrange.specs.declared.stepped.Opened.{Opened}
+use Rattle.pass_step.specs.Stepping.{Says, StepsAs, LeavesAs, OpenedAs}
+use Rattle.pass_step.specs.declared.stepped.Stepped.{Stepped}
+use Rattle.pass_step.specs.declared.stepped.Opened.{Opened}
 
 -- this context, and this count of variables in scope
 record Stays (x : Step) (W : Work) (n : ℕ) : Type 0 where

@@ -5,4 +5,3 @@ pub mod LeaveLaws
 pub mod StatementLaws
 pub mod WalkSteps
 pub mod LoopSteps
-pub mod DefSteps

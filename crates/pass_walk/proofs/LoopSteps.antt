@@ -35,9 +35,9 @@ use Rattle.pass_context.specs.declared.Held.{Held}
 use Rattle.pass_step_spec.specs.Steps.{workBodies}
 use Rattle.pass_step_spec.proofs.WorkViews.{bodyDone, restDone, clause-view, bodies-view}
 use Rattle.pass_step_spec.proofs.StepBounds.{bodies-rise}
-use Rattle.pass_arrange.specs.Stepping.{RoomAt, SourceAt, Workable, Steps}
-use Rattle.pass_arrange.specs.declared.stepped.Stepped.{Stepped}
-use Rattle.pass_dispatch.specs.Entering.{entering}
+use Rattle.pass_step.specs.Stepping.{RoomAt, SourceAt, Workable, Steps}
+use Rattle.pass_step.specs.declared.stepped.Stepped.{Stepped}
+use Rattle.pass_clause.specs.Entering.{entering}
 use Rattle.pass_walk.specs.Walking.{Sources, RoomTo, StmtAhead, ClausesAhead, BodiesAhead, LinearizedTo}
 use Rattle.pass_walk.specs.declared.walk.Linearized.{Linearized}
 use Rattle.pass_walk.proofs.RoomLaws.{room-here, room-first, Writing, writing-begun, writing-on, writing-as, writing-done}

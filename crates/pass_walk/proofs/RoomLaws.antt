@@ -3,21 +3,19 @@ use Prim.Native.Nat.{ℕ, _+_, _≤_}
 use mathlib.Core.Path.{_≡_, refl, sym, ap, _∙_, subst}
 use mathlib.Core.List.{List, [], _++_, append-nil, append-assoc}
 use native.Mathlib.Omega.{arith}
-use lib.ListN.{length, length-append, length-map}
+use lib.ListN.{length, length-append}
 use Rattle.image_spec.specs.Parse.{each}
 use Rattle.image_spec.specs.Records.{Record, recordBytes}
 use Rattle.image_write_directory.specs.Emitting.{Emits}
 use Rattle.image_write_directory.specs.declared.progress.Progress.{Progress}
-use Rattle.image_write_directory.proofs.EmitLaws.{each-append, emits-none, emits-then}
-use Rattle.pass_arrange.specs.Stepping.{RoomAt}
+use Rattle.image_spec.proofs.ListLaws.{each-append}
+use Rattle.image_write_directory.proofs.EmitLaws.{emits-none, emits-then, emits-count}
+use Rattle.pass_step.specs.Stepping.{RoomAt}
 use Rattle.pass_walk.specs.Walking.{RoomTo, Writes}
 
 -- where records that were written end
 pub emits-at : {w : ℕ} {out out′ lengths lengths′ : List ℕ} {p q : Progress} {R : List Record} → Emits w out out′ lengths lengths′ p q R → q .at ≡ p .at + length (each (recordBytes w) R)
 emits-at e = e .bytes .ends
-
-pub emits-count : {w : ℕ} {out out′ lengths lengths′ : List ℕ} {p q : Progress} {R : List Record} → Emits w out out′ lengths lengths′ p q R → q .count ≡ p .count + length R
-emits-count {w = w} {p = p} {R = R} e = e .noted .ends ∙ ap (λ (k : ℕ). p .count + k) (length-map R (λ (r : Record). length (recordBytes w r)))
 
 module _ {w : ℕ} {p : Progress} {top : ℕ} where
   -- room for a step
@@ -27,14 +25,14 @@ module _ {w : ℕ} {p : Progress} {top : ℕ} where
   -- room for the first of two parts, and for the second behind it
   pub room-first : (A B : List Record) {low : ℕ} → RoomTo w p (A ++ B) top → low ≤ top → RoomTo w p A low
   room-first A B r h = record {
-    at = omega (arith, r .at, ap length (each-append w A B), length-append (each (recordBytes w) A) (each (recordBytes w) B));
+    at = omega (arith, r .at, ap length (each-append (recordBytes w) A B), length-append (each (recordBytes w) A) (each (recordBytes w) B));
     count = omega (arith, r .count, length-append A B);
     maxId = omega (arith, r .maxId, h);
   }
 
   pub room-second : (A B : List Record) {q : Progress} → RoomTo w p (A ++ B) top → q .at ≡ p .at + length (each (recordBytes w) A) → q .count ≡ p .count + length A → RoomTo w q B top
   room-second A B r a c = record {
-    at = omega (arith, r .at, a, ap length (each-append w A B), length-append (each (recordBytes w) A) (each (recordBytes w) B));
+    at = omega (arith, r .at, a, ap length (each-append (recordBytes w) A B), length-append (each (recordBytes w) A) (each (recordBytes w) B));
     count = omega (arith, r .count, c, length-append A B);
     maxId = r .maxId;
   }

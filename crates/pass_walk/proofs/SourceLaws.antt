@@ -23,13 +23,13 @@ use Rattle.scope_spec.specs.FreeRows.{bit, maskOf}
 use Rattle.scope_spec.proofs.FreeViews.{Plain}
 use Rattle.scope_spec.proofs.RowLaws.{mask-at}
 use Rattle.image_read_nodes.specs.Nodes.{At}
-use Rattle.annotate_uses.proofs.CountLaws.{record-at}
+use Rattle.scope_records.proofs.FlatLaws.{record-at}
 use Rattle.pass_work_spec.specs.Work.{Work}
 use Rattle.pass_work_spec.specs.Placed.{Placed, AllFit}
 use Rattle.pass_work_spec.proofs.Rooms.{here-fits}
-use Rattle.pass_context.specs.Masks.{marked}
+use Rattle.pass_entries.specs.Masks.{marked}
 use Rattle.pass_step_spec.specs.Steps.{paramsFirst}
-use Rattle.pass_arrange.specs.Stepping.{Says, SourceAt}
+use Rattle.pass_step.specs.Stepping.{Says, SourceAt}
 use Rattle.pass_dispatch.specs.Choices.{Binds, Settles}
 use Rattle.pass_walk.specs.Walking.{Sources}
 

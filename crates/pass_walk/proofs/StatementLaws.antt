@@ -28,16 +28,17 @@ use Rattle.image_read_nodes.specs.Nodes.{recordAt}
 use Rattle.image_read_nodes.specs.Nodes.{Followed}
 use Rattle.image_read_nodes.specs.declared.Follows.{Follows}
 use Rattle.image_read_nodes.proofs.StepLaws.{head-is, above-at, below-at}
-use Rattle.annotate_uses.proofs.CountLaws.{record-at}
+use Rattle.scope_records.proofs.FlatLaws.{record-at}
 use Rattle.pass_work_spec.specs.Work.{Work, workStmt}
 use Rattle.pass_work_spec.proofs.Rooms.{here-fits}
+use Rattle.pass_entries.specs.Masks.{InPlaces}
 use Rattle.pass_context.specs.Holding.{workOf}
 use Rattle.pass_context.specs.declared.Held.{Held}
 use Rattle.pass_step_spec.specs.Steps.{Step, clauseContext, paramsFirst}
 use Rattle.pass_step_spec.proofs.WorkViews.{freeInClauses, freeInBodies, clausesDone, stepDone, bodiesDone, WorkView, work-view}
 use Rattle.pass_step_spec.proofs.StepBounds.{FitView, fit-view, step-rises, bodies-rise}
 use Rattle.pass_work_spec.proofs.Bounds.{work-risesClauses}
-use Rattle.pass_arrange.specs.Stepping.{Says, RoomAt, Workable}
+use Rattle.pass_step.specs.Stepping.{Says, RoomAt, Workable}
 use Rattle.pass_dispatch.specs.Choices.{Binds}
 use Rattle.pass_walk.specs.Walking.{RoomTo, StmtAhead}
 use Rattle.pass_walk.proofs.RoomLaws.{room-here}
@@ -148,6 +149,10 @@ module _ {g : Frame} {s rows : List ℕ} {d i : ℕ} {held : Held} {n : ℕ} {p 
 
   pub workable-open : Workable held 0 0
   workable-open = let w = workable in record { count = h .count; room = omega (arith, w .room); places = omega arith }
+
+  -- the places of the entries tell their sources
+  pub in-places : InPlaces W
+  in-places = let f = here-fits here (h .scope) W n (h .fits) in record { scope = h .scope; placed = f .placed; few = omega (arith, f .count, f .room) }
 
   -- its row, and what the masks in it say
   row : RowHere rows (2 * i) (maskOf (freeInClauses here) (h .scope)) (maskOf (freeInBodies here) (h .scope ++ binders (recordOf here)))

@@ -16,7 +16,7 @@ use Rattle.image_directory.specs.Slots.{recordsIn}
 use Rattle.image_directory.specs.declared.Frame.{Frame}
 use Rattle.image_write_directory.specs.Emitting.{Emits}
 use Rattle.image_write_directory.specs.declared.progress.Progress.{Progress}
-use Rattle.image_write_directory.proofs.EmitLaws.{emits-none, emits-then, emits-reserved}
+use Rattle.image_write_directory.proofs.EmitLaws.{emits-none, emits-then, emits-reserved, emits-count}
 use Rattle.image_places_spec.specs.Views.{recordOf, clausesIn, binders}
 use Rattle.image_places_spec.specs.Places.{stmtAt, clausesAt, Begins}
 use Rattle.image_places_spec.proofs.Steps.{Above, Below}
@@ -32,13 +32,13 @@ use Rattle.pass_step_spec.specs.Steps.{Step, stepOf, clauseContext, paramsFirst
 use Rattle.pass_step_spec.specs.Fronts.{frontRecords, frontBytes}
 use Rattle.pass_step_spec.proofs.WorkViews.{freeInClauses, freeInBodies, clausesDone, stepDone, bodiesDone}
 use Rattle.pass_step_spec.proofs.FrontLaws.{front-records, front-bytes}
-use Rattle.pass_arrange.specs.Drawn.{drawnTo}
-use Rattle.pass_arrange.specs.Stepping.{RoomAt, Steps, Opens, OpensAs}
-use Rattle.pass_arrange.specs.declared.stepped.Stepped.{Stepped}
-use Rattle.pass_arrange.specs.declared.stepped.Opened.{Opened}
+use Rattle.pass_step.specs.Drawn.{drawnTo}
+use Rattle.pass_step.specs.Stepping.{RoomAt, Steps, Opens, OpensAs}
+use Rattle.pass_step.specs.declared.stepped.Stepped.{Stepped}
+use Rattle.pass_step.specs.declared.stepped.Opened.{Opened}
 use Rattle.pass_walk.specs.Walking.{RoomTo, StmtAhead, ClausesAhead, BodiesAhead, LinearizedTo}
 use Rattle.pass_walk.specs.declared.walk.Linearized.{Linearized}
-use Rattle.pass_walk.proofs.RoomLaws.{emits-at, emits-count, room-first, room-second}
+use Rattle.pass_walk.proofs.RoomLaws.{emits-at, room-first, room-second}
 use Rattle.pass_walk.proofs.SourceLaws.{params-first}
 use Rattle.pass_walk.proofs.StatementLaws.{isRecord, view, fit, drawn-step, drawn-bodies, room-view, say-clauses, say-next, rows-clauses, rows-bodies}
 

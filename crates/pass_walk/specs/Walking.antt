@@ -5,20 +5,19 @@ use mathlib.Core.Bool.{Bool, true}
 use mathlib.Core.List.{List}
 use lib.ListN.{length}
 use Rattle.syntax.specs.declared.names.VarId.{VarId}
-use Rattle.model.specs.Syntax.{Stmt, Clauses, Def}
+use Rattle.model.specs.Syntax.{Stmt, Clauses}
 use Rattle.image_spec.specs.Parse.{each, All}
 use Rattle.image_spec.specs.Records.{Record, recordBytes}
-use Rattle.image_spec.specs.Shape.{flatten, flattenClauses, flattenDefs}
+use Rattle.image_spec.specs.Shape.{flatten, flattenClauses}
 use Rattle.image_directory.specs.Slots.{Ready, recordsIn}
 use Rattle.image_directory.specs.declared.Frame.{Frame}
 use Rattle.image_write_directory.specs.Emitting.{Emits}
 use Rattle.image_write_directory.specs.declared.progress.Progress.{Progress}
 use Rattle.image_places_spec.specs.Places.{Begins, StmtStands, ClausesStand, BodiesStand}
 use Rattle.scope_spec.specs.Flat.{allRecords, smallRecord, plainRecord}
-use Rattle.scope_spec.specs.FreeRows.{rowsStmt, rowsClauses, rowsBodies, rowsDefs}
-use Rattle.scope_check.specs.Definitions.{DefsStand}
-use Rattle.pass_work_spec.specs.Work.{workStmt, workClauses, workDefs}
-use Rattle.pass_work_spec.specs.Placed.{AllFit, AllFitClauses, AllFitDefs}
+use Rattle.scope_spec.specs.FreeRows.{rowsStmt, rowsClauses, rowsBodies}
+use Rattle.pass_work_spec.specs.Work.{workStmt, workClauses}
+use Rattle.pass_work_spec.specs.Placed.{AllFit, AllFitClauses}
 use Rattle.pass_step_spec.specs.Steps.{workBodies}
 use Rattle.pass_context.specs.Holding.{workOf}
 use Rattle.pass_context.specs.declared.Held.{Held}
@@ -64,13 +63,6 @@ pub record BodiesAhead (g : Frame) (s rows : List ℕ) (d k i : ℕ) (held : Hel
   pub rowsAre : Begins rows (2 * i) (rowsBodies ts scope)
   pub fits : All (λ (t : Stmt). AllFit t scope (workOf held) n) ts
   pub room : RoomTo (g .id) p (each flatten (workBodies ts (workOf held) n (p .«max_id») .0)) (workBodies ts (workOf held) n (p .«max_id») .1)
-
-pub record DefsAhead (g : Frame) (s rows : List ℕ) (d : ℕ) (p : Progress) (ds : List Def) : Type 0 where
-  pub sources : Sources g s
-  pub stand : DefsStand 64 d (recordsIn g s) 0 ds
-  pub rowsAre : Begins rows 0 (rowsDefs ds)
-  pub fits : AllFitDefs ds
-  pub room : RoomTo (g .id) p (flattenDefs (workDefs ds (p .«max_id») .0)) (workDefs ds (p .«max_id») .1)
 
 -- ── what is done ──
 

@@ -1,3 +1,2 @@
 // Linearization over the records of an image, with the Rust's names. The statements are in crates of their own.
-pub mod def;
 pub mod walk;

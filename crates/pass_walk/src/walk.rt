@@ -4,14 +4,15 @@
 use image_directory::Frame;
 use image_read_nodes::parts_of;
 use image_write_directory::progress::Progress;
-use pass_arrange::fresh::with_max_id;
-use pass_branches::create;
-use pass_branches::switch;
+use pass_clause::clause::enter;
 use pass_context::Held;
-use pass_dispatch::clause::enter;
 use pass_dispatch::step::bind;
 use pass_dispatch::step::open;
 use pass_dispatch::step::settle;
+use pass_statement_create::create;
+use pass_statement_switch::switch;
+use pass_step::fresh::with_max_id;
+use pass_step::stepped::FreeVars;
 use syntax::names::VarId;
 ghost use mathlib.Core.Path.{_≡_};
 ghost use mathlib.Core.Bool.{_&&_, _||_};
@@ -70,15 +71,19 @@ pub fn statement(
     requires { ⌜ StmtAhead frame (now image) (now rows) depth i context «in_scope» «so_far» (stmtAt depth (recordsIn frame (now image)) i) ⌝ }
     ensures { λ r. ⌜ LinearizedTo (frame .id) (now (out .entry)) (now (out .exit)) (now (lengths .entry)) (now (lengths .exit)) «so_far» r (i + length (flatten (stmtAt depth (recordsIn frame (now (image .entry))) i))) (flatten (workStmt (stmtAt depth (recordsIn frame (now (image .entry))) i) (workOf context) «in_scope» («so_far» .«max_id») .0)) (workStmt (stmtAt depth (recordsIn frame (now (image .entry))) i) (workOf context) «in_scope» («so_far» .«max_id») .1) ⌝ }
 {
-    let f = parts_of(image, frame, i);
-    let k = f.kind;
+    let parts = parts_of(image, frame, i);
+    let kind = parts.kind;
     let row = 2 * i;
-    let fc = rows[row];
-    let fn_ = rows[row + 1];
-    if has_clauses(k) {
-        let o = open(image, frame, i, k, fc, fn_, context, so_far);
-        let before = k == 6;
-        let n = f.clauses;
+    let free_vars_clauses = rows[row];
+    let free_vars_next = rows[row + 1];
+    let free_vars = FreeVars {
+        clauses: free_vars_clauses,
+        next: free_vars_next,
+    };
+    if has_clauses(kind) {
+        let opened = open(image, frame, i, kind, free_vars, context, so_far);
+        let before = kind == 6;
+        let n = parts.clauses;
         let here = clauses(
             image,
             frame,
@@ -87,56 +92,65 @@ pub fn statement(
             n,
             i + 1,
             before,
-            o.context,
+            opened.context,
             in_scope,
             out,
             lengths,
-            o.progress,
+            opened.progress,
         );
-        let q = with_max_id(so_far, VarId(here.progress.max_id));
+        let drawn = with_max_id(so_far, VarId(here.progress.max_id));
         if before {
-            let st = create::linearize(
+            let stepped = create::linearize(
                 image,
                 frame,
                 i,
-                fc,
-                fn_,
+                free_vars,
                 context,
                 in_scope,
-                o,
+                opened,
                 out,
                 lengths,
-                q,
+                drawn,
             );
-            let r = with_max_id(here.progress, VarId(st.progress.max_id));
+            let progress = with_max_id(here.progress, VarId(stepped.progress.max_id));
             return statement(
                 image,
                 frame,
                 rows,
                 depth - 1,
                 here.next,
-                st.context,
-                st.in_scope,
+                stepped.context,
+                stepped.in_scope,
                 out,
                 lengths,
-                r,
+                progress,
             );
         }
-        let st = switch::linearize(image, frame, i, fc, context, in_scope, o, out, lengths, q);
-        let progress = with_max_id(here.progress, VarId(st.max_id));
+        let written = switch::linearize(
+            image,
+            frame,
+            i,
+            free_vars_clauses,
+            context,
+            in_scope,
+            opened,
+            out,
+            lengths,
+            drawn,
+        );
+        let progress = with_max_id(here.progress, VarId(written.max_id));
         return Linearized {
             next: here.next,
             progress,
         };
     }
-    if binds(k) {
-        let st = bind(
+    if binds(kind) {
+        let stepped = bind(
             image,
             frame,
             i,
-            k,
-            fc,
-            fn_,
+            kind,
+            free_vars,
             context,
             in_scope,
             out,
@@ -149,30 +163,29 @@ pub fn statement(
             rows,
             depth - 1,
             i + 1,
-            st.context,
-            st.in_scope,
+            stepped.context,
+            stepped.in_scope,
             out,
             lengths,
-            st.progress,
+            stepped.progress,
         );
     }
-    let q = settle(
+    let written = settle(
         image,
         frame,
         i,
-        k,
-        fc,
-        fn_,
+        kind,
+        free_vars,
         context,
         in_scope,
         out,
         lengths,
         so_far,
     );
-    if f.bodies == 0 {
+    if parts.bodies == 0 {
         return Linearized {
             next: i + 1,
-            progress: q,
+            progress: written,
         };
     }
     bodies(
@@ -180,13 +193,13 @@ pub fn statement(
         frame,
         rows,
         depth - 1,
-        f.bodies,
+        parts.bodies,
         i + 1,
         context,
         in_scope,
         out,
         lengths,
-        q,
+        written,
     )
 }
 
@@ -214,7 +227,7 @@ fn clauses(
     };
     let mut left = n;
     while 0 < left {
-        let e = enter(
+        let entered = enter(
             image,
             frame,
             here.next,
@@ -232,11 +245,11 @@ fn clauses(
             rows,
             depth,
             here.next + 1,
-            e.context,
-            e.in_scope,
+            entered.context,
+            entered.in_scope,
             out,
             lengths,
-            e.progress,
+            entered.progress,
         );
         left = left - 1;
     }

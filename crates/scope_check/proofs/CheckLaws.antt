@@ -1,25 +1,25 @@
 -- The questions 6 to 10 of a program, from what the code asks of its records. Assumes nothing.
-use Prim.Native.Nat.{ℕ, suc, _≤_}
+use Prim.Native.Nat.{ℕ, _≤_}
 use mathlib.Core.Path.{_≡_, refl, sym, ap, _∙_, subst}
 use mathlib.Core.Bool.{Bool, true, false, _&&_, cond}
-use mathlib.Core.List.{List, [], _∷_}
+use mathlib.Core.List.{List, [], append-nil}
 use native.Mathlib.Omega.{arith}
 use borrow.Author.Tests.{leb-true}
 use lib.Dec.{leb}
-use lib.ListN.{length, length-append}
-use mathlib.Core.List.{append-nil}
-use Rattle.model.specs.Syntax.{Stmt, Substitute, Call, Let, Switch, Create, Invoke, Literal, Op, IfC, Clauses, end, clause, Def, Prog}
-use Rattle.model.specs.Sizes.{records, recordsClauses, recordsDefs, depth, depthDefs}
-use Rattle.model.specs.Questions.{askedDefs, anyBinders, small, question7, question8, question9, question10}
+use lib.ListN.{length}
+use Rattle.model.specs.Syntax.{Def, Prog}
+use Rattle.model.specs.Sizes.{records, depth, depthDefs}
+use Rattle.model.specs.Questions.{askedDefs, anyBinders, question7, question8, question9, question10}
 use Rattle.image_spec.specs.Parse.{All}
 use Rattle.image_spec.specs.Records.{Record}
 use Rattle.image_spec.specs.declared.Layout.{Layout}
 use Rattle.image_spec.specs.declared.Refusal.{Refusal}
 use Rattle.image_spec.specs.declared.Refusal.the-variants.{Linearized, Limits, Binders, Scope, MaxId}
 use Rattle.image_spec.specs.declared.Answer.the-variants.{Accepted, Refused}
-use Rattle.image_spec.specs.Shape.{flatten, flattenClauses, flattenDefs, DefOk, definitions}
-use Rattle.image_spec.specs.Reading.{Reading, refuse, accept, asked, reading, answerOf}
-use Rattle.image_spec.proofs.ShapeLaws.{parse-flatten}
+use Rattle.image_spec.specs.Shape.{flattenDefs, DefOk}
+use Rattle.image_spec.specs.Reading.{Reading, refuse, accept, ifYes, reading, answerOf}
+use Rattle.image_spec.proofs.ShapeLaws.{parse-flatten, shallow-all}
+use Rattle.image_spec.proofs.FlatLengths.{flattenDefs-length}
 use Rattle.image_spec.proofs.DirectoryLaws.{and-right}
 use Rattle.image_directory.specs.Slots.{recordsIn}
 use Rattle.image_directory.specs.declared.Frame.{Frame}
@@ -36,31 +36,6 @@ use Rattle.scope_spec.proofs.FlatLaws.{question6-flat, question7-flat}
 use Rattle.scope_check.specs.Definitions.{defsIn, DefsStand, Defined}
 use Rattle.scope_check.specs.Deciding.{decided, programIn}
 
--- ── as many records as the tree says ──
-
-mutual
-  unfolding flatten records
-
-  records-flat : (t : Stmt) → length (flatten t) ≡ records t
-  records-flat (Substitute ps next) = ap suc (records-flat next)
-  records-flat (Call label args) = refl
-  records-flat (Let var ty tag args next) = ap suc (records-flat next)
-  records-flat (Switch var ty cs) = ap suc (clauses-flat cs)
-  records-flat (Create var ty env cs next) = omega (arith, length-append (flattenClauses cs) (flatten next), clauses-flat cs, records-flat next)
-  records-flat (Invoke var tag ty args) = refl
-  records-flat (Literal lit var next) = ap suc (records-flat next)
-  records-flat (Op fst op snd var next) = ap suc (records-flat next)
-  records-flat (IfC sort fst snd thenc elsec) = omega (arith, length-append (flatten thenc) (flatten elsec), records-flat thenc, records-flat elsec)
-
-  clauses-flat : (cs : Clauses) → length (flattenClauses cs) ≡ recordsClauses cs
-  clauses-flat end = refl
-  clauses-flat (clause xtor context body rest) = omega (arith, length-append (flatten body) (flattenClauses rest), records-flat body, clauses-flat rest)
-
-pub defs-flat : (ds : List Def) → length (flattenDefs ds) ≡ recordsDefs ds
-unfolding flattenDefs
-defs-flat [] = refl
-defs-flat (d ∷ ds) = omega (arith, length-append (flatten (d .body)) (flattenDefs ds), records-flat (d .body), defs-flat ds)
-
 -- ── the answers ──
 
 module _ (P : Prog) where
@@ -71,7 +46,7 @@ module _ (P : Prog) where
   question7-is : question7 P ≡ inLimits && askedDefs (P .defs) inRoom anyBinders
   unfolding inLimits
   question7-is =
-      rw (question7-flat P, ← defs-flat (P .defs))
+      rw (question7-flat P, ← flattenDefs-length (P .defs))
       (shuffle (leb (length (flattenDefs (P .defs))) 2000) (leb (depthDefs (P .defs)) 64) (allRecords smallRecord (flattenDefs (P .defs))) (askedDefs (P .defs) inRoom anyBinders))
     where
       shuffle : (a b c d : Bool) → a && (b && (c && d)) ≡ (a && (c && b)) && d
@@ -94,25 +69,25 @@ module _ (P : Prog) where
   walk-decides e h = rw (question6-flat P, e, question7-is, h) (go (walkDefs (P .defs) (P .maxId) clean) (walk-answers (P .defs) (P .maxId)))
     where
       rest : Reading
-      rest = asked (question8 P) Binders (asked (question9 P) Scope (asked (question10 P) MaxId (accept P)))
+      rest = ifYes (question8 P) Binders (ifYes (question9 P) Scope (ifYes (question10 P) MaxId (accept P)))
 
-      last : (i : Bool) → answerOf (asked i MaxId (accept P)) ≡ cond i (Accepted 0 (P .maxId)) (Refused MaxId)
+      last : (i : Bool) → answerOf (ifYes i MaxId (accept P)) ≡ cond i (Accepted 0 (P .maxId)) (Refused MaxId)
       last true = refl
       last false = refl
 
-      both : (u i : Bool) → answerOf (asked u Scope (asked i MaxId (accept P))) ≡ cond u (cond i (Accepted 0 (P .maxId)) (Refused MaxId)) (Refused Scope)
+      both : (u i : Bool) → answerOf (ifYes u Scope (ifYes i MaxId (accept P))) ≡ cond u (cond i (Accepted 0 (P .maxId)) (Refused MaxId)) (Refused Scope)
       both true i = last i
       both false i = refl
 
-      three : (b u i : Bool) → answerOf (asked b Binders (asked u Scope (asked i MaxId (accept P))))
+      three : (b u i : Bool) → answerOf (ifYes b Binders (ifYes u Scope (ifYes i MaxId (accept P))))
           ≡ cond b (cond u (cond i (Accepted 0 (P .maxId)) (Refused MaxId)) (Refused Scope)) (Refused Binders)
       three true u i = both u i
       three false u i = refl
 
-      go : (v : Verdict) → Answered (P .defs) (P .maxId) v → answerOf (asked (askedDefs (P .defs) inRoom anyBinders) Limits rest) ≡ decided v (P .maxId)
+      go : (v : Verdict) → Answered (P .defs) (P .maxId) v → answerOf (ifYes (askedDefs (P .defs) inRoom anyBinders) Limits rest) ≡ decided v (P .maxId)
       go v a = room (v .room) refl
         where
-          room : (r : Bool) → v .room ≡ r → answerOf (asked (askedDefs (P .defs) inRoom anyBinders) Limits rest) ≡ decided v (P .maxId)
+          room : (r : Bool) → v .room ≡ r → answerOf (ifYes (askedDefs (P .defs) inRoom anyBinders) Limits rest) ≡ decided v (P .maxId)
           room true q = rw (← a .room, ← a .binders q, ← a .uses q, ← a .ids q, q) (three (v .binders) (v .uses) (v .ids))
           room false q = rw (← a .room, q) refl
 
@@ -120,11 +95,6 @@ module _ (P : Prog) where
 
 pub stands-flat : {d n : ℕ} {rs : List Record} {ds : List Def} → rs ≡ flattenDefs ds → All (λ (e : Def). depth (e .body) ≤ d) ds → length ds ≡ n → DefsStand d n rs 0 ds
 stands-flat {ds = ds} e h c = record { begins = record { rest = []; split = e ∙ sym (append-nil (flattenDefs ds)) }; shallow = h; count = c }
-
--- the definitions are shallow where their depth is small
-pub shallow-all : (b : ℕ) (ds : List Def) → depthDefs ds ≤ b → All (λ (e : Def). depth (e .body) ≤ b) ds
-shallow-all b [] h = tt
-shallow-all b (d ∷ ds) h = (omega arith, shallow-all b ds (omega arith))
 
 pub restand : {b n : ℕ} {rs : List Record} {i : ℕ} {ds : List Def} → DefsStand b n rs i ds → leb (depthDefs ds) 64 ≡ true → DefsStand 64 n rs i ds
 restand {ds = ds} s e = record { begins = s .begins; shallow = shallow-all 64 ds (leb-true (depthDefs ds) 64 e); count = s .count }

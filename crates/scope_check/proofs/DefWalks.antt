@@ -29,16 +29,16 @@ use Rattle.scope_spec.proofs.RoomLaws.{room-here}
 use Rattle.scope_spec.proofs.FreeViews.{rows-length}
 use Rattle.scope_check.specs.Definitions.{defsIn, DefsStand, Defined}
 use Rattle.scope_check.specs.Deciding.{programIn}
-use Rattle.scope_check.specs.Scoping.{scopeIn, scopedOf}
-use Rattle.scope_check.specs.Walks.{WalkedTo}
-use Rattle.scope_check.specs.Masks.{Sourced, SourcedDefs, Passed, MaskedTo}
-use Rattle.scope_check.specs.declared.scoping.Entering.{Entering}
-use Rattle.scope_check.specs.declared.walk.Walked.{Walked}
+use Rattle.scope_places.specs.Scoping.{scopeIn, scopedOf}
+use Rattle.scope_walk.specs.Walks.{WalkedTo}
+use Rattle.scope_walk.specs.Masks.{Sourced, SourcedDefs, Passed, MaskedTo}
+use Rattle.scope_places.specs.declared.scoping.Entering.{Entering}
+use Rattle.scope_walk.specs.declared.walk.Walked.{Walked}
 use Rattle.scope_check.proofs.CheckLaws.{answer-room, walk-stand}
 use Rattle.scope_check.proofs.DefLaws.{DefsLeft, DefNext, defOf, def-turn, defs-end}
-use Rattle.scope_check.proofs.EnterLaws.{entered-all}
-use Rattle.scope_check.proofs.SourceLaws.{def-body, def-rest}
-use Rattle.scope_check.proofs.MaskSteps.{row-stored, rows-then}
+use Rattle.scope_places.proofs.EnterLaws.{entered-all}
+use Rattle.scope_walk.proofs.SourceLaws.{def-body, def-rest}
+use Rattle.scope_walk.proofs.MaskSteps.{row-stored, rows-then}
 
 -- ── a program with a yes to questions 6, 7 and 8 ──
 

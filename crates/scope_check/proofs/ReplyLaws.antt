@@ -11,7 +11,7 @@ use Rattle.image_spec.specs.declared.Answer.the-variants.{Refused}
 use Rattle.image_spec.specs.declared.Refusal.{Refusal}
 use Rattle.image_spec.specs.declared.Refusal.the-variants.{Size, LayoutNumber, Directory, RecordForm, Shape}
 use Rattle.image_spec.specs.declared.Layout.{Layout}
-use Rattle.image_spec.specs.Reading.{Reading, refuse, accept, asked, question1, question2, question3, question4, question5, programOf, reading}
+use Rattle.image_spec.specs.Reading.{Reading, refuse, accept, ifYes, question1, question2, question3, question4, question5, programOf, reading}
 use Rattle.image_directory.specs.Slots.{recordsIn}
 use Rattle.image_directory.specs.declared.Frame.{Frame}
 use Rattle.image_open.specs.Opening.{openedBy, openedOf}
@@ -31,7 +31,7 @@ Leaves : Reading → Type 0
 Leaves (refuse q) = (out : List ℕ) → afterRefusal q out ≡ out
 Leaves (accept p) = Unit {0}
 
-asked-leaves : (b : Bool) (q : Refusal) (r : Reading) → ((out : List ℕ) → afterRefusal q out ≡ out) → Leaves r → Leaves (asked b q r)
+asked-leaves : (b : Bool) (q : Refusal) (r : Reading) → ((out : List ℕ) → afterRefusal q out ≡ out) → Leaves r → Leaves (ifYes b q r)
 unfolding Leaves
 asked-leaves true q r h k = k
 asked-leaves false q r h k = h

@@ -1,7 +1,3 @@
 -- What the functions of the scope check answer for one record, and for the records from a place on.
-pub mod Environments
-pub mod Scoping
-pub mod Walks
-pub mod Masks
 pub mod Definitions
 pub mod Deciding

@@ -1,19 +1,18 @@
 // The scope check of an image: questions 1 to 10.
 use crate::definitions::all_shallow;
 use crate::definitions::walk_definitions;
-use crate::flat::all_plain;
-use crate::flat::all_small;
 use image_directory::Frame;
 use image_open::Opened;
 use image_open::open;
 use image_spec::Answer;
 use image_spec::Layout;
 use image_spec::Refusal;
+use scope_records::flat::Alone;
+use scope_records::flat::all_records;
 use scope_spec::Verdict;
 ghost use mathlib.Core.Path.{_≡_};
 ghost use mathlib.Core.Bool.{_&&_};
 ghost use lib.Dec.{leb};
-ghost use lib.ListN.{length};
 ghost use lib.Seq.{sets};
 ghost use Rattle.model.specs.Sizes.{depthDefs};
 ghost use Rattle.image_spec.specs.Reading.{answerOf};
@@ -24,10 +23,7 @@ ghost use Rattle.scope_spec.specs.FreeRows.{rowsDefs};
 ghost use Rattle.scope_spec.specs.Calls.{checking, checkOf};
 ghost use Rattle.scope_check.specs.Definitions.{defsIn, Defined};
 ghost use Rattle.scope_check.specs.Deciding.{decided, programIn};
-ghost use Rattle.scope_check.specs.Masks.{Passed};
-
-// The records of a source (question 7).
-pub const MAX_RECORDS: usize = 2000;
+ghost use Rattle.scope_walk.specs.Masks.{Passed};
 
 // The limits of question 7, but for the room in the scopes.
 pub fn within_limits(image: &[u8], frame: Frame, defs: usize) -> bool
@@ -35,10 +31,10 @@ pub fn within_limits(image: &[u8], frame: Frame, defs: usize) -> bool
     ensures { λ r. ⌜ r ≡ (leb (frame .count) 2000 && (allRecords smallRecord (recordsIn frame (now (image .entry))) && leb (depthDefs (defsIn defs (recordsIn frame (now (image .entry))))) 64)) ⌝ }
 {
     let count = frame.count;
-    if MAX_RECORDS < count {
+    if Frame::MAX_SOURCE_RECORDS < count {
         return false;
     }
-    if all_small(image, frame) {
+    if all_records(image, frame, Alone::Small) {
         return all_shallow(image, frame, defs);
     }
     false
@@ -69,7 +65,7 @@ pub fn check_image(image: &[u8], frame: Frame, defs: usize, max_id: u32, rows: &
     requires { ⌜ Ready frame (now image) × Defined defs (recordsIn frame (now image)) ⌝ }
     ensures { λ r. ⌜ (r ≡ answerOf (checking (programIn defs (recordsIn frame (now (image .entry))) «max_id»))) × (Passed (programIn defs (recordsIn frame (now (image .entry))) 0) → now (rows .exit) ≡ sets (now (rows .entry)) 0 (rowsDefs (defsIn defs (recordsIn frame (now (image .entry)))))) ⌝ }
 {
-    if all_plain(image, frame) {
+    if all_records(image, frame, Alone::Plain) {
         if within_limits(image, frame, defs) {
             return decide(walk_definitions(image, frame, defs, max_id, rows), max_id);
         }

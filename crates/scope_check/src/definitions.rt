@@ -1,12 +1,13 @@
 // The definitions of an image: how deep they are (question 7), and the walk over them.
-use crate::mask::put_row;
-use crate::walk::Walked;
-use crate::walk::enter_head;
-use crate::walk::statement;
 use image_directory::Frame;
 use image_fields::Found;
+use image_kinds::kinds::Kind;
 use image_shape::statement as shape_statement;
+use scope_places::mask::put_row;
 use scope_spec::Verdict;
+use scope_walk::walk::Walked;
+use scope_walk::walk::enter_head;
+use scope_walk::walk::statement;
 use syntax::context::TypingContext;
 ghost use mathlib.Core.Path.{_≡_};
 ghost use lib.Dec.{leb};
@@ -16,10 +17,7 @@ ghost use Rattle.image_directory.specs.Slots.{Ready, recordsIn};
 ghost use Rattle.scope_spec.specs.Walk.{clean, walkDefs};
 ghost use Rattle.scope_spec.specs.FreeRows.{rowsDefs};
 ghost use Rattle.scope_check.specs.Definitions.{defsIn, DefsStand};
-ghost use Rattle.scope_check.specs.Masks.{SourcedDefs};
-
-// The depth of a source (question 7).
-pub const MAX_DEPTH: usize = 64;
+ghost use Rattle.scope_walk.specs.Masks.{SourcedDefs};
 
 // Question 7: are the bodies of the d definitions at most 64 statements deep?
 pub fn all_shallow(image: &[u8], frame: Frame, defs: usize) -> bool
@@ -29,7 +27,7 @@ pub fn all_shallow(image: &[u8], frame: Frame, defs: usize) -> bool
     let mut at = 0;
     let mut left = defs;
     while 0 < left {
-        match shape_statement(image, frame, MAX_DEPTH, Found::At(at + 1)) {
+        match shape_statement(image, frame, Frame::MAX_SOURCE_DEPTH, Found::At(at + 1)) {
             Found::At(next) => {
                 at = next;
                 left = left - 1;
@@ -67,11 +65,11 @@ pub fn walk_definitions(
     };
     let mut left = defs;
     while 0 < left {
-        let e = enter_head(image, frame, 1, here, &mut scope, 0, max_id);
+        let e = enter_head(image, frame, Kind::DEFINITION, here, &mut scope, 0, max_id);
         let b = statement(
             image,
             frame,
-            MAX_DEPTH,
+            Frame::MAX_SOURCE_DEPTH,
             here.next + 1,
             &mut scope,
             e.n,

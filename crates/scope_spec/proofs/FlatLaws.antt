@@ -17,9 +17,9 @@ use Rattle.image_spec.specs.Shape.{flatten, flattenClauses, flattenDefs}
 use Rattle.scope_spec.specs.Flat.{allRecords, plainRecord, smallRecord}
 use Rattle.scope_spec.specs.Rooms.{inRoom}
 
-all-++ : (f : Record → Bool) (a b : List Record) → allRecords f (a ++ b) ≡ allRecords f a && allRecords f b
-all-++ f [] b = refl
-all-++ f (r ∷ a) b = ap (λ (t : Bool). f r && t) (all-++ f a b) ∙ sym (and-assoc (f r) (allRecords f a) (allRecords f b))
+allRecords-++ : (f : Record → Bool) (a b : List Record) → allRecords f (a ++ b) ≡ allRecords f a && allRecords f b
+allRecords-++ f [] b = refl
+allRecords-++ f (r ∷ a) b = ap (λ (t : Bool). f r && t) (allRecords-++ f a b) ∙ sym (and-assoc (f r) (allRecords f a) (allRecords f b))
 
 -- ── question 6 ──
 
@@ -32,20 +32,20 @@ mutual
   plain-stmt (Let var ty tag args next) Δ = plain-stmt next (var .id ∷ Δ)
   plain-stmt (Switch var ty cs) Δ = plain-clauses cs Δ
   plain-stmt (Create var ty env cs next) Δ =
-      ap (λ (b : Bool). isNone env && b) (ap₂ (λ (a b : Bool). a && b) (plain-clauses cs Δ) (plain-stmt next (var .id ∷ Δ)) ∙ sym (all-++ plainRecord (flattenClauses cs) (flatten next)))
+      ap (λ (b : Bool). isNone env && b) (ap₂ (λ (a b : Bool). a && b) (plain-clauses cs Δ) (plain-stmt next (var .id ∷ Δ)) ∙ sym (allRecords-++ plainRecord (flattenClauses cs) (flatten next)))
   plain-stmt (Invoke var tag ty args) Δ = refl
   plain-stmt (Literal lit var next) Δ = plain-stmt next (var .id ∷ Δ)
   plain-stmt (Op fst op snd var next) Δ = plain-stmt next (var .id ∷ Δ)
-  plain-stmt (IfC sort fst snd thenc elsec) Δ = ap₂ (λ (a b : Bool). a && b) (plain-stmt thenc Δ) (plain-stmt elsec Δ) ∙ sym (all-++ plainRecord (flatten thenc) (flatten elsec))
+  plain-stmt (IfC sort fst snd thenc elsec) Δ = ap₂ (λ (a b : Bool). a && b) (plain-stmt thenc Δ) (plain-stmt elsec Δ) ∙ sym (allRecords-++ plainRecord (flatten thenc) (flatten elsec))
 
   plain-clauses : (cs : Clauses) (Δ : List VarId) → askedClauses cs plain anyBinders Δ ≡ allRecords plainRecord (flattenClauses cs)
   plain-clauses end Δ = refl
-  plain-clauses (clause xtor context body rest) Δ = ap₂ (λ (a b : Bool). a && b) (plain-stmt body (ids context ++ Δ)) (plain-clauses rest Δ) ∙ sym (all-++ plainRecord (flatten body) (flattenClauses rest))
+  plain-clauses (clause xtor context body rest) Δ = ap₂ (λ (a b : Bool). a && b) (plain-stmt body (ids context ++ Δ)) (plain-clauses rest Δ) ∙ sym (allRecords-++ plainRecord (flatten body) (flattenClauses rest))
 
 plain-defs : (ds : List Def) → askedDefs ds plain anyBinders ≡ allRecords plainRecord (flattenDefs ds)
 unfolding flattenDefs
 plain-defs [] = refl
-plain-defs (d ∷ ds) = ap₂ (λ (a b : Bool). a && b) (plain-stmt (d .body) (ids (d .context))) (plain-defs ds) ∙ sym (all-++ plainRecord (flatten (d .body)) (flattenDefs ds))
+plain-defs (d ∷ ds) = ap₂ (λ (a b : Bool). a && b) (plain-stmt (d .body) (ids (d .context))) (plain-defs ds) ∙ sym (allRecords-++ plainRecord (flatten (d .body)) (flattenDefs ds))
 
 pub question6-flat : (P : Prog) → question6 P ≡ allRecords plainRecord (flattenDefs (P .defs))
 question6-flat P = plain-defs (P .defs)
@@ -67,7 +67,7 @@ two : (a b : List Record) (R S : Bool) {x y : Bool} → x ≡ allRecords smallRe
 two a b R S e h =
     ap₂ (λ (p q : Bool). p && q) e h
     ∙ inter (allRecords smallRecord a) R (allRecords smallRecord b) S
-    ∙ ap (λ (p : Bool). p && (R && S)) (sym (all-++ smallRecord a b))
+    ∙ ap (λ (p : Bool). p && (R && S)) (sym (allRecords-++ smallRecord a b))
 
 -- the larger of two counts
 leb-max : (a b n : ℕ) → leb (max a b) n ≡ leb a n && leb b n

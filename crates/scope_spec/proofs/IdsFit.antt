@@ -1,6 +1,6 @@
 -- Records that a layout can hold name IDs of its width only; so the IDs that a statement uses fit a row for them. Assumes nothing.
 use Prim.Native.Nat.{ℕ, zero, suc, _^_, _≤_, _<_}
-use mathlib.Core.Path.{_≡_, subst, sym}
+use mathlib.Core.Path.{subst, sym}
 use mathlib.Core.Logic.{_⊎_, inl, inr}
 use mathlib.Core.List.{List, [], _∷_, _++_}
 use mathlib.Core.Option.{none, some}
@@ -16,16 +16,9 @@ use Rattle.image_spec.specs.Parse.{All}
 use Rattle.image_spec.specs.Fields.{BindingOk}
 use Rattle.image_spec.specs.Records.{Record, definition, substitute, call, let', switch, create, invoke, literal, op, ifc, clause', RecordOk}
 use Rattle.image_spec.specs.Shape.{flatten, flattenClauses}
+use Rattle.image_spec.proofs.ListLaws.{all-left, all-right}
 use Rattle.image_places_spec.specs.Views.{usesOf}
 use Rattle.scope_spec.proofs.MarkLaws.{FitRow, allUses, allUsesClauses}
-
-pub all-left : (P : Record → Type 0) (a b : List Record) → All P (a ++ b) → All P a
-all-left P [] b h = tt
-all-left P (r ∷ a) b h = (h .0, all-left P a b (h .1))
-
-pub all-right : (P : Record → Type 0) (a b : List Record) → All P (a ++ b) → All P b
-all-right P [] b h = h
-all-right P (r ∷ a) b h = all-right P a b (h .1)
 
 module _ (w : ℕ) where
   Fits : List VarId → Type 0

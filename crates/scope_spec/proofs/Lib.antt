@@ -7,5 +7,4 @@ pub mod FreeViews
 pub mod Inside
 pub mod IdsFit
 pub mod MarkViews
-pub mod WalkExamples
 pub mod RoomLaws

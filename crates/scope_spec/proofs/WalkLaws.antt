@@ -30,51 +30,51 @@ or-swap true false = refl
 or-swap false true = refl
 or-swap false false = refl
 
--- ── what a stretch of the walk tells: from the verdict v to r, with these answers ──
+-- ── what a stretch of the walk finds: from the verdict v to r, with these answers ──
 
-pub record Told (v r : Verdict) (room binders used known : Bool) : Type 0 where
-  pub toldRoom : r .room ≡ v .room && room
-  pub toldBinders : r .room ≡ true → r .binders ≡ v .binders && binders
-  pub toldUses : r .room ≡ true → r .uses ≡ v .uses && used
-  pub toldIds : r .room ≡ true → r .ids ≡ v .ids && known
+pub record Finds (v r : Verdict) (room binders used known : Bool) : Type 0 where
+  pub findsRoom : r .room ≡ v .room && room
+  pub findsBinders : r .room ≡ true → r .binders ≡ v .binders && binders
+  pub findsUses : r .room ≡ true → r .uses ≡ v .uses && used
+  pub findsIds : r .room ≡ true → r .ids ≡ v .ids && known
 
-told-none : (v : Verdict) → Told v v true true true true
-told-none v = record { toldRoom = sym (and-true (v .room)); toldBinders = λ e. sym (and-true (v .binders)); toldUses = λ e. sym (and-true (v .uses)); toldIds = λ e. sym (and-true (v .ids)) }
+finds-none : (v : Verdict) → Finds v v true true true true
+finds-none v = record { findsRoom = sym (and-true (v .room)); findsBinders = λ e. sym (and-true (v .binders)); findsUses = λ e. sym (and-true (v .uses)); findsIds = λ e. sym (and-true (v .ids)) }
 
 -- one stretch after another; where the first has no room, nothing more need be known of the second
-told-then : {v w r : Verdict} {a b c d a′ b′ c′ d′ : Bool} → Told v w a b c d → (w .room ≡ true → Told w r a′ b′ c′ d′) → (w .room ≡ false → r .room ≡ false)
-    → Told v r (a && a′) (b && b′) (c && c′) (d && d′)
-told-then {v} {w} {r} {a} {b} {c} {d} {a′} {b′} {c′} {d′} h k f = go (w .room) refl
+finds-then : {v w r : Verdict} {a b c d a′ b′ c′ d′ : Bool} → Finds v w a b c d → (w .room ≡ true → Finds w r a′ b′ c′ d′) → (w .room ≡ false → r .room ≡ false)
+    → Finds v r (a && a′) (b && b′) (c && c′) (d && d′)
+finds-then {v} {w} {r} {a} {b} {c} {d} {a′} {b′} {c′} {d′} h k f = go (w .room) refl
   where
-    go : (t : Bool) → w .room ≡ t → Told v r (a && a′) (b && b′) (c && c′) (d && d′)
+    go : (t : Bool) → w .room ≡ t → Finds v r (a && a′) (b && b′) (c && c′) (d && d′)
     go true e =
         let m = k e in
         record {
-          toldRoom = m .toldRoom ∙ ap (λ (z : Bool). z && a′) (h .toldRoom) ∙ and-assoc (v .room) a a′;
-          toldBinders = λ q. m .toldBinders q ∙ ap (λ (z : Bool). z && b′) (h .toldBinders e) ∙ and-assoc (v .binders) b b′;
-          toldUses = λ q. m .toldUses q ∙ ap (λ (z : Bool). z && c′) (h .toldUses e) ∙ and-assoc (v .uses) c c′;
-          toldIds = λ q. m .toldIds q ∙ ap (λ (z : Bool). z && d′) (h .toldIds e) ∙ and-assoc (v .ids) d d′;
+          findsRoom = m .findsRoom ∙ ap (λ (z : Bool). z && a′) (h .findsRoom) ∙ and-assoc (v .room) a a′;
+          findsBinders = λ q. m .findsBinders q ∙ ap (λ (z : Bool). z && b′) (h .findsBinders e) ∙ and-assoc (v .binders) b b′;
+          findsUses = λ q. m .findsUses q ∙ ap (λ (z : Bool). z && c′) (h .findsUses e) ∙ and-assoc (v .uses) c c′;
+          findsIds = λ q. m .findsIds q ∙ ap (λ (z : Bool). z && d′) (h .findsIds e) ∙ and-assoc (v .ids) d d′;
         }
     go false e =
         let q = f e in
         record {
-          toldRoom = q ∙ sym (sym (and-assoc (v .room) a a′) ∙ ap (λ (z : Bool). z && a′) (sym (h .toldRoom) ∙ e));
-          toldBinders = λ p. absurd (true≢false (sym p ∙ q));
-          toldUses = λ p. absurd (true≢false (sym p ∙ q));
-          toldIds = λ p. absurd (true≢false (sym p ∙ q));
+          findsRoom = q ∙ sym (sym (and-assoc (v .room) a a′) ∙ ap (λ (z : Bool). z && a′) (sym (h .findsRoom) ∙ e));
+          findsBinders = λ p. absurd (true≢false (sym p ∙ q));
+          findsUses = λ p. absurd (true≢false (sym p ∙ q));
+          findsIds = λ p. absurd (true≢false (sym p ∙ q));
         }
 
 -- answers that are bracketed another way
-told-assoc : {v r : Verdict} {a c : Bool} (b b′ b″ d d′ d″ : Bool) → Told v r a ((b && b′) && b″) c ((d && d′) && d″) → Told v r a (b && (b′ && b″)) c (d && (d′ && d″))
-told-assoc {v} {r} {a} {c} b b′ b″ d d′ d″ h = rw (← and-assoc b b′ b″, ← and-assoc d d′ d″) h
+finds-assoc : {v r : Verdict} {a c : Bool} (b b′ b″ d d′ d″ : Bool) → Finds v r a ((b && b′) && b″) c ((d && d′) && d″) → Finds v r a (b && (b′ && b″)) c (d && (d′ && d″))
+finds-assoc {v} {r} {a} {c} b b′ b″ d d′ d″ h = rw (← and-assoc b b′ b″, ← and-assoc d d′ d″) h
 
 -- no room at all
-told-full : {v r : Verdict} (b c d : Bool) → r .room ≡ false → Told v r false b c d
-told-full {v} {r} b c d e = record {
-  toldRoom = e ∙ sym (and-false (v .room));
-  toldBinders = λ p. absurd (true≢false (sym p ∙ e));
-  toldUses = λ p. absurd (true≢false (sym p ∙ e));
-  toldIds = λ p. absurd (true≢false (sym p ∙ e));
+finds-full : {v r : Verdict} (b c d : Bool) → r .room ≡ false → Finds v r false b c d
+finds-full {v} {r} b c d e = record {
+  findsRoom = e ∙ sym (and-false (v .room));
+  findsBinders = λ p. absurd (true≢false (sym p ∙ e));
+  findsUses = λ p. absurd (true≢false (sym p ∙ e));
+  findsIds = λ p. absurd (true≢false (sym p ∙ e));
 }
 
 -- ── room that is lost stays lost ──
@@ -135,16 +135,16 @@ same-more {Δ} {Δ′} x s = record {
 -- ── uses ──
 
 module _ {Δ Δ′ : List VarId} (s : SameScope Δ Δ′) where
-  told-uses : (xs : List VarId) (v : Verdict) → Told v (useAll Δ′ xs v) true true (every (λ (x : VarId). elem x Δ) xs) true
-  told-uses [] v = told-none v
-  told-uses (x ∷ xs) v = told-then first (λ e. told-uses xs (useOne Δ′ x v)) (λ e. useAll-stays Δ′ xs (useOne Δ′ x v) ∙ e)
+  finds-uses : (xs : List VarId) (v : Verdict) → Finds v (useAll Δ′ xs v) true true (every (λ (x : VarId). elem x Δ) xs) true
+  finds-uses [] v = finds-none v
+  finds-uses (x ∷ xs) v = finds-then first (λ e. finds-uses xs (useOne Δ′ x v)) (λ e. useAll-stays Δ′ xs (useOne Δ′ x v) ∙ e)
     where
-      first : Told v (useOne Δ′ x v) true true (elem x Δ) true
+      first : Finds v (useOne Δ′ x v) true true (elem x Δ) true
       first = record {
-        toldRoom = sym (and-true (v .room));
-        toldBinders = λ e. sym (and-true (v .binders));
-        toldUses = λ e. ap (λ (b : Bool). v .uses && b) (sym (s .members x));
-        toldIds = λ e. sym (and-true (v .ids));
+        findsRoom = sym (and-true (v .room));
+        findsBinders = λ e. sym (and-true (v .binders));
+        findsUses = λ e. ap (λ (b : Bool). v .uses && b) (sym (s .members x));
+        findsIds = λ e. sym (and-true (v .ids));
       }
 
 -- ── binders ──
@@ -209,26 +209,26 @@ enter-full M x s h = rw (le-ltb (length (s .scope)) 64 h)
 
 pub record Entered (M : ℕ) (Δ xs : List VarId) (v : Verdict) (s : Scoped) : Type 0 where
   pub scope : SameScope (xs ++ Δ) (s .scope)
-  pub told : Told v (s .verdict) true (new Δ xs) true (upTo M Δ xs)
+  pub finds : Finds v (s .verdict) true (new Δ xs) true (upTo M Δ xs)
 
-told-enter : (M : ℕ) (xs : List VarId) {Δ Δ′ : List VarId} (v : Verdict) → SameScope Δ Δ′ → length xs + length Δ ≤ 64 → Entered M Δ xs v (enterAll M xs (record { scope = Δ′; verdict = v }))
-told-enter M [] v s h = record { scope = s; told = told-none v }
-told-enter M (x ∷ xs) {Δ} {Δ′} v s h =
+finds-enter : (M : ℕ) (xs : List VarId) {Δ Δ′ : List VarId} (v : Verdict) → SameScope Δ Δ′ → length xs + length Δ ≤ 64 → Entered M Δ xs v (enterAll M xs (record { scope = Δ′; verdict = v }))
+finds-enter M [] v s h = record { scope = s; finds = finds-none v }
+finds-enter M (x ∷ xs) {Δ} {Δ′} v s h =
     let e = enter-room M x (record { scope = Δ′; verdict = v }) (omega (arith, s .count)) in
     let w = judged M Δ′ x v in
-    let r = told-enter M xs {Δ = x ∷ Δ} {Δ′ = Δ′ ++ (x ∷ [])} w (same-more x s) (omega arith) in
+    let r = finds-enter M xs {Δ = x ∷ Δ} {Δ′ = Δ′ ++ (x ∷ [])} w (same-more x s) (omega arith) in
     subst (λ (z : Scoped). Entered M Δ (x ∷ xs) v (enterAll M xs z)) (sym e) (record {
       scope = same-front x xs Δ (r .scope);
-      told = subst (λ (b : Bool). Told v (enterAll M xs (record { scope = Δ′ ++ (x ∷ []); verdict = w }) .verdict) true b true (upTo M Δ (x ∷ xs))) (new-first x Δ xs)
-          (told-then first (λ q. r .told) (λ q. enterAll-stays M xs (record { scope = Δ′ ++ (x ∷ []); verdict = w }) q));
+      finds = subst (λ (b : Bool). Finds v (enterAll M xs (record { scope = Δ′ ++ (x ∷ []); verdict = w }) .verdict) true b true (upTo M Δ (x ∷ xs))) (new-first x Δ xs)
+          (finds-then first (λ q. r .finds) (λ q. enterAll-stays M xs (record { scope = Δ′ ++ (x ∷ []); verdict = w }) q));
     })
   where
-    first : Told v (judged M Δ′ x v) true (not (elem x Δ)) true (leb (x .0) M)
+    first : Finds v (judged M Δ′ x v) true (not (elem x Δ)) true (leb (x .0) M)
     first = record {
-      toldRoom = sym (and-true (v .room));
-      toldBinders = λ q. ap (λ (b : Bool). v .binders && not b) (sym (s .members x));
-      toldUses = λ q. sym (and-true (v .uses));
-      toldIds = λ q. refl;
+      findsRoom = sym (and-true (v .room));
+      findsBinders = λ q. ap (λ (b : Bool). v .binders && not b) (sym (s .members x));
+      findsUses = λ q. sym (and-true (v .uses));
+      findsIds = λ q. refl;
     }
 
 enter-overflows : (M : ℕ) (xs Δ′ : List VarId) (v : Verdict) → length Δ′ ≤ 64 → 64 < length xs + length Δ′ → enterAll M xs (record { scope = Δ′; verdict = v }) .verdict .room ≡ false
@@ -246,21 +246,21 @@ enter-overflows M (x ∷ xs) Δ′ v h k = go (ltb (length Δ′) 64) refl (λ l
 
 -- binders, and what stands below them
 module _ (M : ℕ) (xs : List VarId) {Δ Δ′ : List VarId} (s : SameScope Δ Δ′) (h : length Δ ≤ 64) (k : Walking) {a b c d : Bool}
-    (below : (Δ₁ : List VarId) (w : Verdict) → SameScope (xs ++ Δ) Δ₁ → length (xs ++ Δ) ≤ 64 → Told w (k Δ₁ w) a b c d)
+    (below : (Δ₁ : List VarId) (w : Verdict) → SameScope (xs ++ Δ) Δ₁ → length (xs ++ Δ) ≤ 64 → Finds w (k Δ₁ w) a b c d)
     (stays : (Δ₁ : List VarId) (w : Verdict) → w .room ≡ false → (k Δ₁ w) .room ≡ false)
     (over : 64 < length (xs ++ Δ) → a ≡ false) where
-  told-under : (v : Verdict) → Told v (under M xs k Δ′ v) a (new Δ xs && b) c (upTo M Δ xs && d)
-  told-under v = go (leb (length (xs ++ Δ)) 64) refl
+  finds-under : (v : Verdict) → Finds v (under M xs k Δ′ v) a (new Δ xs && b) c (upTo M Δ xs && d)
+  finds-under v = go (leb (length (xs ++ Δ)) 64) refl
     where
-      go : (t : Bool) → leb (length (xs ++ Δ)) 64 ≡ t → Told v (under M xs k Δ′ v) a (new Δ xs && b) c (upTo M Δ xs && d)
+      go : (t : Bool) → leb (length (xs ++ Δ)) 64 ≡ t → Finds v (under M xs k Δ′ v) a (new Δ xs && b) c (upTo M Δ xs && d)
       go true e =
           let l = leb-true (length (xs ++ Δ)) 64 e in
-          let r = told-enter M xs v s (omega (arith, length-append xs Δ)) in
-          told-then (r .told) (λ q. below _ _ (r .scope) l) (λ q. stays _ _ q)
+          let r = finds-enter M xs v s (omega (arith, length-append xs Δ)) in
+          finds-then (r .finds) (λ q. below _ _ (r .scope) l) (λ q. stays _ _ q)
       go false e =
           let l = leb-false (length (xs ++ Δ)) 64 e in
-          subst (λ (z : Bool). Told v (under M xs k Δ′ v) z (new Δ xs && b) c (upTo M Δ xs && d)) (sym (over l))
-          (told-full (new Δ xs && b) c (upTo M Δ xs && d) (stays _ _ (enter-overflows M xs Δ′ v (omega (arith, s .count)) (omega (arith, length-append xs Δ, s .count)))))
+          subst (λ (z : Bool). Finds v (under M xs k Δ′ v) z (new Δ xs && b) c (upTo M Δ xs && d)) (sym (over l))
+          (finds-full (new Δ xs && b) c (upTo M Δ xs && d) (stays _ _ (enter-overflows M xs Δ′ v (omega (arith, s .count)) (omega (arith, length-append xs Δ, s .count)))))
 
 -- ── statements ──
 
@@ -280,46 +280,46 @@ asked-over (IfC sort fst snd thenc elsec) Δ h = rw (lt-leb (length Δ) 64 h)
 mutual
   unfolding asked walkStmt
 
-  pub told-stmt : (t : Stmt) (M : ℕ) (Δ Δ′ : List VarId) (v : Verdict) → SameScope Δ Δ′ → length Δ ≤ 64
-      → Told v (walkStmt t M Δ′ v) (asked t inRoom anyBinders Δ) (asked t anyStmt new Δ) (asked t inScope anyBinders Δ) (asked t anyStmt (upTo M) Δ)
-  told-stmt (Substitute ps next) M Δ Δ′ v s h = rw (le-leb (length Δ) 64 h) (told-stmt next M Δ Δ′ v s h)
-  told-stmt (Call label args) M Δ Δ′ v s h = rw (le-leb (length Δ) 64 h) (told-uses s (ids args) v)
-  told-stmt (Let var ty tag args next) M Δ Δ′ v s h =
+  pub finds-stmt : (t : Stmt) (M : ℕ) (Δ Δ′ : List VarId) (v : Verdict) → SameScope Δ Δ′ → length Δ ≤ 64
+      → Finds v (walkStmt t M Δ′ v) (asked t inRoom anyBinders Δ) (asked t anyStmt new Δ) (asked t inScope anyBinders Δ) (asked t anyStmt (upTo M) Δ)
+  finds-stmt (Substitute ps next) M Δ Δ′ v s h = rw (le-leb (length Δ) 64 h) (finds-stmt next M Δ Δ′ v s h)
+  finds-stmt (Call label args) M Δ Δ′ v s h = rw (le-leb (length Δ) 64 h) (finds-uses s (ids args) v)
+  finds-stmt (Let var ty tag args next) M Δ Δ′ v s h =
       rw (le-leb (length Δ) 64 h)
-      (told-then (told-uses s (ids args) v)
-      (λ e. told-under M (var .id ∷ []) s h (walkStmt next M) (λ Δ₁ w q l. told-stmt next M (var .id ∷ Δ) Δ₁ w q l) (λ Δ₁ w q. walkStmt-stays next M Δ₁ w q) (λ l. asked-over next (var .id ∷ Δ) l) (useAll Δ′ (ids args) v))
+      (finds-then (finds-uses s (ids args) v)
+      (λ e. finds-under M (var .id ∷ []) s h (walkStmt next M) (λ Δ₁ w q l. finds-stmt next M (var .id ∷ Δ) Δ₁ w q l) (λ Δ₁ w q. walkStmt-stays next M Δ₁ w q) (λ l. asked-over next (var .id ∷ Δ) l) (useAll Δ′ (ids args) v))
       (λ e. walkStmt-stays next M _ _ (enterAll-stays M (var .id ∷ []) (record { scope = Δ′; verdict = useAll Δ′ (ids args) v }) e)))
-  told-stmt (Switch var ty cs) M Δ Δ′ v s h =
-      rw (le-leb (length Δ) 64 h) (told-then (told-uses s (var .id ∷ []) v) (λ e. told-clauses cs M Δ Δ′ _ s h) (λ e. walkClauses-stays cs M Δ′ _ e))
-  told-stmt (Create var ty env cs next) M Δ Δ′ v s h =
+  finds-stmt (Switch var ty cs) M Δ Δ′ v s h =
+      rw (le-leb (length Δ) 64 h) (finds-then (finds-uses s (var .id ∷ []) v) (λ e. finds-clauses cs M Δ Δ′ _ s h) (λ e. walkClauses-stays cs M Δ′ _ e))
+  finds-stmt (Create var ty env cs next) M Δ Δ′ v s h =
       rw (le-leb (length Δ) 64 h)
-      (told-then (told-clauses cs M Δ Δ′ v s h)
-      (λ e. told-under M (var .id ∷ []) s h (walkStmt next M) (λ Δ₁ w q l. told-stmt next M (var .id ∷ Δ) Δ₁ w q l) (λ Δ₁ w q. walkStmt-stays next M Δ₁ w q) (λ l. asked-over next (var .id ∷ Δ) l) (walkClauses cs M Δ′ v))
+      (finds-then (finds-clauses cs M Δ Δ′ v s h)
+      (λ e. finds-under M (var .id ∷ []) s h (walkStmt next M) (λ Δ₁ w q l. finds-stmt next M (var .id ∷ Δ) Δ₁ w q l) (λ Δ₁ w q. walkStmt-stays next M Δ₁ w q) (λ l. asked-over next (var .id ∷ Δ) l) (walkClauses cs M Δ′ v))
       (λ e. walkStmt-stays next M _ _ (enterAll-stays M (var .id ∷ []) (record { scope = Δ′; verdict = walkClauses cs M Δ′ v }) e)))
-  told-stmt (Invoke var tag ty args) M Δ Δ′ v s h = rw (le-leb (length Δ) 64 h) (told-uses s (var .id ∷ ids args) v)
-  told-stmt (Literal lit var next) M Δ Δ′ v s h =
+  finds-stmt (Invoke var tag ty args) M Δ Δ′ v s h = rw (le-leb (length Δ) 64 h) (finds-uses s (var .id ∷ ids args) v)
+  finds-stmt (Literal lit var next) M Δ Δ′ v s h =
       rw (le-leb (length Δ) 64 h)
-      (told-under M (var .id ∷ []) s h (walkStmt next M) (λ Δ₁ w q l. told-stmt next M (var .id ∷ Δ) Δ₁ w q l) (λ Δ₁ w q. walkStmt-stays next M Δ₁ w q) (λ l. asked-over next (var .id ∷ Δ) l) v)
-  told-stmt (Op fst op snd var next) M Δ Δ′ v s h =
+      (finds-under M (var .id ∷ []) s h (walkStmt next M) (λ Δ₁ w q l. finds-stmt next M (var .id ∷ Δ) Δ₁ w q l) (λ Δ₁ w q. walkStmt-stays next M Δ₁ w q) (λ l. asked-over next (var .id ∷ Δ) l) v)
+  finds-stmt (Op fst op snd var next) M Δ Δ′ v s h =
       rw (le-leb (length Δ) 64 h)
-      (told-then (told-uses s (fst .id ∷ snd .id ∷ []) v)
-      (λ e. told-under M (var .id ∷ []) s h (walkStmt next M) (λ Δ₁ w q l. told-stmt next M (var .id ∷ Δ) Δ₁ w q l) (λ Δ₁ w q. walkStmt-stays next M Δ₁ w q) (λ l. asked-over next (var .id ∷ Δ) l) (useAll Δ′ (fst .id ∷ snd .id ∷ []) v))
+      (finds-then (finds-uses s (fst .id ∷ snd .id ∷ []) v)
+      (λ e. finds-under M (var .id ∷ []) s h (walkStmt next M) (λ Δ₁ w q l. finds-stmt next M (var .id ∷ Δ) Δ₁ w q l) (λ Δ₁ w q. walkStmt-stays next M Δ₁ w q) (λ l. asked-over next (var .id ∷ Δ) l) (useAll Δ′ (fst .id ∷ snd .id ∷ []) v))
       (λ e. walkStmt-stays next M _ _ (enterAll-stays M (var .id ∷ []) (record { scope = Δ′; verdict = useAll Δ′ (fst .id ∷ snd .id ∷ []) v }) e)))
-  told-stmt (IfC sort fst snd thenc elsec) M Δ Δ′ v s h =
+  finds-stmt (IfC sort fst snd thenc elsec) M Δ Δ′ v s h =
       rw (le-leb (length Δ) 64 h)
-      (told-then (told-uses s (uses (IfC sort fst snd thenc elsec)) v)
-      (λ e. told-then (told-stmt thenc M Δ Δ′ _ s h) (λ q. told-stmt elsec M Δ Δ′ _ s h) (λ q. walkStmt-stays elsec M Δ′ _ q))
+      (finds-then (finds-uses s (uses (IfC sort fst snd thenc elsec)) v)
+      (λ e. finds-then (finds-stmt thenc M Δ Δ′ _ s h) (λ q. finds-stmt elsec M Δ Δ′ _ s h) (λ q. walkStmt-stays elsec M Δ′ _ q))
       (λ e. walkStmt-stays elsec M Δ′ _ (walkStmt-stays thenc M Δ′ _ e)))
 
-  pub told-clauses : (cs : Clauses) (M : ℕ) (Δ Δ′ : List VarId) (v : Verdict) → SameScope Δ Δ′ → length Δ ≤ 64
-      → Told v (walkClauses cs M Δ′ v) (askedClauses cs inRoom anyBinders Δ) (askedClauses cs anyStmt new Δ) (askedClauses cs inScope anyBinders Δ) (askedClauses cs anyStmt (upTo M) Δ)
-  told-clauses end M Δ Δ′ v s h = told-none v
-  told-clauses (clause xtor context body rest) M Δ Δ′ v s h =
-      told-assoc (new Δ (ids context)) (asked body anyStmt new (ids context ++ Δ)) (askedClauses rest anyStmt new Δ)
+  pub finds-clauses : (cs : Clauses) (M : ℕ) (Δ Δ′ : List VarId) (v : Verdict) → SameScope Δ Δ′ → length Δ ≤ 64
+      → Finds v (walkClauses cs M Δ′ v) (askedClauses cs inRoom anyBinders Δ) (askedClauses cs anyStmt new Δ) (askedClauses cs inScope anyBinders Δ) (askedClauses cs anyStmt (upTo M) Δ)
+  finds-clauses end M Δ Δ′ v s h = finds-none v
+  finds-clauses (clause xtor context body rest) M Δ Δ′ v s h =
+      finds-assoc (new Δ (ids context)) (asked body anyStmt new (ids context ++ Δ)) (askedClauses rest anyStmt new Δ)
       (upTo M Δ (ids context)) (asked body anyStmt (upTo M) (ids context ++ Δ)) (askedClauses rest anyStmt (upTo M) Δ)
-      (told-then
-      (told-under M (ids context) s h (walkStmt body M) (λ Δ₁ w q l. told-stmt body M (ids context ++ Δ) Δ₁ w q l) (λ Δ₁ w q. walkStmt-stays body M Δ₁ w q) (λ l. asked-over body (ids context ++ Δ) l) v)
-      (λ e. told-clauses rest M Δ Δ′ _ s h) (λ e. walkClauses-stays rest M Δ′ _ e))
+      (finds-then
+      (finds-under M (ids context) s h (walkStmt body M) (λ Δ₁ w q l. finds-stmt body M (ids context ++ Δ) Δ₁ w q l) (λ Δ₁ w q. walkStmt-stays body M Δ₁ w q) (λ l. asked-over body (ids context ++ Δ) l) v)
+      (λ e. finds-clauses rest M Δ Δ′ _ s h) (λ e. walkClauses-stays rest M Δ′ _ e))
 
 -- ── definitions ──
 
@@ -331,18 +331,18 @@ walkDefs-stays (d ∷ ds) M v e = walkDefs-stays ds M _ (walkStmt-stays (d .body
 no-scope : SameScope [] []
 no-scope = record { members = λ x. refl; count = refl }
 
-pub told-defs : (ds : List Def) (M : ℕ) (v : Verdict)
-    → Told v (walkDefs ds M v) (askedDefs ds inRoom anyBinders) (askedDefs ds anyStmt new) (askedDefs ds inScope anyBinders) (askedDefs ds anyStmt (upTo M))
+pub finds-defs : (ds : List Def) (M : ℕ) (v : Verdict)
+    → Finds v (walkDefs ds M v) (askedDefs ds inRoom anyBinders) (askedDefs ds anyStmt new) (askedDefs ds inScope anyBinders) (askedDefs ds anyStmt (upTo M))
 unfolding walkDefs
-told-defs [] M v = told-none v
-told-defs (d ∷ ds) M v =
+finds-defs [] M v = finds-none v
+finds-defs (d ∷ ds) M v =
     let Δ = ids (d .context) in
     let body = d .body in
-    let below = subst (λ (z : List VarId). Told v (under M Δ (walkStmt body M) [] v) (asked body inRoom anyBinders z) (new [] Δ && asked body anyStmt new z) (asked body inScope anyBinders z) (upTo M [] Δ && asked body anyStmt (upTo M) z))
+    let below = subst (λ (z : List VarId). Finds v (under M Δ (walkStmt body M) [] v) (asked body inRoom anyBinders z) (new [] Δ && asked body anyStmt new z) (asked body inScope anyBinders z) (upTo M [] Δ && asked body anyStmt (upTo M) z))
     (append-nil Δ)
-    (told-under M Δ no-scope (omega arith) (walkStmt body M) (λ Δ₁ w q l. told-stmt body M (Δ ++ []) Δ₁ w q l) (λ Δ₁ w q. walkStmt-stays body M Δ₁ w q) (λ l. asked-over body (Δ ++ []) l) v) in
-    told-assoc (new [] Δ) (asked body anyStmt new Δ) (askedDefs ds anyStmt new) (upTo M [] Δ) (asked body anyStmt (upTo M) Δ) (askedDefs ds anyStmt (upTo M))
-    (told-then below (λ e. told-defs ds M _) (λ e. walkDefs-stays ds M _ e))
+    (finds-under M Δ no-scope (omega arith) (walkStmt body M) (λ Δ₁ w q l. finds-stmt body M (Δ ++ []) Δ₁ w q l) (λ Δ₁ w q. walkStmt-stays body M Δ₁ w q) (λ l. asked-over body (Δ ++ []) l) v) in
+    finds-assoc (new [] Δ) (asked body anyStmt new Δ) (askedDefs ds anyStmt new) (upTo M [] Δ) (asked body anyStmt (upTo M) Δ) (askedDefs ds anyStmt (upTo M))
+    (finds-then below (λ e. finds-defs ds M _) (λ e. walkDefs-stays ds M _ e))
 
 -- ── the walk answers the questions ──
 
@@ -353,4 +353,4 @@ pub record Answered (ds : List Def) (M : ℕ) (r : Verdict) : Type 0 where
   pub ids : r .room ≡ true → r .ids ≡ askedDefs ds anyStmt (upTo M)
 
 pub walk-answers : (ds : List Def) (M : ℕ) → Answered ds M (walkDefs ds M clean)
-walk-answers ds M = let t = told-defs ds M clean in record { room = t .toldRoom; binders = t .toldBinders; uses = t .toldUses; ids = t .toldIds }
+walk-answers ds M = let t = finds-defs ds M clean in record { room = t .findsRoom; binders = t .findsBinders; uses = t .findsUses; ids = t .findsIds }

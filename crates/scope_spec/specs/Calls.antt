@@ -20,7 +20,7 @@ use Rattle.image_spec.specs.Layout.{layout1}
 use Rattle.image_spec.specs.Records.{Record, definition, substitute, call, let', switch, create, invoke, literal, op, ifc, clause'}
 use Rattle.image_spec.specs.Shape.{flattenDefs, maxDepth}
 use Rattle.image_spec.specs.Answers.{Report, Reports, report}
-use Rattle.image_spec.specs.Reading.{Reading, refuse, accept, asked, reading, answerOf}
+use Rattle.image_spec.specs.Reading.{Reading, refuse, accept, ifYes, reading, answerOf}
 use Rattle.image_places_spec.specs.Places.{stmtAt}
 
 -- what is asked of a program that is read
@@ -31,11 +31,11 @@ afterReading (accept p) k = k p
 -- document 01, "The questions": the scope check 1 to 10
 unfoldable pub checking : Prog → Reading
 checking P =
-    asked (question6 P) Linearized
-    (asked (question7 P) Limits
-    (asked (question8 P) Binders
-    (asked (question9 P) Scope
-    (asked (question10 P) MaxId
+    ifYes (question6 P) Linearized
+    (ifYes (question7 P) Limits
+    (ifYes (question8 P) Binders
+    (ifYes (question9 P) Scope
+    (ifYes (question10 P) MaxId
     (accept P)))))
 
 unfoldable pub checkOf : Layout → List ℕ → Reading
@@ -105,9 +105,9 @@ unfoldable pub annotationBytes : (w : ℕ) → Prog → ℕ → List ℕ
 annotationBytes w P i = each (setBytes w) (annotations (stmtAt maxDepth (flattenDefs (P .defs)) i))
 
 -- a no is the answer; after a yes, the questions that follow decide
-abbrev pub askedOf : Bool → Refusal → Reply → Reply
-askedOf true q next = next
-askedOf false q next = refuses q
+abbrev pub replyIfYes : Bool → Refusal → Reply → Reply
+replyIfYes true q next = next
+replyIfYes false q next = refuses q
 
 abbrev pub replyAfter : Reading → (Prog → Reply) → Reply
 replyAfter (refuse q) k = refuses q
@@ -116,13 +116,13 @@ replyAfter (accept p) k = k p
 -- document 01, "The questions": 13, then 12: does the answer fit the lent buffer?
 unfoldable pub placing : (w : ℕ) → Prog → (place size : ℕ) → Reply
 placing w P i size =
-    askedOf (question13 P i) Place
-    (askedOf (leb (length (annotationBytes w P i)) size) Room
+    replyIfYes (question13 P i) Place
+    (replyIfYes (leb (length (annotationBytes w P i)) size) Room
     (writes (annotationBytes w P i) (P .maxId)))
 
 -- document 01, "The questions": annotation 1 to 7, 13, 12
 unfoldable pub annotating : (w : ℕ) → Prog → (place size : ℕ) → Reply
-annotating w P i size = askedOf (question6 P) Linearized (askedOf (question7 P) Limits (placing w P i size))
+annotating w P i size = replyIfYes (question6 P) Linearized (replyIfYes (question7 P) Limits (placing w P i size))
 
 unfoldable pub annotateOf : Layout → List ℕ → (place size : ℕ) → Reply
 annotateOf L s i size = replyAfter (reading L s) (λ P. annotating (L .id) P i size)

@@ -8,7 +8,7 @@ use Prim.Native.Nat.{ℕ, zero, suc, _+_, _-_, _≤_, _<_}
 use native.Mathlib.Omega.{arith}
 use native.Mathlib.Nat.{eq-or-lt-of-le}
 use native.Mathlib.Numerals.{add-one}
-use lib.ListN.{length, take, drop, getD, set, length-append, length-set, take-append-drop}
+use lib.ListN.{length, take, drop, getD, set, length-append, length-map, length-set, take-append-drop}
 use lib.Seq.{take-append-le, drop-append-le, take-set-le, getD-set-same, append-snoc}
 use Rattle.syntax.specs.Sets.{elem, _∈_, Distinct}
 use Rattle.syntax.specs.Context.{Context, idOf, ids}
@@ -197,6 +197,9 @@ module _ {A : Type 0} (p : A → Bool) where
 
 pub ids-++ : (Γ Δ : Context) → ids (Γ ++ Δ) ≡ ids Γ ++ ids Δ
 ids-++ Γ Δ = map-append idOf Γ Δ
+
+pub ids-length : (Γ : Context) → length (ids Γ) ≡ length Γ
+ids-length Γ = length-map Γ idOf
 
 pub perm-in : {s t : Context} → Perm s t → (x : VarId) → x ∈ ids s → x ∈ ids t
 perm-in nil x h = h

@@ -8,8 +8,7 @@ ghost use mathlib.Core.Path.{_≡_};
 ghost use mathlib.Core.List.{_∷_, [], _++_};
 ghost use Prim.Native.Nat.{_≤_, _<_, _^_};
 ghost use Rattle.syntax.specs.Types.{sameChirality};
-ghost use Rattle.syntax.specs.Context.{sameBinding, sameContext, emptyBinding};
-ghost use Rattle.syntax.specs.Filter.{filterBySet};
+ghost use Rattle.syntax.specs.Context.{sameBinding, emptyBinding};
 ghost use Rattle.syntax.specs.Fresh.{fresh, drawn, freshen};
 ghost use Rattle.syntax.specs.Flat.{bindingOf};
 ghost use Rattle.syntax.specs.Arrays.{setOf, contextOf, Holds, Freshens};
@@ -158,20 +157,9 @@ impl FlatBinding {
     {
         let var = Identifier::fresh(max_id, self.name);
         let id = var.id;
-        let ty_id = self.ty_id;
-        let name = var.name;
-        let ty_name = self.ty_name;
-        let chi = self.chi;
-        let declared = self.declared;
-        FlatBinding {
-            id,
-            ty_id,
-            name,
-            ty_name,
-            chi,
-            declared,
-            unused: 0,
-        }
+        let mut renamed = self;
+        renamed.id = id;
+        renamed
     }
 }
 
@@ -198,51 +186,6 @@ impl TypingContext {
         next.bindings[at] = b.flat();
         next.len = at + 1;
         next
-    }
-
-    pub fn same(self, other: TypingContext) -> bool
-        requires { ⌜ (self .len ≤ 64) × (other .len ≤ 64) ⌝ }
-        ensures { λ r. ⌜ r ≡ sameContext (contextOf self) (contextOf other) ⌝ }
-    {
-        let n = self.len;
-        if n == other.len {
-            let mut i = 0;
-            while i < n {
-                let a = self.bindings[i];
-                let b = other.bindings[i];
-                if a.binding().same(b.binding()) {
-                    i += 1;
-                } else {
-                    return false;
-                }
-            }
-            true
-        } else {
-            false
-        }
-    }
-
-    // Keeps the bindings whose variables are in the set. One that goes gives its place to the last, which is looked at next.
-    pub fn filter_by_set(self, set: IdSet) -> Self
-        requires { ⌜ (self .len ≤ 64) × (set .len ≤ 128) ⌝ }
-        ensures { λ r. ⌜ Holds r (filterBySet (setOf set) (contextOf self)) ⌝ }
-    {
-        let mut out = self;
-        let mut n = self.len;
-        let mut i = 0;
-        while i < n {
-            let b = out.bindings[i];
-            let id = b.id;
-            if set.contains(id) {
-                i += 1;
-            } else {
-                n -= 1;
-                let last = out.bindings[n];
-                out.bindings[i] = last;
-            }
-        }
-        out.len = n;
-        out
     }
 
     // Draws an ID for each binding whose own is among the clashes or came earlier. For the i-th the IDs seen from j on are left to look at.

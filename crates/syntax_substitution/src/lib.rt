@@ -7,7 +7,7 @@ use syntax::names::Name;
 use syntax::names::VarId;
 ghost use mathlib.Core.Path.{_≡_};
 ghost use Rattle.syntax.specs.Flat.{bindingOf};
-ghost use Rattle.syntax_substitution.specs.Pairs.{emptyPair, pairOf};
+ghost use Rattle.syntax_substitution.specs.Pairs.{emptyFlatPair, pairOf};
 
 // The target takes the value of the source.
 pub struct Pair {
@@ -33,46 +33,23 @@ pub struct Substitution {
     pub len: usize,
 }
 
-impl Pair {
+impl FlatPair {
     // What stands in the unused places of an array.
     pub fn empty() -> Self
-        ensures { λ r. ⌜ r ≡ emptyPair ⌝ }
+        ensures { λ r. ⌜ r ≡ emptyFlatPair ⌝ }
     {
-        Pair {
-            target: ContextBinding::empty(),
-            source: Identifier {
-                name: Name(0),
-                id: VarId(0),
-            },
-        }
-    }
-
-    pub fn flat(self) -> FlatPair
-        ensures { λ r. ⌜ pairOf r ≡ self ⌝ }
-    {
-        let target = self.target.flat();
-        let id = target.id;
-        let ty_id = target.ty_id;
-        let source = self.source.id;
-        let name = target.name;
-        let ty_name = target.ty_name;
-        let source_name = self.source.name;
-        let chi = target.chi;
-        let declared = target.declared;
         FlatPair {
-            id,
-            ty_id,
-            source,
-            name,
-            ty_name,
-            source_name,
-            chi,
-            declared,
+            id: VarId(0),
+            ty_id: VarId(0),
+            source: VarId(0),
+            name: Name(0),
+            ty_name: Name(0),
+            source_name: Name(0),
+            chi: Chirality::Prd,
+            declared: false,
         }
     }
-}
 
-impl FlatPair {
     // The target takes the value of the variable that is wanted in its place.
     pub fn of(target: FlatBinding, wanted: FlatBinding) -> Self
         ensures { λ r. ⌜ pairOf r ≡ record { target = bindingOf target; source = bindingOf wanted .var } ⌝ }

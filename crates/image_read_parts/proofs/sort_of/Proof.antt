@@ -1,6 +1,7 @@
 use mathlib.Core.Path.{refl}
 use native.Mathlib.Omega.{arith}
-use Rattle.image_read_parts.proofs.StandingLaws.{up, code-at, code-last}
+use Rattle.image_kinds.proofs.RecordStops.{up}
+use Rattle.image_read_parts.proofs.StandingLaws.{code-at, code-last}
 use Rattle.image_read_parts.proofs.sort_of.Statement.{statement}
 use Rattle.image_read_parts.proofs.sort_of.Tie as tie
 

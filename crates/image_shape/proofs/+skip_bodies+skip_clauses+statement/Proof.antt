@@ -1,6 +1,7 @@
 use borrow.Author.Needs.{needs}
 use Prim.Native.Nat.{_+_, _*_}
 use mathlib.Core.Path.{_≡_, refl, sym, ap, _∙_}
+use mathlib.Core.Logic.{inr}
 use mathlib.Core.List.{[]}
 use native.Mathlib.Omega.{arith}
 use lib.ListN.{length}
@@ -24,7 +25,7 @@ use Rattle.image_shape.proofs.+skip_bodies+skip_clauses+statement.Lts-s
 use Rattle.image_shape.proofs.statement.Reads as statement′
 use Rattle.image_shape.proofs.statement.Kinds as statement-kinds
 use Rattle.image_shape.proofs.+skip_bodies+skip_clauses+statement.Lts-statement as statement-lts
-use Rattle.image_shape.proofs.clause_head.Reads as clause-head-reads
+use Rattle.image_shape.proofs.head.Reads as head-reads
 use Rattle.image_shape.proofs.statement_parts.Reads as statement-parts-reads
 use Rattle.image_shape.proofs.+skip_bodies+skip_clauses+statement.{statement}
 use Rattle.image_shape.proofs.+skip_bodies+skip_clauses+statement.Tie.{close}
@@ -74,7 +75,7 @@ abbrev skip-bodies-claims : ℕ → skip-bodies-lts.Claims
 skip-bodies-claims t = (statement-below t, statement′.Post)
 
 abbrev skip-clauses-claims : ℕ → skip-clauses-lts.Claims
-skip-clauses-claims t = (clause-head-reads.Asked, clause-head-reads.Learnt, statement-below t, statement′.Post)
+skip-clauses-claims t = (head-reads.Asked, head-reads.Learnt, statement-below t, statement′.Post)
 
 abbrev statement-claims : ℕ → statement-lts.Claims
 statement-claims t = (statement-parts-reads.Asked, statement-parts-reads.Learnt, skip-clauses-below t, skip-clauses.Post, skip-bodies-below t, skip-bodies.Post)
@@ -121,8 +122,8 @@ skip-clauses-μ-loop s g depth n here₀ left₀ here left = left
 skip-clauses-loop-holds : (t : ℕ) → skip-clauses-lts.Need-loop-holds (skip-clauses-claims t) (skip-clauses-at t) skip-clauses.Post skip-clauses-Inv-loop skip-clauses-μ-loop
 skip-clauses-loop-holds t c = (c .before .pre .1 .1, refl)
 
-skip-clauses-clause-head-requires : (t : ℕ) → skip-clauses-lts.Need-clause-head-requires (skip-clauses-claims t) (skip-clauses-at t) skip-clauses.Post skip-clauses-Inv-loop skip-clauses-μ-loop
-skip-clauses-clause-head-requires t c κs = c .before .before .before .pre .1 .0
+skip-clauses-head-requires : (t : ℕ) → skip-clauses-lts.Need-head-requires (skip-clauses-claims t) (skip-clauses-at t) skip-clauses.Post skip-clauses-Inv-loop skip-clauses-μ-loop
+skip-clauses-head-requires t c κs = (c .before .before .before .pre .1 .0, inr refl)
 
 skip-clauses-statement-requires : (t : ℕ) → skip-clauses-lts.Need-statement-requires (skip-clauses-claims t) (skip-clauses-at t) skip-clauses.Post skip-clauses-Inv-loop skip-clauses-μ-loop
 skip-clauses-statement-requires t c κs = (omega arith, c .before .before .before .before .pre .1 .0)
@@ -138,7 +139,7 @@ skip-clauses-loop-again t c =
     let a = c .before .before .before .before .before .args in
     let rs = recordsIn (a .frame) (now (a .image)) in
     let l = c .before .before .before .loop in
-    let e : c .statement .result ≡ stop (stmt (a .depth)) rs (stop clauseHead rs (l .here)) = cc (c .statement .ensures, c .before .clause-head .ensures) in (
+    let e : c .statement .result ≡ stop (stmt (a .depth)) rs (stop clauseHead rs (l .here)) = cc (c .statement .ensures, c .before .head .ensures) in (
       rw (c .statement .ensures) (stop-within (stmt (a .depth)) rs _),
       turn (λ n f. stop (clauses (stmt (a .depth)) n) rs f) (λ f. stop (stmt (a .depth)) rs (stop clauseHead rs f)) (λ n f. clauses-more (a .depth) (stmt (a .depth)) (stmt-exact (a .depth)) rs n f) _ (l .left) (l .here) _ (c .before .before .loop-test .taken) (l .inv .1) e,
     )
@@ -199,6 +200,6 @@ pub +skip-bodies+skip-clauses+statement-spec : {M : Type 1} → statement M
     skip-bodies-μ-loop (skip-bodies-loop-holds t) (skip-bodies-statement-requires t) (skip-bodies-sub-left t) (skip-bodies-loop-less t) (skip-bodies-loop-again t) (skip-bodies-returns t)) (λ t. skip-clauses-lts.spec (skip-clauses-claims t) (skip-clauses-at t)
     skip-clauses.Post
     skip-clauses-Inv-loop
-    skip-clauses-μ-loop (skip-clauses-loop-holds t) (skip-clauses-clause-head-requires t) (skip-clauses-statement-requires t) (skip-clauses-sub-left t) (skip-clauses-loop-less t) (skip-clauses-loop-again t) (skip-clauses-returns t))
+    skip-clauses-μ-loop (skip-clauses-loop-holds t) (skip-clauses-head-requires t) (skip-clauses-statement-requires t) (skip-clauses-sub-left t) (skip-clauses-loop-less t) (skip-clauses-loop-again t) (skip-clauses-returns t))
     λ t. statement-lts.spec (statement-claims t) (statement-at t)
     statement′.Post (statement-returns t) (statement-statement-parts-requires t) (statement-enum-known-clauses t) (statement-sub-skip-bodies t) (statement-sub-skip-clauses t) (statement-skip-clauses-requires t) (statement-skip-bodies-requires t) (statement-enum-told t) (statement-returns-2 t) (statement-returns-3 t)

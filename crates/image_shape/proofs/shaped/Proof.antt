@@ -1,5 +1,6 @@
 use borrow.Author.Needs.{needs}
 use mathlib.Core.Path.{_≡_, refl, sym, ap, _∙_}
+use mathlib.Core.Logic.{inl}
 use mathlib.Core.List.{[]}
 use native.Mathlib.Omega.{arith}
 use lib.ListN.{length}
@@ -24,8 +25,8 @@ abbrev μ-loop : tie.MeasureT-loop
 loop-holds : tie.Need-loop-holds Inv-loop μ-loop
 loop-holds c = (omega arith, refl)
 
-definition-head-requires : tie.Need-definition-head-requires Inv-loop μ-loop
-definition-head-requires c κs = search needs
+head-requires : tie.Need-head-requires Inv-loop μ-loop
+head-requires c κs = (c .before .before .before .pre, inl refl)
 
 statement-requires : tie.Need-statement-requires Inv-loop μ-loop
 statement-requires c κs = search needs
@@ -41,7 +42,7 @@ loop-again c =
     let a = c .before .before .before .before .before .args in
     let rs = recordsIn (a .frame) (now (a .image)) in
     let l = c .before .before .before .loop in
-    let e : c .statement .result ≡ stop (stmt maxDepth) rs (stop definitionHead rs (l .here)) = cc (c .statement .ensures, c .before .definition-head .ensures) in (
+    let e : c .statement .result ≡ stop (stmt maxDepth) rs (stop definitionHead rs (l .here)) = cc (c .statement .ensures, c .before .head .ensures) in (
       rw (c .statement .ensures) (stop-within (stmt maxDepth) rs _),
       turn (λ n f. stop (times n oneDef) rs f) (λ f. stop (stmt maxDepth) rs (stop definitionHead rs f)) (λ n f. definition-more n rs f) _ (l .left) (l .here) _
           (c .before .before .loop-test .taken) (l .inv .1) e,
@@ -90,7 +91,7 @@ shaped-spec =
     Inv-loop
     μ-loop
     loop-holds
-    definition-head-requires
+    head-requires
     statement-requires
     sub-left
     loop-less

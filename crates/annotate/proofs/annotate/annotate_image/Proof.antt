@@ -9,8 +9,8 @@ use Rattle.annotate.proofs.AnnotateLaws.{annotated, not-limited, not-so
 use Rattle.annotate.proofs.annotate.annotate_image.Statement.{statement}
 use Rattle.annotate.proofs.annotate.annotate_image.Tie as tie
 
-all-plain-requires : tie.Need-all-plain-requires
-all-plain-requires c κs = search needs
+all-records-requires : tie.Need-all-records-requires
+all-records-requires c κs = search needs
 
 in-limits-requires : tie.Need-in-limits-requires
 in-limits-requires c κs = search needs
@@ -23,7 +23,7 @@ annotate-record-requires c κs =
       ready = h .0;
       defined = h .1 .0;
       narrow = h .1 .1;
-      six = question6-flat (programIn (a .defs) (recordsIn (a .frame) (now (a .image))) (a .max-id)) ∙ (ap (allRecords plainRecord) (sym (h .1 .0 .is)) ∙ (sym (c .before .before .before .before .all-plain .ensures) ∙ c .before .before .before .if1 .taken));
+      six = question6-flat (programIn (a .defs) (recordsIn (a .frame) (now (a .image))) (a .max-id)) ∙ (ap (allRecords plainRecord) (sym (h .1 .0 .is)) ∙ (sym (c .before .before .before .before .all-records .ensures) ∙ c .before .before .before .if1 .taken));
       seven = sym (c .before .before .in-limits .ensures) ∙ c .before .if2 .taken;
     }
 
@@ -35,7 +35,7 @@ returns c =
     let a = c .before .before .before .before .before .before .before .before .before .before .args in
     let h = c .before .before .before .before .before .before .before .before .before .before .pre in
     annotated (a .frame .id) (programIn (a .defs) (recordsIn (a .frame) (now (a .image))) (a .max-id)) (a .i)
-    (question6-flat (programIn (a .defs) (recordsIn (a .frame) (now (a .image))) (a .max-id)) ∙ (ap (allRecords plainRecord) (sym (h .1 .0 .is)) ∙ (sym (c .before .before .before .before .before .before .before .all-plain .ensures) ∙ c .before .before .before .before .before .before .if1 .taken)))
+    (question6-flat (programIn (a .defs) (recordsIn (a .frame) (now (a .image))) (a .max-id)) ∙ (ap (allRecords plainRecord) (sym (h .1 .0 .is)) ∙ (sym (c .before .before .before .before .before .before .before .all-records .ensures) ∙ c .before .before .before .before .before .before .if1 .taken)))
     (sym (c .before .before .before .before .before .in-limits .ensures) ∙ c .before .before .before .before .if2 .taken) (c .before .before .annotate-record .ensures)
 
 returns-2 : tie.Need-returns-2
@@ -43,7 +43,7 @@ returns-2 c =
     let a = c .before .before .before .before .before .before .args in
     let h = c .before .before .before .before .before .before .pre in
     not-limited (a .frame .id) (programIn (a .defs) (recordsIn (a .frame) (now (a .image))) (a .max-id)) (a .i) (now (a .out))
-    (question6-flat (programIn (a .defs) (recordsIn (a .frame) (now (a .image))) (a .max-id)) ∙ (ap (allRecords plainRecord) (sym (h .1 .0 .is)) ∙ (sym (c .before .before .before .all-plain .ensures) ∙ c .before .before .if1 .taken)))
+    (question6-flat (programIn (a .defs) (recordsIn (a .frame) (now (a .image))) (a .max-id)) ∙ (ap (allRecords plainRecord) (sym (h .1 .0 .is)) ∙ (sym (c .before .before .before .all-records .ensures) ∙ c .before .before .if1 .taken)))
     (sym (c .before .in-limits .ensures) ∙ c .if2 .left)
 
 returns-3 : tie.Need-returns-3
@@ -51,13 +51,13 @@ returns-3 c =
     let a = c .before .before .before .before .args in
     let h = c .before .before .before .before .pre in
     not-source (a .frame .id) (programIn (a .defs) (recordsIn (a .frame) (now (a .image))) (a .max-id)) (a .i) (now (a .out))
-    (question6-flat (programIn (a .defs) (recordsIn (a .frame) (now (a .image))) (a .max-id)) ∙ (ap (allRecords plainRecord) (sym (h .1 .0 .is)) ∙ (sym (c .before .all-plain .ensures) ∙ c .if1 .left)))
+    (question6-flat (programIn (a .defs) (recordsIn (a .frame) (now (a .image))) (a .max-id)) ∙ (ap (allRecords plainRecord) (sym (h .1 .0 .is)) ∙ (sym (c .before .all-records .ensures) ∙ c .if1 .left)))
 
 pub annotate-image-spec : {M : Type 1} → statement M
 annotate-image-spec =
     tie.close
     (tie.spec
-    all-plain-requires
+    all-records-requires
     in-limits-requires
     annotate-record-requires
     same-length

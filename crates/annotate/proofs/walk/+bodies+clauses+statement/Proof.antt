@@ -19,7 +19,8 @@ use Rattle.scope_spec.specs.Marking.{markAll, markClauses, markBodies}
 use Rattle.image_read_nodes.specs.Nodes.{recordAt}
 use Rattle.image_read_nodes.proofs.StepLaws.{above-at, below-at, clause-kind}
 use Rattle.annotate_uses.proofs.BindLaws.{binders-room, clause-bound}
-use Rattle.annotate_uses.proofs.CountLaws.{record-at, uses-few}
+use Rattle.scope_records.proofs.FlatLaws.{record-at}
+use Rattle.annotate_uses.proofs.CountLaws.{uses-few}
 use Rattle.annotate.proofs.MarkSteps.{clauses-room, bodies-room, marked-stmt, MarksClauses, clause-room, clause-marked, marked-clauses, MarksBodies, body-marked, marked-bodies}
 use borrow.Fn.Kinds.{In}
 use borrow.Fn.PlainCycle.{Measures, is, falls, and}

@@ -2,7 +2,8 @@ use Prim.Native.Nat.{_-_}
 use mathlib.Core.Path.{refl}
 use denote.Ref.{now}
 use borrow.Author.Needs.{needs}
-use Rattle.image_write_directory.proofs.EmitLaws.{noted-one, noted-past}
+use Rattle.image_write_parts.proofs.Putting.{puts-byte}
+use Rattle.image_write_directory.proofs.EmitLaws.{noted-past}
 use Rattle.image_write_directory.proofs.progress.note.Statement.{statement}
 use Rattle.image_write_directory.proofs.progress.note.Tie as tie
 
@@ -24,7 +25,7 @@ same-length c = search needs
 returns : tie.Need-returns
 returns c =
     let a = c .before .before .args in
-    record { at = refl; maxId = refl; puts = noted-one (now (a .lengths)) (a .so-far .count) (a .next - a .so-far .at) }
+    record { at = refl; maxId = refl; puts = puts-byte (now (a .lengths)) (a .so-far .count) (a .next - a .so-far .at) }
 
 returns-2 : tie.Need-returns-2
 returns-2 c =

@@ -11,7 +11,7 @@ use Rattle.syntax.proofs.Flats.{long-seen, seen-at}
 use Rattle.image_spec.specs.Fields.{bindingBytes}
 use Rattle.image_spec.proofs.FieldLaws.{binding-length}
 use Rattle.image_write_parts.proofs.Putting.{puts-same, puts-as}
-use Rattle.image_write_records.proofs.Writing.{Written, written-none, written-next, counted-put}
+use Rattle.image_write_parts.proofs.Writing.{Written, written-none, written-next, counted-put}
 use Rattle.image_write_records.proofs.lists.put_list.Statement.{statement}
 use Rattle.image_write_records.proofs.lists.put_list.Tie as tie
 

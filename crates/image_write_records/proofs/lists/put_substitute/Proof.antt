@@ -3,7 +3,7 @@ use mathlib.Core.List.{[], _∷_}
 use mathlib.Core.Path.{ap}
 use borrow.Author.Needs.{needs}
 use Rattle.image_write_parts.proofs.Putting.{puts-as, puts-then}
-use Rattle.image_write_records.proofs.Writing.{alone}
+use Rattle.image_write_parts.proofs.Writing.{alone}
 use Rattle.image_write_records.proofs.lists.put_substitute.Statement.{statement}
 use Rattle.image_write_records.proofs.lists.put_substitute.Tie as tie
 

@@ -15,11 +15,11 @@ returns c = let a = c .before .before .before in arranges-nothing (bindings (wor
 empty-requires : tie.Need-empty-requires
 empty-requires c κs = search needs
 
-arrange-behind-requires : tie.Need-arrange-behind-requires
-arrange-behind-requires c κs =
+arrange-requires : tie.Need-arrange-requires
+arrange-requires c κs =
     let a = c .before .before .before .before .before .before in
     let h = c .before .before .empty .ensures in
-    (a .pre .0, (holds-paired h h refl (omega arith), a .pre .1))
+    (holds-paired h h refl (omega arith), a .pre)
 
 same-length : tie.Need-same-length
 same-length c = search needs
@@ -29,11 +29,13 @@ same-length-2 c = search needs
 
 returns-2 : tie.Need-returns-2
 returns-2 c =
-    let a = c .before .before .before .before .before .before .before .before .before .before .before in
-    let e = behind-none (bindings (workOf (a .args .kept))) (c .before .before .before .before .before .before .before .empty .ensures .list) in
-    arranges-as (a .args .right) e e (c .before .before .before .before .arrange-behind .ensures)
+    let arranged = c .before .before .before .before in
+    let made = arranged .before .before .before in
+    let a = made .before .before .before .before in
+    let e = behind-none (bindings (workOf (a .args .kept))) (made .empty .ensures .list) in
+    arranges-as (a .args .right) e e (arranged .arrange .ensures)
 
 pub arrange-kept-spec : {M : Type 1} → statement M
 arrange-kept-spec =
     tie.close
-    (tie.spec returns empty-requires arrange-behind-requires same-length same-length-2 returns-2)
+    (tie.spec returns empty-requires arrange-requires same-length same-length-2 returns-2)

@@ -7,7 +7,7 @@ use Rattle.syntax.specs.Context.{Context}
 use Rattle.pass_work_spec.specs.Work.{bindings}
 use Rattle.pass_context.specs.Holding.{workOf}
 use Rattle.pass_arrange.proofs.PairLaws.{holds-paired}
-use Rattle.pass_arrange.proofs.StepLaws.{holds-one}
+use Rattle.pass_step.proofs.StepLaws.{holds-one}
 use Rattle.pass_arrange.proofs.ArrangeLaws.{arranges-nothing, arranges-as}
 use Rattle.pass_arrange.proofs.arrange.arrange_one.Statement.{statement}
 use Rattle.pass_arrange.proofs.arrange.arrange_one.Tie as tie
@@ -27,12 +27,14 @@ empty-requires-2 c κs = search needs
 push-requires-2 : tie.Need-push-requires-2
 push-requires-2 c κs = search needs
 
-arrange-behind-requires : tie.Need-arrange-behind-requires
-arrange-behind-requires c κs =
-    let a = c .before .before .before .before .before .before .before .before .before in
-    let t = holds-one (c .before .before .before .before .before .empty .ensures) (c .before .before .before .before .push .ensures) in
-    let v = holds-one (c .before .before .before .empty2 .ensures) (c .before .before .push2 .ensures) in
-    (a .pre .0, (holds-paired t v refl (omega arith), a .pre .1))
+arrange-requires : tie.Need-arrange-requires
+arrange-requires c κs =
+    let made = c .before .before in
+    let pushed = made .before .before in
+    let a = pushed .before .before .before .before .before in
+    let t = holds-one (pushed .before .empty .ensures) (pushed .push .ensures) in
+    let v = holds-one (made .before .empty2 .ensures) (made .push2 .ensures) in
+    (holds-paired t v refl (omega arith), a .pre)
 
 same-length : tie.Need-same-length
 same-length c = search needs
@@ -42,11 +44,13 @@ same-length-2 c = search needs
 
 returns-2 : tie.Need-returns-2
 returns-2 c =
-    let p = c .before .before .before .before .before .before .before in
-    let a = p .before .before .before .before .before .before .before in
-    let t = holds-one (p .before .before .before .empty .ensures) (p .before .before .push .ensures) .list in
-    let v = holds-one (p .before .empty2 .ensures) (p .push2 .ensures) .list in
-    arranges-as (a .args .right) (ap (λ (z : Context). bindings (workOf (a .args .kept)) ++ z) t) (ap (λ (z : Context). bindings (workOf (a .args .kept)) ++ z) v) (c .before .before .before .before .arrange-behind .ensures)
+    let arranged = c .before .before .before .before in
+    let made = arranged .before .before .before in
+    let pushed = made .before .before in
+    let a = pushed .before .before .before .before .before in
+    let t = holds-one (pushed .before .empty .ensures) (pushed .push .ensures) .list in
+    let v = holds-one (made .before .empty2 .ensures) (made .push2 .ensures) .list in
+    arranges-as (a .args .right) (ap (λ (z : Context). bindings (workOf (a .args .kept)) ++ z) t) (ap (λ (z : Context). bindings (workOf (a .args .kept)) ++ z) v) (arranged .arrange .ensures)
 
 pub arrange-one-spec : {M : Type 1} → statement M
 arrange-one-spec =
@@ -57,7 +61,7 @@ arrange-one-spec =
     push-requires
     empty-requires-2
     push-requires-2
-    arrange-behind-requires
+    arrange-requires
     same-length
     same-length-2
     returns-2)

@@ -8,7 +8,8 @@ use Rattle.syntax.specs.Flat.{bindingOf}
 use Rattle.syntax.specs.Arrays.{bindingsIn}
 use Rattle.syntax.proofs.Flats.{long-seen}
 use Rattle.pass_work_spec.specs.Work.{bindings}
-use Rattle.pass_context.specs.Holding.{entryIn, entriesIn}
+use Rattle.pass_entries.specs.Entries.{entryIn}
+use Rattle.pass_context.specs.Holding.{entriesIn}
 use Rattle.pass_context.proofs.Stores.{Built, built-start, built-seen, built-done}
 use Rattle.pass_context.proofs.Elements.{binding-at, bindings-count}
 use Rattle.pass_context.proofs.Held.context.Statement.{statement}

@@ -7,8 +7,9 @@ use Rattle.syntax.proofs.Lists.{counted}
 use Rattle.syntax.proofs.Flats.{long-seen, seen-moved, seen-in, seen-out}
 use Rattle.syntax.proofs.Filters.{Filtering, filtering-start, filtering-done}
 use Rattle.pass_work_spec.specs.Work.{Work}
-use Rattle.pass_context.specs.Masks.{inMask, keptByMask}
-use Rattle.pass_context.specs.Holding.{entryIn, entriesIn, emptyFlatEntry}
+use Rattle.pass_entries.specs.Masks.{inMask, keptByMask}
+use Rattle.pass_entries.specs.Entries.{entryIn, emptyFlatEntry}
+use Rattle.pass_context.specs.Holding.{entriesIn}
 use Rattle.pass_context.specs.declared.Held.{Held}
 use Rattle.pass_context.proofs.Held.filter_by_set.Statement.{statement}
 use Rattle.pass_context.proofs.Held.filter_by_set.Tie as tie

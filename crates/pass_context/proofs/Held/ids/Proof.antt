@@ -7,7 +7,8 @@ use Rattle.syntax.specs.Context.{ids, idOf, emptyBinding}
 use Rattle.syntax.proofs.Lists.{long}
 use Rattle.syntax.proofs.Flats.{long-seen}
 use Rattle.pass_work_spec.specs.Work.{bindings}
-use Rattle.pass_context.specs.Holding.{entryIn, entriesIn}
+use Rattle.pass_entries.specs.Entries.{entryIn}
+use Rattle.pass_context.specs.Holding.{entriesIn}
 use Rattle.pass_context.proofs.Stores.{Built, built-start, built-next, built-done}
 use Rattle.pass_context.proofs.Elements.{id-at, ids-count}
 use Rattle.pass_context.proofs.Held.ids.Statement.{statement}

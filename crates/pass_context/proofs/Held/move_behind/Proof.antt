@@ -7,7 +7,8 @@ use lib.Seq.{length-take-le}
 use Rattle.syntax.proofs.Flats.{long-seen}
 use Rattle.pass_work_spec.specs.Work.{movedBehind}
 use Rattle.pass_work_spec.proofs.Lengths.{moved-length}
-use Rattle.pass_context.specs.Holding.{entryIn, entriesIn, emptyFlatEntry, emptyEntry}
+use Rattle.pass_entries.specs.Entries.{entryIn, emptyFlatEntry, emptyEntry}
+use Rattle.pass_context.specs.Holding.{entriesIn}
 use Rattle.pass_context.proofs.Stores.{built-start, built-seen}
 use Rattle.pass_context.proofs.Elements.{entry-at, moved-left, moved-right}
 use Rattle.pass_context.proofs.HeldLaws.{Storing, stored-all}

@@ -4,7 +4,7 @@ use native.Mathlib.Omega.{arith}
 use borrow.Author.Needs.{needs}
 use Rattle.syntax.proofs.Flats.{long-seen}
 use Rattle.pass_work_spec.specs.Work.{own}
-use Rattle.pass_context.specs.Holding.{entryIn}
+use Rattle.pass_entries.specs.Entries.{entryIn}
 use Rattle.pass_context.proofs.HeldLaws.{stored-behind}
 use Rattle.pass_context.proofs.Held.own.Statement.{statement}
 use Rattle.pass_context.proofs.Held.own.Tie as tie

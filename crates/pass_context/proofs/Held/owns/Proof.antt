@@ -10,7 +10,8 @@ use Rattle.syntax.specs.Arrays.{bindingsIn, contextOf}
 use Rattle.syntax.proofs.Flats.{long-seen, seen-at}
 use Rattle.pass_work_spec.specs.Work.{Work, own, owns}
 use Rattle.pass_work_spec.proofs.Lengths.{owns-length}
-use Rattle.pass_context.specs.Holding.{entryIn, entriesIn, workOf, emptyEntry}
+use Rattle.pass_entries.specs.Entries.{entryIn, emptyEntry}
+use Rattle.pass_context.specs.Holding.{entriesIn, workOf}
 use Rattle.pass_context.specs.declared.Held.{Held}
 use Rattle.pass_context.proofs.Stores.{built-behind, built-seen}
 use Rattle.pass_context.proofs.Elements.{owned-behind}

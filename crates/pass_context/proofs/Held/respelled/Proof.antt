@@ -9,7 +9,8 @@ use Rattle.syntax.specs.Flat.{bindingOf, emptyFlat}
 use Rattle.syntax.specs.Arrays.{bindingsIn, contextOf}
 use Rattle.syntax.proofs.Flats.{long-seen, seen-at}
 use Rattle.pass_work_spec.specs.Work.{respell, respelled}
-use Rattle.pass_context.specs.Holding.{entryIn, entriesIn, workOf, emptyEntry}
+use Rattle.pass_entries.specs.Entries.{entryIn, emptyEntry}
+use Rattle.pass_context.specs.Holding.{entriesIn, workOf}
 use Rattle.pass_context.proofs.Stores.{built-start, built-reads, built-seen}
 use Rattle.pass_context.proofs.Elements.{entry-at, respelled-at, respelled-count}
 use Rattle.pass_context.proofs.HeldLaws.{Storing, stored-all}

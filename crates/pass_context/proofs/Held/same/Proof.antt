@@ -10,7 +10,8 @@ use Rattle.syntax.specs.Arrays.{bindingsIn, contextOf}
 use Rattle.syntax.proofs.Flats.{long-seen, seen-at}
 use Rattle.syntax.proofs.Same.{same-lengths}
 use Rattle.pass_work_spec.specs.Work.{bindings}
-use Rattle.pass_context.specs.Holding.{entryIn, entriesIn, workOf}
+use Rattle.pass_entries.specs.Entries.{entryIn}
+use Rattle.pass_context.specs.Holding.{entriesIn, workOf}
 use Rattle.pass_context.proofs.Stores.{taken-left, taken-right}
 use Rattle.pass_context.proofs.Elements.{binding-at, bindings-count}
 use Rattle.pass_context.proofs.Comparisons.{Comparing, comparing-start, comparing-same, comparing-differ, comparing-done}

@@ -8,7 +8,8 @@ use Rattle.syntax.specs.Flat.{bindingOf, emptyFlat}
 use Rattle.syntax.specs.Arrays.{bindingsIn, contextOf}
 use Rattle.syntax.proofs.Flats.{long-seen, seen-at}
 use Rattle.pass_work_spec.specs.Work.{own, owns}
-use Rattle.pass_context.specs.Holding.{entryIn, entriesIn, workOf, emptyFlatEntry, emptyEntry}
+use Rattle.pass_entries.specs.Entries.{entryIn, emptyFlatEntry, emptyEntry}
+use Rattle.pass_context.specs.Holding.{entriesIn, workOf}
 use Rattle.pass_context.proofs.Stores.{Built, built-start, built-seen}
 use Rattle.pass_context.proofs.Elements.{entry-at, under-count, under-left, under-right}
 use Rattle.pass_context.proofs.HeldLaws.{stored-all}

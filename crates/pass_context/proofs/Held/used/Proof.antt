@@ -9,7 +9,8 @@ use Rattle.syntax.proofs.Lists.{rest}
 use Rattle.syntax.proofs.Flats.{long-seen}
 use Rattle.pass_work_spec.specs.declared.Entry.{Entry}
 use Rattle.pass_work_spec.specs.Work.{spelling, used}
-use Rattle.pass_context.specs.Holding.{entryIn, entriesIn, workOf}
+use Rattle.pass_entries.specs.Entries.{entryIn}
+use Rattle.pass_context.specs.Holding.{entriesIn, workOf}
 use Rattle.pass_context.proofs.Elements.{entry-at, source-at}
 use Rattle.pass_context.proofs.UsedLoops.{used-found, used-next, used-none}
 use Rattle.pass_context.proofs.Held.used.Statement.{statement}

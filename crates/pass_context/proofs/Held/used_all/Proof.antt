@@ -13,7 +13,8 @@ use Rattle.syntax.specs.declared.context.TypingContext.{TypingContext}
 use Rattle.syntax.proofs.Flats.{long-seen, seen-at, seen-set}
 use Rattle.pass_work_spec.specs.declared.Entry.{Entry}
 use Rattle.pass_work_spec.specs.Work.{spelling}
-use Rattle.pass_context.specs.Holding.{entryIn, entriesIn, emptyEntry}
+use Rattle.pass_entries.specs.Entries.{entryIn, emptyEntry}
+use Rattle.pass_context.specs.Holding.{entriesIn}
 use Rattle.pass_context.specs.declared.Held.{Held}
 use Rattle.pass_context.proofs.Stores.{built-done}
 use Rattle.pass_context.proofs.Elements.{entry-at, source-at}

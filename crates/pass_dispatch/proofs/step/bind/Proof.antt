@@ -1,6 +1,7 @@
 use mathlib.Core.Path.{_≡_}
 use borrow.Author.Needs.{needs}
-use Rattle.pass_dispatch.proofs.DispatchLaws.{source-as, last-of, steps-as}
+use Rattle.pass_step.proofs.StepLaws.{source-as}
+use Rattle.pass_dispatch.proofs.DispatchLaws.{last-of, steps-as}
 use Rattle.pass_dispatch.proofs.step.bind.Statement.{statement}
 use Rattle.pass_dispatch.proofs.step.bind.Tie as tie
 
@@ -9,13 +10,22 @@ last : (c : tie.At-match-rest) → c .before .before .before .before .args .kind
 last c = let n = c .match .rest in last-of 4 8 9 (c .before .before .before .before .pre .1 .0) (n .0 .1) (n .1)
 
 linearize-requires : tie.Need-linearize-requires
-linearize-requires c κs = let h = c .before .before .before .before .before .before .pre in (source-as 4 (c .before .before .match .keys1) (h .0), h .1 .1)
+linearize-requires c κs =
+    let arm = c .before .before in
+    let h = arm .before .before .before .before .pre in
+    (source-as 4 (arm .match .keys1) (h .0), h .1 .1 .1)
 
 linearize-requires-2 : tie.Need-linearize-requires-2
-linearize-requires-2 c κs = let h = c .before .before .before .before .before .before .pre in (source-as 8 (c .before .before .match .keys2) (h .0), h .1 .1)
+linearize-requires-2 c κs =
+    let arm = c .before .before in
+    let h = arm .before .before .before .before .pre in
+    (source-as 8 (arm .match .keys2) (h .0), h .1 .1 .1)
 
 linearize-requires-3 : tie.Need-linearize-requires-3
-linearize-requires-3 c κs = let h = c .before .before .before .before .before .before .pre in (source-as 9 (last (c .before .before)) (h .0), h .1 .1)
+linearize-requires-3 c κs =
+    let arm = c .before .before in
+    let h = arm .before .before .before .before .pre in
+    (source-as 9 (last arm) (h .0), h .1 .1)
 
 same-length : tie.Need-same-length
 same-length c = search needs
@@ -24,7 +34,10 @@ same-length-2 : tie.Need-same-length-2
 same-length-2 c = search needs
 
 returns : tie.Need-returns
-returns c = steps-as 4 (c .before .before .before .before .before .before .before .match .keys1) (c .before .before .before .before .before .before .before .before .before .before .before .pre .0) (c .before .before .before .before .linearize .ensures)
+returns c =
+    let done = c .before .before .before .before in
+    let arm = done .before .before .before in
+    steps-as 4 (arm .match .keys1) (arm .before .before .before .before .pre .0) (done .linearize .ensures)
 
 same-length-3 : tie.Need-same-length-3
 same-length-3 c = search needs
@@ -33,7 +46,10 @@ same-length-4 : tie.Need-same-length-4
 same-length-4 c = search needs
 
 returns-2 : tie.Need-returns-2
-returns-2 c = steps-as 8 (c .before .before .before .before .before .before .before .match .keys2) (c .before .before .before .before .before .before .before .before .before .before .before .pre .0) (c .before .before .before .before .linearize2 .ensures)
+returns-2 c =
+    let done = c .before .before .before .before in
+    let arm = done .before .before .before in
+    steps-as 8 (arm .match .keys2) (arm .before .before .before .before .pre .0) (done .linearize2 .ensures)
 
 same-length-5 : tie.Need-same-length-5
 same-length-5 c = search needs
@@ -42,7 +58,10 @@ same-length-6 : tie.Need-same-length-6
 same-length-6 c = search needs
 
 returns-3 : tie.Need-returns-3
-returns-3 c = steps-as 9 (last (c .before .before .before .before .before .before .before)) (c .before .before .before .before .before .before .before .before .before .before .before .pre .0) (c .before .before .before .before .linearize3 .ensures)
+returns-3 c =
+    let done = c .before .before .before .before in
+    let arm = done .before .before .before in
+    steps-as 9 (last arm) (arm .before .before .before .before .pre .0) (done .linearize3 .ensures)
 
 pub bind-spec : {M : Type 1} → statement M
 bind-spec =

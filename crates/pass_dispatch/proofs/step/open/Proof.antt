@@ -1,5 +1,6 @@
 use native.Mathlib.Omega.{arith}
-use Rattle.pass_dispatch.proofs.DispatchLaws.{source-as, switch-opens-as}
+use Rattle.pass_step.proofs.StepLaws.{source-as}
+use Rattle.pass_dispatch.proofs.DispatchLaws.{switch-opens-as}
 use Rattle.pass_dispatch.proofs.step.open.Statement.{statement}
 use Rattle.pass_dispatch.proofs.step.open.Tie as tie
 

@@ -11,7 +11,7 @@ use Rattle.image_directory.proofs.Places.{records-length}
 use Rattle.scope_spec.specs.Walk.{clean, walkDefs}
 use Rattle.scope_spec.specs.FreeRows.{rowsDefs}
 use Rattle.scope_check.specs.Definitions.{defsIn}
-use Rattle.scope_check.specs.Masks.{SourcedDefs}
+use Rattle.scope_walk.specs.Masks.{SourcedDefs}
 use Rattle.scope_check.proofs.DefLaws.{DefsLeft, def-next, def-kind}
 use Rattle.scope_check.proofs.DefWalks.{WalksDefs, def-walked, walked-defs}
 use Rattle.scope_check.proofs.definitions.walk_definitions.Statement.{statement}

@@ -11,9 +11,10 @@ binding-requires c κs = search needs
 
 returns : tie.Need-returns
 returns c =
-    let s = c .before .before .before .before .before .before .before in
+    let made = c .before .before in
+    let s = made .before .before .before .before .before in
     let f : ContextBinding → Pair = λ b. record { target = b; source = record { name = s .args .self .«source_name»; id = s .args .self .source } } in
-    ap f (c .before .before .binding .ensures)
+    ap f (made .binding .ensures)
 
 pub pair-spec : {M : Type 1} → statement M
 pair-spec = tie.close (tie.spec binding-requires returns)

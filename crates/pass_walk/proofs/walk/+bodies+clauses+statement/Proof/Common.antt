@@ -22,16 +22,16 @@ use Rattle.pass_walk.proofs.walk.+bodies+clauses+statement.Lts-clauses 
 use Rattle.pass_walk.proofs.walk.statement.Reads as statement′
 use Rattle.pass_walk.proofs.walk.statement.Kinds as statement-kinds
 use Rattle.pass_walk.proofs.walk.+bodies+clauses+statement.Lts-statement as statement-lts
-use Rattle.pass_branches.proofs.create.linearize.Reads as create-linearize-reads
-use Rattle.pass_branches.proofs.switch.linearize.Reads as switch-linearize-reads
+use Rattle.pass_statement_create.proofs.create.linearize.Reads as create-linearize-reads
+use Rattle.pass_statement_switch.proofs.switch.linearize.Reads as switch-linearize-reads
 use Rattle.image_read_nodes.proofs.parts_of.Reads as parts-of-reads
-use Rattle.pass_dispatch.proofs.clause.enter.Reads as enter-reads
+use Rattle.pass_clause.proofs.clause.enter.Reads as enter-reads
 use Rattle.pass_dispatch.proofs.step.bind.Reads as bind-reads
 use Rattle.pass_dispatch.proofs.step.open.Reads as open-reads
 use Rattle.pass_dispatch.proofs.step.settle.Reads as settle-reads
 use Rattle.pass_walk.proofs.walk.binds.Reads as binds-reads
 use Rattle.pass_walk.proofs.walk.has_clauses.Reads as has-clauses-reads
-use Rattle.pass_arrange.proofs.fresh.with_max_id.Reads as with-max-id-reads
+use Rattle.pass_step.proofs.fresh.with_max_id.Reads as with-max-id-reads
 
 -- ── what falls: the depth, and at one depth clauses and bodies are above their statements ──
 

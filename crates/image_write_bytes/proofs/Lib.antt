@@ -1,0 +1,2 @@
+-- Laws of bytes that are moved.
+pub mod Moving

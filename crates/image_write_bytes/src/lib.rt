@@ -1,0 +1,2 @@
+// Bytes as they are, in a lent buffer.
+pub mod bytes;

@@ -1,4 +1,0 @@
--- Laws of the statements with clauses in code.
-pub mod OpenLaws
-pub mod SwitchLaws
-pub mod CreateLaws

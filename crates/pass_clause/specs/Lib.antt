@@ -1,0 +1,2 @@
+-- What stands before a body.
+pub mod Entering

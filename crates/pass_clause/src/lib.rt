@@ -1,0 +1,2 @@
+// clause.rs: what stands before a body.
+pub mod clause;

@@ -1,0 +1,2 @@
+-- What the definitions need.
+pub mod Defining

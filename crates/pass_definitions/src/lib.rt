@@ -1,0 +1,3 @@
+// The definitions of a program: one by one, and one after the other.
+pub mod def;
+pub mod program;

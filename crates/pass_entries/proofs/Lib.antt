@@ -1,0 +1,2 @@
+-- Laws of masks.
+pub mod MaskLaws

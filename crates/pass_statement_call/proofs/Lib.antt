@@ -1,0 +1,2 @@
+-- Laws of the step of a Call.
+pub mod CallLaws

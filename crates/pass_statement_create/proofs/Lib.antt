@@ -1,0 +1,2 @@
+-- Laws of the step of a Create.
+pub mod CreateLaws

@@ -1,0 +1,2 @@
+-- Laws of the step of a Let.
+pub mod LetLaws

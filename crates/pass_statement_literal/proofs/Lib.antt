@@ -1,0 +1,2 @@
+-- Laws of the step of a Literal.
+pub mod LiteralLaws

@@ -1,0 +1,2 @@
+// The statement Op, in its file of the Rust's name.
+pub mod op;

@@ -1,2 +1,0 @@
--- What an Op retains.
-pub mod Inputs

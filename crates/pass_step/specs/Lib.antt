@@ -1,0 +1,3 @@
+-- What a step of linearization needs and does.
+pub mod Drawn
+pub mod Stepping

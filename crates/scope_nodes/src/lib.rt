@@ -1,0 +1,2 @@
+// What the record at an index uses and binds.
+pub mod nodes;

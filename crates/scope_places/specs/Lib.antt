@@ -1,0 +1,2 @@
+-- The scopes that the code holds.
+pub mod Scoping

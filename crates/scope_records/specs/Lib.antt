@@ -1,0 +1,3 @@
+-- The count of an environment, and what is asked of each record alone.
+pub mod Environments
+pub mod Tests
