@@ -10,8 +10,6 @@ pub struct Block {
 impl Block {
     pub const DEFINITION: u8 = 1;
 
-    pub const SWITCH: u8 = 5;
-
     pub const CREATE: u8 = 6;
 
     pub const THEN: u8 = 10;

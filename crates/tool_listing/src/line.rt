@@ -1,6 +1,5 @@
-// The line of a record. What the lines of each kind look like stands in one table, where $va is the variable at byte 10 of the record
+// The line of a record. What it looks like stands in one table, a line for each kind, where $va is the variable at byte 10 of the record
 // (one hexadecimal digit), and the other letters are those of `field`.
-use crate::fields::double;
 use crate::lists::environment;
 use crate::lists::list;
 use crate::lists::pairs;
@@ -8,12 +7,15 @@ use crate::names::label;
 use crate::names::ty;
 use crate::names::variable;
 use crate::page::Page;
+use crate::page::choose;
 use crate::page::decimal;
+use crate::page::line_place;
 use crate::page::put;
-use crate::page::say;
 use try_building::build::plus;
 use try_building::text::byte;
+use try_building::text::double;
 use try_building::text::hex;
+use try_building::text::wide;
 
 // What is asked of a listing.
 pub struct View {
@@ -25,27 +27,9 @@ pub struct View {
     pub annotations: bool,
 }
 
-// An operator's sign.
-fn operator(page: Page, room: &mut [u8], code: u8) -> Page {
-    match code {
-        0 => put(page, room, b'/'),
-        1 => put(page, room, b'*'),
-        2 => put(page, room, b'%'),
-        3 => put(page, room, b'+'),
-        _ => put(page, room, b'-'),
-    }
-}
-
-// A comparison's sign.
-fn comparison(page: Page, room: &mut [u8], code: u8) -> Page {
-    match code {
-        0 => say(page, room, b"=="),
-        1 => say(page, room, b"!="),
-        2 => say(page, room, b"<"),
-        3 => say(page, room, b"<="),
-        4 => say(page, room, b">"),
-        _ => say(page, room, b">="),
-    }
+// The sign of an operator, by its code, or of a comparison, by its code and 5.
+fn sign(page: Page, room: &mut [u8], k: usize) -> Page {
+    choose(page, room, b"/\n*\n%\n+\n-\n==\n!=\n<\n<=\n>\n>=", k)
 }
 
 // A signed number of eight bytes.
@@ -74,11 +58,10 @@ fn field(
     room: &mut [u8],
     book: &[u8],
     image: &[u8],
-    view: View,
+    whole: bool,
     letter: u8,
     at: usize,
 ) -> Page {
-    let whole = view.types;
     match letter {
         b'v' => variable(page, room, book, image, at),
         b'l' => label(page, room, book, image, at),
@@ -88,8 +71,8 @@ fn field(
         b'e' => environment(page, room, book, image, at, whole),
         b's' => pairs(page, room, book, image, at, whole),
         b'i' => integer(page, room, image, at),
-        b'o' => operator(page, room, byte(image, at)),
-        b'c' => comparison(page, room, byte(image, at)),
+        b'o' => sign(page, room, wide(byte(image, at))),
+        b'c' => sign(page, room, plus(5, wide(byte(image, at)))),
         _ => second(page, room, book, image, at),
     }
 }
@@ -108,60 +91,56 @@ fn piece(
     room: &mut [u8],
     book: &[u8],
     image: &[u8],
-    view: View,
+    whole: bool,
     at: usize,
-    layout: &[u8],
+    layouts: &[u8],
     i: usize,
 ) -> Page {
-    if follows(layout, i, 1) || follows(layout, i, 2) {
+    if follows(layouts, i, 1) || follows(layouts, i, 2) {
         return page;
     }
-    let b = byte(layout, i);
+    let b = byte(layouts, i);
     if b != b'$' {
         return put(page, room, b);
     }
-    let letter = byte(layout, plus(i, 1));
-    let place = plus(at, hex(byte(layout, plus(i, 2))));
-    field(page, room, book, image, view, letter, place)
+    let letter = byte(layouts, plus(i, 1));
+    let place = plus(at, hex(byte(layouts, plus(i, 2))));
+    field(page, room, book, image, whole, letter, place)
 }
 
+// The pieces of a layout, which goes from a place to the end of its line.
 fn pieces(
     page: Page,
     room: &mut [u8],
     book: &[u8],
     image: &[u8],
-    view: View,
+    whole: bool,
     at: usize,
-    layout: &[u8],
+    layouts: &[u8],
+    from: usize,
 ) -> Page {
     let mut next = page;
-    for i in 0..layout.len() {
-        next = piece(next, room, book, image, view, at, layout, i);
+    for i in from..layouts.len() {
+        if byte(layouts, i) == b'\n' {
+            return next;
+        }
+        next = piece(next, room, book, image, whole, at, layouts, i);
     }
     next
 }
 
-// The line of the record of a kind that begins at a place.
+// The line of the record of a kind that begins at a place, with all types or not.
 pub fn line(
     page: Page,
     room: &mut [u8],
     book: &[u8],
     image: &[u8],
-    view: View,
+    whole: bool,
     at: usize,
     kind: u8,
 ) -> Page {
-    match kind {
-        1 => pieces(page, room, book, image, view, at, b"def $l1$p5 {"),
-        2 => pieces(page, room, book, image, view, at, b"substitute$s1;"),
-        3 => pieces(page, room, book, image, view, at, b"$l1$a5"),
-        4 => pieces(page, room, book, image, view, at, b"let $v1: $t5 = $la$ae;"),
-        5 => pieces(page, room, book, image, view, at, b"switch $v1: $t5 {"),
-        6 => pieces(page, room, book, image, view, at, b"create $v1: $t5 = $ea{"),
-        7 => pieces(page, room, book, image, view, at, b"invoke $v1: $t9 $l5$ae"),
-        8 => pieces(page, room, book, image, view, at, b"lit $v9 <- $i1;"),
-        9 => pieces(page, room, book, image, view, at, b"$va <- $v1 $o5 $v6;"),
-        10 => pieces(page, room, book, image, view, at, b"if $v2 $c1 $z6 {"),
-        _ => pieces(page, room, book, image, view, at, b"$l1$p5 => {"),
-    }
+    let layouts =
+        b"\ndef $l1$p5 {\nsubstitute$s1;\n$l1$a5\nlet $v1: $t5 = $la$ae;\nswitch $v1: $t5 {\ncreate $v1: $t5 = $ea{\ninvoke $v1: $t9 $l5$ae\nlit $v9 <- $i1;\n$va <- $v1 $o5 $v6;\nif $v2 $c1 $z6 {\n$l1$p5 => {";
+    let from = line_place(layouts, wide(kind));
+    pieces(page, room, book, image, whole, at, layouts, from)
 }

@@ -1,12 +1,14 @@
 // Identifiers, types and bindings.
 use crate::book::name;
-use crate::fields::half;
 use crate::page::Page;
+use crate::page::choose;
 use crate::page::decimal;
 use crate::page::put;
 use crate::page::say;
 use try_building::build::plus;
 use try_building::text::byte;
+use try_building::text::half;
+use try_building::text::wide;
 
 // A variable: its name and its ID.
 pub fn variable(page: Page, room: &mut [u8], book: &[u8], image: &[u8], at: usize) -> Page {
@@ -31,11 +33,7 @@ pub fn ty(page: Page, room: &mut [u8], book: &[u8], image: &[u8], at: usize) -> 
 }
 
 fn chirality(page: Page, room: &mut [u8], code: u8) -> Page {
-    match code {
-        0 => say(page, room, b": prd "),
-        1 => say(page, room, b": cns "),
-        _ => say(page, room, b": ext "),
-    }
+    choose(page, room, b": prd \n: cns \n: ext ", wide(code))
 }
 
 // A binding: the variable alone, or with its chirality and its type.

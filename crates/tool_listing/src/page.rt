@@ -1,4 +1,5 @@
 // Text on its way out. It is gathered in a room that the caller lends, and written whenever the room is full.
+use try_building::text::next_line;
 
 pub struct Page {
     // Where it is written to.
@@ -59,12 +60,38 @@ pub fn put(page: Page, room: &mut [u8], b: u8) -> Page {
     next
 }
 
-pub fn say(page: Page, room: &mut [u8], text: &[u8]) -> Page {
+fn ends(b: u8) -> bool {
+    b == b'\n' || b == b'\r'
+}
+
+// The text from a place to the end of its line.
+pub fn line_from(page: Page, room: &mut [u8], text: &[u8], from: usize) -> Page {
     let mut next = page;
-    for i in 0..text.len() {
+    for i in from..text.len() {
+        if ends(text[i]) {
+            return next;
+        }
         next = put(next, room, text[i]);
     }
     next
+}
+
+pub fn say(page: Page, room: &mut [u8], text: &[u8]) -> Page {
+    line_from(page, room, text, 0)
+}
+
+// The place of line k of a text.
+pub fn line_place(text: &[u8], k: usize) -> usize {
+    let mut at = 0;
+    for _ in 0..k {
+        at = next_line(text, at);
+    }
+    at
+}
+
+// Line k of a text.
+pub fn choose(page: Page, room: &mut [u8], text: &[u8], k: usize) -> Page {
+    line_from(page, room, text, line_place(text, k))
 }
 
 pub fn decimal(page: Page, room: &mut [u8], n: u64) -> Page {
@@ -73,11 +100,11 @@ pub fn decimal(page: Page, room: &mut [u8], n: u64) -> Page {
     say(page, room, &digits[..k])
 }
 
-// Two spaces for each level.
+// Two spaces for each level; there are at most 512.
 pub fn indent(page: Page, room: &mut [u8], levels: usize) -> Page {
-    let mut next = page;
-    for _ in 0..levels {
-        next = say(next, room, b"  ");
+    let spaces = [b' '; 1024];
+    if levels <= 512 {
+        return line_from(page, room, &spaces, 1024 - 2 * levels);
     }
-    next
+    page
 }

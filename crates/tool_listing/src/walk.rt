@@ -9,115 +9,72 @@ use crate::fields::records;
 use crate::line::View;
 use crate::line::line;
 use crate::page::Page;
+use crate::page::choose;
 use crate::page::decimal;
 use crate::page::flush;
 use crate::page::indent;
 use crate::page::put;
 use crate::page::say;
 use try_building::text::byte;
+use try_building::text::wide;
 
 pub struct Walk {
     pub page: Page,
     pub blocks: Blocks,
     // Has the statement at hand ended? Then the blocks that it ends are closed.
     pub ended: bool,
-    // May another block be closed?
-    pub going: bool,
 }
 
-// A line of its own for the end of a block.
-fn brace(w: Walk, room: &mut [u8], text: &[u8]) -> Walk {
-    let mut next = w;
-    next.blocks = w.blocks.pop();
-    let indented = indent(w.page, room, next.blocks.depth);
-    next.page = put(say(indented, room, text), room, b'\n');
-    next
-}
-
-// The then-branch has ended, and the else-branch comes.
-fn otherwise(w: Walk, room: &mut [u8]) -> Walk {
-    let mut next = brace(w, room, b"} else {");
-    next.blocks = next.blocks.push(Block::ELSE, 0);
-    next.going = false;
-    next
-}
-
-// A definition has ended.
-fn definition_end(w: Walk, room: &mut [u8]) -> Walk {
-    let mut next = brace(w, room, b"}");
-    next.going = false;
-    next
-}
-
-// A clause has ended: its Switch or Create has one less to come.
-fn clause_end(w: Walk, room: &mut [u8]) -> Walk {
-    let mut next = brace(w, room, b"}");
-    next.blocks = next.blocks.clause_done();
-    next.ended = false;
-    next
-}
-
-// A Create has all its clauses: its next comes.
-fn create_end(w: Walk, room: &mut [u8]) -> Walk {
-    let mut next = brace(w, room, b"};");
-    next.ended = false;
-    next.going = false;
-    next
-}
-
-// A Switch has all its clauses, or an IfC its branches: with them the statement has ended.
-fn statement_end(w: Walk, room: &mut [u8]) -> Walk {
-    let mut next = brace(w, room, b"}");
-    next.ended = true;
-    next
-}
-
-fn still(w: Walk) -> Walk {
-    let mut next = w;
-    next.going = false;
-    next
-}
-
-// The innermost block waits for clauses.
-fn awaiting(w: Walk, room: &mut [u8], block: Block) -> Walk {
-    if 0 < block.left {
-        return still(w);
-    }
-    if block.kind == Block::SWITCH {
-        return statement_end(w, room);
-    }
-    create_end(w, room)
-}
-
-// The innermost block, once the statement at hand has ended.
-fn ending(w: Walk, room: &mut [u8], kind: u8) -> Walk {
+// What ends a block of this kind.
+fn brace(page: Page, room: &mut [u8], kind: u8) -> Page {
     match kind {
-        Block::DEFINITION => definition_end(w, room),
-        Block::THEN => otherwise(w, room),
-        Block::ELSE => statement_end(w, room),
-        Block::CLAUSE => clause_end(w, room),
-        _ => still(w),
+        Block::THEN => say(page, room, b"} else {"),
+        Block::CREATE => say(page, room, b"};"),
+        _ => put(page, room, b'}'),
     }
 }
 
-// Closes the innermost block, where it is done.
+// A clause has ended: its Switch or Create has one less to come, and with the last one it has ended.
+fn behind_clause(page: Page, outer: Blocks) -> Walk {
+    let blocks = outer.clause_done();
+    Walk {
+        page,
+        blocks,
+        ended: blocks.last().left == 0,
+    }
+}
+
+// What is open once a block of this kind is closed. Behind a then-branch the else-branch comes, behind a Create its next.
+fn behind(page: Page, outer: Blocks, kind: u8) -> Walk {
+    match kind {
+        Block::THEN => Walk {
+            page,
+            blocks: outer.push(Block::ELSE, 0),
+            ended: false,
+        },
+        Block::CLAUSE => behind_clause(page, outer),
+        _ => Walk {
+            page,
+            blocks: outer,
+            ended: kind != Block::CREATE,
+        },
+    }
+}
+
+// Closes the innermost block.
 fn close(w: Walk, room: &mut [u8]) -> Walk {
-    let block = w.blocks.last();
-    if block.kind == Block::SWITCH || block.kind == Block::CREATE {
-        return awaiting(w, room, block);
-    }
-    if w.ended {
-        return ending(w, room, block.kind);
-    }
-    still(w)
+    let kind = w.blocks.last().kind;
+    let outer = w.blocks.pop();
+    let indented = indent(w.page, room, outer.depth);
+    let page = put(brace(indented, room, kind), room, b'\n');
+    behind(page, outer, kind)
 }
 
-// Closes each block that is done.
+// Closes each block that the statement at hand ends.
 fn settle(w: Walk, room: &mut [u8]) -> Walk {
     let mut next = w;
-    next.going = true;
     for _ in 0..Blocks::MAX {
-        if !next.going {
+        if !next.ended || next.blocks.depth == 0 {
             return next;
         }
         next = close(next, room);
@@ -125,18 +82,29 @@ fn settle(w: Walk, room: &mut [u8]) -> Walk {
     next
 }
 
-// The block that a record opens.
+// What a record does: o opens a block, c opens one of clauses, e ends the statement.
+fn role(kind: u8) -> u8 {
+    byte(b".o.e.cce..oo", wide(kind))
+}
+
+// With the block that a record opens.
 fn opened(blocks: Blocks, kind: u8, clauses: u8) -> Blocks {
-    match kind {
-        Block::DEFINITION | Block::CLAUSE | Block::THEN => blocks.push(kind, 0),
-        Block::SWITCH | Block::CREATE => blocks.push(kind, clauses),
+    let role = role(kind);
+    match role {
+        b'o' => blocks.push(kind, 0),
+        b'c' => blocks.push(kind, clauses),
         _ => blocks,
     }
 }
 
-// A Call and an Invoke have nothing behind them.
-fn is_last(kind: u8) -> bool {
-    kind == 3 || kind == 7
+// Has the statement ended with its record?
+fn is_ended(kind: u8, clauses: u8) -> bool {
+    let role = role(kind);
+    match role {
+        b'e' => true,
+        b'c' => clauses == 0,
+        _ => false,
+    }
 }
 
 // The free variables of a record.
@@ -159,15 +127,19 @@ fn numbered(page: Page, room: &mut [u8], view: View, k: usize) -> Page {
     page
 }
 
-// The remark behind a line: the annotation, behind the index where that is there.
+// What stands before an annotation: it is behind the index where that is there.
+fn before_sets(page: Page, room: &mut [u8], view: View) -> Page {
+    choose(page, room, b"  // \n: ", view.records as usize)
+}
+
+// The remark behind a line: the annotation.
 fn annotated(page: Page, room: &mut [u8], image: &[u8], view: View, k: usize, kind: u8) -> Page {
-    if !view.annotations || !is_annotated(kind) {
-        return page;
+    if view.annotations {
+        if is_annotated(kind) {
+            return free(before_sets(page, room, view), room, image, k, kind);
+        }
     }
-    if view.records {
-        return free(say(page, room, b": "), room, image, k, kind);
-    }
-    free(say(page, room, b"  // "), room, image, k, kind)
+    page
 }
 
 // What stands before a line: an empty line before a definition, and spaces.
@@ -196,7 +168,7 @@ fn whole_line(
     let at = begin(image, k);
     let kind = byte(image, at);
     let begun = front(page, room, kind, levels);
-    let told = line(begun, room, book, image, view, at, kind);
+    let told = line(begun, room, book, image, view.types, at, kind);
     back(told, room, image, view, k, kind)
 }
 
@@ -204,8 +176,9 @@ fn step(w: Walk, room: &mut [u8], book: &[u8], image: &[u8], view: View, k: usiz
     let kind = byte(image, begin(image, k));
     let mut next = w;
     next.page = whole_line(w.page, room, book, image, view, k, w.blocks.depth);
-    next.blocks = opened(w.blocks, kind, last(image, k));
-    next.ended = is_last(kind);
+    let clauses = last(image, k);
+    next.blocks = opened(w.blocks, kind, clauses);
+    next.ended = is_ended(kind, clauses);
     settle(next, room)
 }
 
@@ -235,7 +208,6 @@ pub fn listing(
         page: head(fd, room, max_id),
         blocks: Blocks::empty(),
         ended: false,
-        going: false,
     };
     let end = steps(start, room, book, image, view);
     !flush(end.page, room).failed

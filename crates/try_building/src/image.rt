@@ -4,8 +4,9 @@ use crate::build::header;
 use crate::build::low;
 use crate::build::plus;
 use crate::build::store;
-use crate::letters::raw;
+use crate::layout::ends;
 use crate::letters::record;
+use crate::lists::raw;
 use crate::progress::Progress;
 use crate::text::byte;
 
@@ -67,10 +68,6 @@ fn step(w: Progress, text: &[u8], out: &mut [u8]) -> Progress {
         b'%' => cut(w, text),
         _ => w.past(1),
     }
-}
-
-fn ends(b: u8) -> bool {
-    b == 0 || b == b'\n'
 }
 
 fn steps(w: Progress, text: &[u8], out: &mut [u8]) -> Progress {

@@ -6,9 +6,8 @@
 //   t3(1 2)   a Let of 3 with these args            e3(1)2    the same with an environment
 //   l3        a Literal to 3                        k(1 2)    a clause with these parameters
 //   o1 2 3    an Op of 1 and 2 to 3                 v1(2)     an Invoke of 1 with these args
-//   i1        an IfC of 1                           u1 2      a Substitute, 1 from 2
-//   j1 2      an IfC of 1 and 2                     u(1<2)    the same, of all the pairs in parentheses
-//                                                   x0b00     a record of these bytes
+//   i1        an IfC of 1                           u(1<2)    a Substitute with these pairs, 1 from 2
+//   j1 2      an IfC of 1 and 2                     x0b00     a record of these bytes
 //
 // A variable has name 2, or name 3 as 1'3. A binding of a list is of I64 and external, or of a declared type: 1p is a producer and 1c a
 // consumer of type 5, and 1p6 one of type 6.
@@ -17,7 +16,7 @@
 // !2 7 makes its byte 2 a 7. The image has as many definitions and records as the line.
 pub mod build;
 pub mod image;
-pub mod items;
+pub mod layout;
 pub mod letters;
 pub mod listing;
 pub mod lists;

@@ -1,19 +1,20 @@
-// Lists: items in parentheses. An item of a list of bindings is a binding, a run of them as 3-7, or one again and again as 3*5;
-// an item of a Substitute's list is a pair, as 1<2.
+// What repeats: the bindings and pairs of a list, which stand in parentheses, and bytes as they stand. A binding may be a run of them as
+// 3-7, or one again and again as 3*5; a pair is as 1<2; a byte has two hexadecimal digits.
 use crate::build::low;
 use crate::build::plus;
 use crate::build::store;
 use crate::pieces::TYPE;
 use crate::pieces::binding;
 use crate::pieces::declared;
+use crate::pieces::one;
 use crate::pieces::var;
 use crate::progress::Progress;
 use crate::text::byte;
-use crate::text::is_digit;
+use crate::text::hex;
 use crate::text::number;
 
-// The most items of a list.
-const ITEMS: usize = 40;
+// The most items in a row.
+const ITEMS: usize = 64;
 
 // n bindings, from an ID on in steps.
 fn run(w: Progress, out: &mut [u8], first: usize, step: usize, n: usize) -> Progress {
@@ -37,8 +38,8 @@ fn between(a: usize, b: usize) -> usize {
 
 // A binding of a declared type, whose name is here if it is written.
 fn sorted(w: Progress, text: &[u8], out: &mut [u8], chirality: usize) -> Progress {
-    if is_digit(byte(text, w.from)) {
-        let name = number(text, w.from);
+    let name = number(text, w.from);
+    if w.from < name.end {
         let mut next = declared(w, out, chirality, name.value);
         next.from = name.end;
         return next.past_space(text);
@@ -84,37 +85,46 @@ fn bindings(w: Progress, text: &[u8], out: &mut [u8]) -> Progress {
     }
 }
 
-fn item(w: Progress, text: &[u8], out: &mut [u8], paired: bool) -> Progress {
-    if !is_digit(byte(text, w.from)) {
-        return w;
+fn raw_byte(w: Progress, text: &[u8], out: &mut [u8]) -> Progress {
+    let upper = hex(byte(text, w.from));
+    let lower = hex(byte(text, plus(w.from, 1)));
+    if upper < 16 {
+        if lower < 16 {
+            return one(w, out, upper * 16 + lower).past(2);
+        }
     }
-    if paired {
-        return pair(w, text, out);
-    }
-    bindings(w, text, out)
+    w
 }
 
-fn items(w: Progress, text: &[u8], out: &mut [u8], paired: bool) -> Progress {
+fn item(w: Progress, text: &[u8], out: &mut [u8], what: u8) -> Progress {
+    if 16 <= hex(byte(text, w.from)) {
+        return w;
+    }
+    match what {
+        b'(' => bindings(w, text, out),
+        b'<' => pair(w, text, out),
+        _ => raw_byte(w, text, out),
+    }
+}
+
+fn items(w: Progress, text: &[u8], out: &mut [u8], what: u8) -> Progress {
     let mut next = w;
-    next.count = 0;
     for _ in 0..ITEMS {
-        next = item(next, text, out, paired);
+        next = item(next, text, out, what);
     }
     next
 }
 
-fn counted_list(w: Progress, text: &[u8], out: &mut [u8], paired: bool) -> Progress {
-    let end = items(w.past(1).after(1), text, out, paired);
+// Bytes as they stand.
+pub fn raw(w: Progress, text: &[u8], out: &mut [u8]) -> Progress {
+    items(w, text, out, b'x')
+}
+
+// A count and the items of a list: ( bindings, < pairs.
+pub fn list(w: Progress, text: &[u8], out: &mut [u8], what: u8) -> Progress {
+    let mut start = w.past(1).after(1);
+    start.count = 0;
+    let end = items(start, text, out, what);
     store(out, w.at, low(end.count));
     end.past(1)
-}
-
-// A count and the bindings of a list.
-pub fn list(w: Progress, text: &[u8], out: &mut [u8]) -> Progress {
-    counted_list(w, text, out, false)
-}
-
-// A count and the pairs of a Substitute.
-pub fn pairs(w: Progress, text: &[u8], out: &mut [u8]) -> Progress {
-    counted_list(w, text, out, true)
 }

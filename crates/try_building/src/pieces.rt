@@ -36,22 +36,15 @@ pub fn label(w: Progress, out: &mut [u8], name: usize) -> Progress {
     identifier(w, out, name, w.other)
 }
 
-pub fn declared_type(w: Progress, out: &mut [u8], name: usize) -> Progress {
-    let marked = one(w, out, 1);
-    label(marked, out, name)
-}
-
 // A binding of the variable that was taken, of a declared type.
 pub fn declared(w: Progress, out: &mut [u8], chirality: usize, name: usize) -> Progress {
     let named = identifier(w, out, w.name, w.value);
-    let sorted = one(named, out, chirality);
-    declared_type(sorted, out, name)
+    label(one(one(named, out, chirality), out, 1), out, name)
 }
 
 // A binding of I64.
 pub fn binding(w: Progress, out: &mut [u8], id: usize) -> Progress {
     let named = identifier(w, out, w.name, id);
-    let external = one(named, out, 2);
-    let marked = one(external, out, 0);
-    identifier(marked, out, 0, 0)
+    let external = one(one(named, out, 2), out, 0);
+    identifier(external, out, 0, 0)
 }

@@ -4,17 +4,8 @@ use crate::pieces::TYPE;
 use crate::progress::NAME;
 use crate::show;
 use crate::text::byte;
+use crate::text::half;
 use crate::text::wide;
-
-// Two bytes, the lower first.
-pub fn half(image: &[u8], at: usize) -> usize {
-    let lower = wide(byte(image, at));
-    let upper = wide(byte(image, plus(at, 1)));
-    if upper < 256 {
-        return plus(lower, upper * 256);
-    }
-    0
-}
 
 pub struct Saying {
     // The place in the image.
@@ -28,21 +19,12 @@ pub struct Saying {
 }
 
 impl Saying {
-    pub fn quiet(at: usize, other: usize) -> Saying {
+    pub fn start(at: usize, other: usize, aloud: bool) -> Saying {
         Saying {
             at,
             other,
             sayable: true,
-            aloud: false,
-        }
-    }
-
-    pub fn loud(at: usize, other: usize) -> Saying {
-        Saying {
-            at,
-            other,
-            sayable: true,
-            aloud: true,
+            aloud,
         }
     }
 
@@ -61,15 +43,15 @@ impl Saying {
     }
 
     // n bytes later.
-    pub fn after(self, n: usize) -> Saying {
+    fn after(self, n: usize) -> Saying {
         let mut w = self;
         w.at = plus(self.at, n);
         w
     }
 
-    // The notation cannot say this unless it is so.
-    fn only(self, so: bool) -> Saying {
-        let mut w = self;
+    // n bytes later; the notation cannot say them unless it is so.
+    fn only(self, n: usize, so: bool) -> Saying {
+        let mut w = self.after(n);
         if !so {
             w.sayable = false;
         }
@@ -77,8 +59,13 @@ impl Saying {
     }
 
     // This byte.
-    pub fn exactly(self, image: &[u8], v: u8) -> Saying {
-        self.only(byte(image, self.at) == v).after(1)
+    pub fn exactly(self, image: &[u8], v: usize) -> Saying {
+        self.only(1, wide(byte(image, self.at)) == v)
+    }
+
+    // A name or an ID that is this.
+    fn exactly_half(self, image: &[u8], v: usize) -> Saying {
+        self.only(2, half(image, self.at) == v)
     }
 
     // A count.
@@ -95,29 +82,16 @@ impl Saying {
         self.say(mark).number(name).after(2)
     }
 
-    fn named(self, image: &[u8], id: usize) -> Saying {
+    // A variable.
+    pub fn var(self, image: &[u8]) -> Saying {
+        let id = half(image, plus(self.at, 2));
         self.number(id).name(image, b"'", NAME).after(2)
     }
 
-    // A variable.
-    pub fn var(self, image: &[u8]) -> Saying {
-        self.named(image, half(image, plus(self.at, 2)))
-    }
-
-    // The ID of a label, a tag or a type.
-    fn other_id(self, image: &[u8]) -> Saying {
-        self.only(half(image, self.at) == self.other).after(2)
-    }
-
-    // A label or a tag of this name.
+    // A label, a tag or a type of this name.
     pub fn label(self, image: &[u8], name: usize) -> Saying {
-        self.only(half(image, self.at) == name)
-            .after(2)
-            .other_id(image)
-    }
-
-    pub fn declared_type(self, image: &[u8]) -> Saying {
-        self.exactly(image, 1).label(image, TYPE)
+        self.exactly_half(image, name)
+            .exactly_half(image, self.other)
     }
 
     // The type of a binding of a producer or a consumer.
@@ -125,31 +99,50 @@ impl Saying {
         self.say(letter)
             .exactly(image, 1)
             .name(image, b"", TYPE)
-            .other_id(image)
+            .exactly_half(image, self.other)
     }
 
-    // The type of a binding of I64.
+    // The chirality and the type of a binding of I64.
     fn external(self, image: &[u8]) -> Saying {
-        self.exactly(image, 0)
+        self.exactly(image, 2)
             .exactly(image, 0)
-            .exactly(image, 0)
-            .exactly(image, 0)
-            .exactly(image, 0)
+            .exactly_half(image, 0)
+            .exactly_half(image, 0)
     }
 
-    // A binding.
-    pub fn binding(self, image: &[u8]) -> Saying {
+    fn binding(self, image: &[u8]) -> Saying {
         let w = self.var(image);
         let chirality = byte(image, w.at);
         match chirality {
             0 => w.after(1).sorted(image, b"p"),
             1 => w.after(1).sorted(image, b"c"),
-            _ => w.exactly(image, 2).external(image),
+            _ => w.external(image),
         }
     }
 
-    // A pair of a Substitute.
-    pub fn pair(self, image: &[u8]) -> Saying {
-        self.binding(image).say(b"<").var(image)
+    // Item i of a list: a pair of a Substitute, or a binding.
+    fn item(self, image: &[u8], i: usize, paired: bool) -> Saying {
+        if 0 < i {
+            self.say(b" ");
+        }
+        let w = self.binding(image);
+        if paired {
+            return w.say(b"<").var(image);
+        }
+        w
+    }
+
+    fn items(self, image: &[u8], n: usize, paired: bool) -> Saying {
+        let mut next = self;
+        for i in 0..n {
+            next = next.item(image, i, paired);
+        }
+        next
+    }
+
+    // A count and so many items.
+    pub fn list(self, image: &[u8], paired: bool) -> Saying {
+        let n = wide(byte(image, self.at));
+        self.say(b"(").after(1).items(image, n, paired).say(b")")
     }
 }

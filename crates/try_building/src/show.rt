@@ -1,38 +1,25 @@
 // Printing.
 use crate::sum::adler;
+use crate::text::wide;
 use libc::STDOUT_FILENO;
-
-// The most bytes of a buffer that are printed.
-const SHOWN: usize = 64;
 
 pub fn say(s: &[u8]) {
     io::write_all(STDOUT_FILENO, s);
 }
 
-fn number(n: u64) {
-    io::print_decimal(STDOUT_FILENO, n);
+pub fn count(n: usize) {
+    io::print_decimal(STDOUT_FILENO, n as u64);
 }
 
-pub fn count(n: usize) {
-    number(n as u64);
+// A number behind some words.
+pub fn counted(words: &[u8], n: usize) {
+    say(words);
+    count(n);
 }
 
 pub fn letter(b: u8) {
     let one = [b];
     say(&one);
-}
-
-pub fn space() {
-    say(b" ");
-}
-
-// The ID of labels, tags and types, where it is another than before.
-pub fn others(before: usize, now: usize) {
-    if before != now {
-        say(b"#");
-        count(now);
-        space();
-    }
 }
 
 // The text from a place to another.
@@ -44,38 +31,20 @@ pub fn name(text: &[u8], from: usize, end: usize) {
     }
 }
 
-// What a call answered: number, length and max_id.
-pub fn answer(given: u32, length: usize, max_id: u32) {
-    say(b": ");
-    number(given as u64);
-    say(b" ");
-    number(length as u64);
-    say(b" ");
-    number(max_id as u64);
+// What a call answered, behind some words: number, length and max_id.
+pub fn answer(words: &[u8], given: usize, length: usize, max_id: usize) {
+    counted(words, given);
+    counted(b" ", length);
+    counted(b" ", max_id);
 }
 
-fn hexadecimal(b: u8) {
-    io::print_hex(STDOUT_FILENO, b as u64, 2);
-}
-
-// Bytes from a place to another, with nothing between.
-pub fn raw(s: &[u8], from: usize, end: usize) {
+// Bytes from a place to another in hexadecimal, each behind some words.
+pub fn bytes(s: &[u8], from: usize, end: usize, words: &[u8]) {
     for i in from..end {
         if i < s.len() {
-            hexadecimal(s[i]);
+            say(words);
+            io::print_hex(STDOUT_FILENO, wide(s[i]) as u64, 2);
         }
-    }
-}
-
-// The first bytes of a buffer.
-pub fn bytes(s: &[u8]) {
-    say(b" :");
-    for i in 0..s.len() {
-        if SHOWN <= i {
-            return;
-        }
-        say(b" ");
-        hexadecimal(s[i]);
     }
 }
 

@@ -1,4 +1,5 @@
 // Adler-32, a sum of bytes.
+use crate::build::plus;
 use crate::text::wide;
 
 // The lower half, which is the sum of the bytes, and the upper half, which is the sum of those sums.
@@ -9,21 +10,12 @@ pub struct Sums {
 
 const MODULUS: usize = 65521;
 
-fn added(x: usize, y: usize) -> usize {
-    if x < MODULUS {
-        if y < MODULUS {
-            return (x + y) % MODULUS;
-        }
-    }
-    0
-}
-
 impl Sums {
     fn with(self, byte: u8) -> Sums {
-        let a = added(self.a, wide(byte));
+        let a = plus(self.a, wide(byte)) % MODULUS;
         Sums {
             a,
-            b: added(self.b, a),
+            b: plus(self.b, a) % MODULUS,
         }
     }
 }

@@ -1,8 +1,51 @@
-// Bytes and numbers of a text. Past its end a text has zero bytes.
+// Bytes and numbers of a text or an image. Past its end it has zero bytes.
 use crate::build::plus;
+ghost use Prim.Native.Nat.{_<_};
 
 pub fn byte(text: &[u8], at: usize) -> u8 {
     if at < text.len() { text[at] } else { 0 }
+}
+
+pub fn wide(b: u8) -> usize
+    ensures { λ r. ⌜ r < 256 ⌝ }
+{
+    b as usize
+}
+
+// Two bytes, the lower first.
+pub fn half(image: &[u8], at: usize) -> usize
+    ensures { λ r. ⌜ r < 65536 ⌝ }
+{
+    wide(byte(image, at)) + 256 * wide(byte(image, plus(at, 1)))
+}
+
+// Four bytes, the lowest first.
+pub fn word(image: &[u8], at: usize) -> usize
+    ensures { λ r. ⌜ r < 4294967296 ⌝ }
+{
+    half(image, at) + 65536 * half(image, plus(at, 2))
+}
+
+// Eight bytes, the lowest first.
+pub fn double(image: &[u8], at: usize) -> usize {
+    word(image, at) + 4294967296 * word(image, plus(at, 4))
+}
+
+fn expected(first: &[u8], rest: u8, i: usize) -> u8 {
+    if i < first.len() { first[i] } else { rest }
+}
+
+// Whether a buffer begins with these bytes and has the other byte in all places behind them.
+pub fn holds(buffer: &[u8], first: &[u8], rest: u8) -> bool {
+    if buffer.len() < first.len() {
+        return false;
+    }
+    for i in 0..buffer.len() {
+        if buffer[i] != expected(first, rest, i) {
+            return false;
+        }
+    }
+    true
 }
 
 // The place of the first b from a place on, or the text's length.
@@ -20,10 +63,6 @@ pub fn next_line(text: &[u8], from: usize) -> usize {
     plus(find(text, from, b'\n'), 1)
 }
 
-pub fn is_digit(b: u8) -> bool {
-    48 <= b && b <= 57
-}
-
 // The value of a hexadecimal digit, 16 for any other byte.
 pub fn hex(b: u8) -> usize {
     match b {
@@ -31,10 +70,6 @@ pub fn hex(b: u8) -> usize {
         97..=102 => wide(b - 87),
         _ => 16,
     }
-}
-
-pub fn wide(b: u8) -> usize {
-    b as usize
 }
 
 // The most digits of a number.

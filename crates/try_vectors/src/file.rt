@@ -1,6 +1,9 @@
 // The input. Its numbers are little-endian.
 use libc::STDIN_FILENO;
 use try_building::text::byte;
+use try_building::text::double;
+use try_building::text::wide;
+use try_building::text::word;
 
 // No image and no lent buffer has more bytes.
 pub const LARGEST: usize = 65536;
@@ -27,25 +30,6 @@ pub fn at_end() -> bool {
     io::read_full(STDIN_FILENO, &mut byte) == 0
 }
 
-// A number with a byte below it. Eight bytes fit.
-fn with(above: usize, b: u8) -> usize {
-    if above < 72057594037927936 {
-        return above * 256 + b as usize;
-    }
-    above
-}
-
-// The number of the bytes from a place to another.
-pub fn number(bytes: &[u8], from: usize, end: usize) -> usize {
-    let mut value = 0;
-    let mut i = end;
-    while from < i {
-        i -= 1;
-        value = with(value, byte(bytes, i));
-    }
-    value
-}
-
 // A call, and the answer that is expected.
 pub struct Call {
     // 0 reading, 1 the scope check, 2 linearization, 3 annotation.
@@ -63,13 +47,13 @@ pub struct Call {
 impl Call {
     pub fn of(head: &[u8]) -> Call {
         Call {
-            function: number(head, 0, 1),
-            index: number(head, 1, 9),
-            room: number(head, 9, 13),
+            function: wide(byte(head, 0)),
+            index: double(head, 1),
+            room: word(head, 9),
             old: byte(head, 13),
-            number: number(head, 14, 15),
-            length: number(head, 15, 19),
-            max_id: number(head, 19, 23),
+            number: wide(byte(head, 14)),
+            length: word(head, 15),
+            max_id: word(head, 19),
         }
     }
 
@@ -77,7 +61,7 @@ impl Call {
     pub fn rest(self) -> u8 {
         let number = self.number;
         match number {
-            11 | 12 => 0,
+            11..=12 => 0,
             _ => self.old,
         }
     }

@@ -9,11 +9,13 @@ use file::Call;
 use file::HEAD;
 use file::LARGEST;
 use file::at_end;
-use file::number;
 use file::take;
 use file::take_part;
 use replay::replay;
 use tally::Tally;
+use try_building::text::byte;
+use try_building::text::wide;
+use try_building::text::word;
 
 // A call: its head, and what the lent buffer begins with after it.
 fn call(image: &[u8], kept: &[u8], tally: Tally) -> Tally {
@@ -47,7 +49,7 @@ fn calls(image: &[u8], kept: &[u8], n: usize, tally: Tally) -> Tally {
 fn calls_of(image: &[u8], kept: &[u8], tally: Tally) -> Tally {
     let mut count = [0u8; 1];
     if take(&mut count) {
-        return calls(image, kept, number(&count, 0, 1), tally).next();
+        return calls(image, kept, wide(byte(&count, 0)), tally).next();
     }
     tally.broke()
 }
@@ -57,7 +59,7 @@ fn image(tally: Tally) -> Tally {
     let mut length = [0u8; 4];
     let mut image = io::large_buffer();
     if take(&mut length) {
-        let n = number(&length, 0, 4);
+        let n = word(&length, 0);
         if n <= LARGEST {
             if take_part(&mut image, n) {
                 let kept = image;
@@ -83,7 +85,7 @@ fn images(n: usize) -> Tally {
 fn all() -> Tally {
     let mut count = [0u8; 4];
     if take(&mut count) {
-        let tally = images(number(&count, 0, 4));
+        let tally = images(word(&count, 0));
         if at_end() {
             return tally;
         }

@@ -1,5 +1,6 @@
 // Making a call again, and what it leaves.
 use crate::file::Call;
+use try_building::text::holds;
 
 // The lent buffer is a part of an array that goes on for at least 64 bytes.
 const GUARDED: usize = 65600;
@@ -41,23 +42,6 @@ fn ask(call: Call, image: &[u8], out: &mut [u8], length: &mut usize, max_id: &mu
         2 => axcut::axcut_linearize(image, out, length, max_id),
         _ => axcut::axcut_annotate(image, call.index, out, length, max_id),
     }
-}
-
-fn expected(first: &[u8], rest: u8, i: usize) -> u8 {
-    if i < first.len() { first[i] } else { rest }
-}
-
-// Whether a buffer begins with these bytes and has the other byte in all places behind them.
-fn holds(buffer: &[u8], first: &[u8], rest: u8) -> bool {
-    if buffer.len() < first.len() {
-        return false;
-    }
-    for i in 0..buffer.len() {
-        if buffer[i] != expected(first, rest, i) {
-            return false;
-        }
-    }
-    true
 }
 
 // The call with the first bytes of an array as its buffer. Before it length and max_id hold numbers that no answer has; a buffer that is

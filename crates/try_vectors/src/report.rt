@@ -1,7 +1,8 @@
 // What is printed.
 use crate::file::Call;
 use crate::replay::Outcome;
-use try_building::show::count;
+use try_building::show::answer;
+use try_building::show::counted;
 use try_building::show::line;
 use try_building::show::say;
 
@@ -12,18 +13,6 @@ pub fn function(n: usize) {
         2 => say(b"axcut_linearize"),
         _ => say(b"axcut_annotate"),
     }
-}
-
-// A number behind some words.
-pub fn counted(words: &[u8], n: usize) {
-    say(words);
-    count(n);
-}
-
-fn answer(words: &[u8], given: usize, length: usize, max_id: usize) {
-    counted(words, given);
-    counted(b" ", length);
-    counted(b" ", max_id);
 }
 
 // A call that does not agree, by its image and its place among the calls of that.

@@ -1,9 +1,9 @@
 // How many calls agree.
 use crate::file::Call;
 use crate::replay::Outcome;
-use crate::report::counted;
 use crate::report::function;
 use crate::report::mismatch;
+use try_building::show::counted;
 use try_building::show::line;
 use try_building::show::say;
 

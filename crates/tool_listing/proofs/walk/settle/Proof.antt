@@ -1,4 +1,4 @@
--- `listing::walk::settle` is safe and ends: the turns that are left fall, and the room keeps its length. Assumes nothing.
+-- `tool_listing::walk::settle` is safe and ends: the turns that are left fall, and the room keeps its length. Assumes nothing.
 use borrow.Author.Needs.{needs}
 use Prim.Native.Nat.{_-_, _≤_}
 use mathlib.Core.Path.{_≡_}
@@ -13,45 +13,18 @@ Inv-loop room₀ next₀ counter₀ room next counter = (length room ≡ length 
 abbrev μ-loop : tie.MeasureT-loop
 μ-loop room₀ next₀ counter₀ room next counter = 512 - counter
 
-loop-holds : tie.Need-loop-holds Inv-loop μ-loop
-loop-holds c = (search needs, omega arith)
-
-same-length : tie.Need-same-length Inv-loop μ-loop
-same-length c = search needs
-
-returns : tie.Need-returns Inv-loop μ-loop
-returns c = search needs
-
-close-requires : tie.Need-close-requires Inv-loop μ-loop
-close-requires c κs = search needs
-
-add-counter : tie.Need-add-counter Inv-loop μ-loop
-add-counter c = omega arith
-
-loop-less : tie.Need-loop-less Inv-loop μ-loop
-loop-less c = omega arith
-
-loop-again : tie.Need-loop-again Inv-loop μ-loop
-loop-again c = (search needs, omega arith)
-
-same-length-2 : tie.Need-same-length-2 Inv-loop μ-loop
-same-length-2 c = search needs
-
-returns-2 : tie.Need-returns-2 Inv-loop μ-loop
-returns-2 c = search needs
-
 pub settle-spec : {M : Type 1} → statement M
 settle-spec =
     tie.close
     (tie.spec
     Inv-loop
     μ-loop
-    loop-holds
-    same-length
-    returns
-    close-requires
-    add-counter
-    loop-less
-    loop-again
-    same-length-2
-    returns-2)
+    (λ c. (search needs, omega arith))
+    (λ c. search needs)
+    (λ c. search needs)
+    (λ c κs. search needs)
+    (λ c. omega arith)
+    (λ c. omega arith)
+    (λ c. (search needs, omega arith))
+    (λ c. search needs)
+    (λ c. search needs))

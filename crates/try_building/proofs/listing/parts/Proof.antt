@@ -1,36 +1,14 @@
 use borrow.Author.Needs.{needs}
 use Prim.Native.Nat.{_-_, _≤_}
 use native.Mathlib.Omega.{arith}
-use lib.ListN.{length}
 use Rattle.try_building.proofs.listing.parts.Statement.{statement}
 use Rattle.try_building.proofs.listing.parts.Tie as tie
 
 abbrev Inv-loop : tie.InvT-loop
-Inv-loop image layout next₀ i₀ i-end next i = (i ≤ i-end) × (i-end ≤ length layout)
+Inv-loop image letter next₀ i₀ next i = i ≤ 12
 
 abbrev μ-loop : tie.MeasureT-loop
-μ-loop image layout next₀ i₀ i-end next i = i-end - i
-
-loop-holds : tie.Need-loop-holds Inv-loop μ-loop
-loop-holds c = (omega arith, omega arith)
-
-shared-slice-read-part : tie.Need-shared-slice-read-part Inv-loop μ-loop
-shared-slice-read-part c = omega arith
-
-part-requires : tie.Need-part-requires Inv-loop μ-loop
-part-requires c κs = search needs
-
-add-i : tie.Need-add-i Inv-loop μ-loop
-add-i c = omega arith
-
-loop-less : tie.Need-loop-less Inv-loop μ-loop
-loop-less c = omega arith
-
-loop-again : tie.Need-loop-again Inv-loop μ-loop
-loop-again c = (omega arith, omega arith)
-
-returns : tie.Need-returns Inv-loop μ-loop
-returns c = search needs
+μ-loop image letter next₀ i₀ next i = 12 - i
 
 pub parts-spec : {M : Type 1} → statement M
 parts-spec =
@@ -38,10 +16,12 @@ parts-spec =
     (tie.spec
     Inv-loop
     μ-loop
-    loop-holds
-    shared-slice-read-part
-    part-requires
-    add-i
-    loop-less
-    loop-again
-    returns)
+    (λ c. omega arith)
+    (λ c κs. search needs)
+    (λ c κs. search needs)
+    (λ c. search needs)
+    (λ c κs. search needs)
+    (λ c. omega arith)
+    (λ c. omega arith)
+    (λ c. omega arith)
+    (λ c. search needs))

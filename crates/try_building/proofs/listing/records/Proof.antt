@@ -5,28 +5,10 @@ use Rattle.try_building.proofs.listing.records.Statement.{statement}
 use Rattle.try_building.proofs.listing.records.Tie as tie
 
 abbrev Inv-loop : tie.InvT-loop
-Inv-loop image n other₀ k₀ other k = k ≤ n
+Inv-loop image n other₀ k₀ t7 other k = k ≤ n
 
 abbrev μ-loop : tie.MeasureT-loop
-μ-loop image n other₀ k₀ other k = n - k
-
-loop-holds : tie.Need-loop-holds Inv-loop μ-loop
-loop-holds c = omega arith
-
-listed-requires : tie.Need-listed-requires Inv-loop μ-loop
-listed-requires c κs = search needs
-
-add-k : tie.Need-add-k Inv-loop μ-loop
-add-k c = omega arith
-
-loop-less : tie.Need-loop-less Inv-loop μ-loop
-loop-less c = omega arith
-
-loop-again : tie.Need-loop-again Inv-loop μ-loop
-loop-again c = omega arith
-
-returns : tie.Need-returns Inv-loop μ-loop
-returns c = search needs
+μ-loop image n other₀ k₀ t7 other k = n - k
 
 pub records-spec : {M : Type 1} → statement M
 records-spec =
@@ -34,9 +16,17 @@ records-spec =
     (tie.spec
     Inv-loop
     μ-loop
-    loop-holds
-    listed-requires
-    add-k
-    loop-less
-    loop-again
-    returns)
+    (λ c. omega arith)
+    (λ c κs. search needs)
+    (λ c κs. search needs)
+    (λ c κs. search needs)
+    (λ c κs. search needs)
+    (λ c κs. search needs)
+    (λ c κs. search needs)
+    (λ c. search needs)
+    (λ c κs. search needs)
+    (λ c κs. search needs)
+    (λ c. omega arith)
+    (λ c. omega arith)
+    (λ c. omega arith)
+    (λ c. search needs))

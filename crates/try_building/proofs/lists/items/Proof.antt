@@ -7,31 +7,10 @@ use Rattle.try_building.proofs.lists.items.Statement.{statement}
 use Rattle.try_building.proofs.lists.items.Tie as tie
 
 abbrev Inv-loop : tie.InvT-loop
-Inv-loop text out₀ paired next₀ counter₀ out next counter = (length out ≡ length out₀) × (counter ≤ 40)
+Inv-loop text out₀ what next₀ counter₀ out next counter = (length out ≡ length out₀) × (counter ≤ 64)
 
 abbrev μ-loop : tie.MeasureT-loop
-μ-loop text out₀ paired next₀ counter₀ out next counter = 40 - counter
-
-loop-holds : tie.Need-loop-holds Inv-loop μ-loop
-loop-holds c = (search needs, omega arith)
-
-item-requires : tie.Need-item-requires Inv-loop μ-loop
-item-requires c κs = search needs
-
-add-counter : tie.Need-add-counter Inv-loop μ-loop
-add-counter c = omega arith
-
-loop-less : tie.Need-loop-less Inv-loop μ-loop
-loop-less c = omega arith
-
-loop-again : tie.Need-loop-again Inv-loop μ-loop
-loop-again c = (search needs, omega arith)
-
-same-length : tie.Need-same-length Inv-loop μ-loop
-same-length c = search needs
-
-returns : tie.Need-returns Inv-loop μ-loop
-returns c = search needs
+μ-loop text out₀ what next₀ counter₀ out next counter = 64 - counter
 
 pub items-spec : {M : Type 1} → statement M
 items-spec =
@@ -39,10 +18,10 @@ items-spec =
     (tie.spec
     Inv-loop
     μ-loop
-    loop-holds
-    item-requires
-    add-counter
-    loop-less
-    loop-again
-    same-length
-    returns)
+    (λ c. (search needs, omega arith))
+    (λ c κs. search needs)
+    (λ c. omega arith)
+    (λ c. omega arith)
+    (λ c. (search needs, omega arith))
+    (λ c. search needs)
+    (λ c. search needs))

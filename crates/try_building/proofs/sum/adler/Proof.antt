@@ -11,37 +11,16 @@ Inv-loop s sum₀ i₀ i-end sum i = (i ≤ i-end) × (i-end ≤ length s)
 abbrev μ-loop : tie.MeasureT-loop
 μ-loop s sum₀ i₀ i-end sum i = i-end - i
 
-loop-holds : tie.Need-loop-holds Inv-loop μ-loop
-loop-holds c = (omega arith, omega arith)
-
-shared-slice-read-with : tie.Need-shared-slice-read-with Inv-loop μ-loop
-shared-slice-read-with c = omega arith
-
-with-requires : tie.Need-with-requires Inv-loop μ-loop
-with-requires c κs = search needs
-
-add-i : tie.Need-add-i Inv-loop μ-loop
-add-i c = omega arith
-
-loop-less : tie.Need-loop-less Inv-loop μ-loop
-loop-less c = omega arith
-
-loop-again : tie.Need-loop-again Inv-loop μ-loop
-loop-again c = (omega arith, omega arith)
-
-returns : tie.Need-returns Inv-loop μ-loop
-returns c = search needs
-
 pub adler-spec : {M : Type 1} → statement M
 adler-spec =
     tie.close
     (tie.spec
     Inv-loop
     μ-loop
-    loop-holds
-    shared-slice-read-with
-    with-requires
-    add-i
-    loop-less
-    loop-again
-    returns)
+    (λ c. (omega arith, omega arith))
+    (λ c. omega arith)
+    (λ c κs. search needs)
+    (λ c. omega arith)
+    (λ c. omega arith)
+    (λ c. (omega arith, omega arith))
+    (λ c. search needs))

@@ -11,41 +11,17 @@ Inv-loop self i₀ i = i ≤ 56
 abbrev μ-loop : tie.MeasureT-loop
 μ-loop self i₀ i = 56 - i
 
-loop-holds : tie.Need-loop-holds Inv-loop μ-loop
-loop-holds c = omega arith
-
-mul-agreeing : tie.Need-mul-agreeing Inv-loop μ-loop
-mul-agreeing c = omega arith
-
-element-copy-out-agreeing : tie.Need-element-copy-out-agreeing Inv-loop μ-loop
-element-copy-out-agreeing c = omega arith
-
-agreeing-requires : tie.Need-agreeing-requires Inv-loop μ-loop
-agreeing-requires c κs = search needs
-
-add-i : tie.Need-add-i Inv-loop μ-loop
-add-i c = omega arith
-
-loop-less : tie.Need-loop-less Inv-loop μ-loop
-loop-less c = omega arith
-
-loop-again : tie.Need-loop-again Inv-loop μ-loop
-loop-again c = omega arith
-
-returns : tie.Need-returns Inv-loop μ-loop
-returns c = search needs
-
 pub lines-spec : {M : Type 1} → statement M
 lines-spec =
     tie.close
     (tie.spec
     Inv-loop
     μ-loop
-    loop-holds
-    mul-agreeing
-    element-copy-out-agreeing
-    agreeing-requires
-    add-i
-    loop-less
-    loop-again
-    returns)
+    (λ c. omega arith)
+    (λ c. omega arith)
+    (λ c. omega arith)
+    (λ c κs. search needs)
+    (λ c. omega arith)
+    (λ c. omega arith)
+    (λ c. omega arith)
+    (λ c. search needs))
