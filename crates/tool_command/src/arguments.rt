@@ -1,151 +1,105 @@
-// The command line. Files are kept by the place of their argument, 0 where there is none.
+// The command line.
+use crate::command;
+use crate::fault;
+use crate::lines::line_of;
 use check::same;
-use tool_listing::line::View;
 use try_building::build::plus;
 use try_building::text::byte;
 use try_building::text::number;
 
-pub struct Command(pub u8);
-
-impl Command {
-    pub const NONE: u8 = 0;
-
-    pub const READ: u8 = 1;
-
-    pub const CHECK: u8 = 2;
-
-    pub const LINEARIZE: u8 = 3;
-
-    pub const ANNOTATE: u8 = 4;
-
-    pub const DUMP: u8 = 5;
-
-    pub const HELP: u8 = 6;
-
-    pub const VERSION: u8 = 7;
-
-    fn read_or_check(word: &[u8]) -> Command {
-        if same(word, b"read") {
-            return Command(Command::READ);
-        }
-        if same(word, b"check") {
-            return Command(Command::CHECK);
-        }
-        Command(Command::NONE)
-    }
-
-    fn about_itself(word: &[u8]) -> Command {
-        if same(word, b"--help") || same(word, b"-h") || same(word, b"help") {
-            return Command(Command::HELP);
-        }
-        if same(word, b"--version") {
-            return Command(Command::VERSION);
-        }
-        Command::read_or_check(word)
-    }
-
-    fn of(word: &[u8]) -> Command {
-        if same(word, b"linearize") {
-            return Command(Command::LINEARIZE);
-        }
-        if same(word, b"annotate") {
-            return Command(Command::ANNOTATE);
-        }
-        if same(word, b"dump") {
-            return Command(Command::DUMP);
-        }
-        Command::about_itself(word)
-    }
-
-    // Does it write something that -o can name a file for?
-    fn writes(self) -> bool {
-        self.0 == Command::LINEARIZE || self.0 == Command::ANNOTATE || self.0 == Command::DUMP
-    }
-}
-
-// What is wrong with a command line.
-pub struct Fault(pub u8);
-
-impl Fault {
-    pub const NONE: u8 = 0;
-
-    pub const NO_COMMAND: u8 = 1;
-
-    pub const COMMAND: u8 = 2;
-
-    pub const CHOICE: u8 = 3;
-
-    pub const NO_VALUE: u8 = 4;
-
-    pub const TOO_MANY: u8 = 5;
-
-    pub const NO_RECORD: u8 = 6;
-
-    pub const NOT_A_RECORD: u8 = 7;
-
-    pub const UNREADABLE: u8 = 8;
-}
-
 pub struct Arguments {
-    pub command: Command,
-    pub image: usize,
-    pub output: usize,
-    pub names: usize,
+    pub command: usize,
+    // The arguments that name the image, the output and the spellings, 0 where there is none.
+    pub files: [usize; 3],
+    // What is asked for, by the numbers below.
+    pub choices: [bool; 5],
     // The record that annotate is asked for.
     pub record: usize,
-    pub has_record: bool,
-    pub view: View,
-    pub raw: bool,
-    // The value that the argument before asks for: o for an output, n for names, 0 for none.
-    pub awaited: u8,
-    // The first thing wrong, and its argument.
-    pub fault: Fault,
+    // What the next argument is: a file, by its number, that an option asks for, NO_OPTION, or ANYTHING.
+    pub awaited: usize,
+    // The first thing wrong, and its argument, or 0.
+    pub fault: usize,
     pub at: usize,
 }
 
 impl Arguments {
-    pub fn of(command: Command) -> Arguments {
+    // The files.
+    pub const IMAGE: usize = 0;
+
+    pub const OUTPUT: usize = 1;
+
+    pub const NAMES: usize = 2;
+
+    // The choices of dump, of annotate, and whether annotate has its record.
+    pub const TYPES: usize = 0;
+
+    pub const RECORDS: usize = 1;
+
+    pub const ANNOTATIONS: usize = 2;
+
+    pub const RAW: usize = 3;
+
+    pub const RECORD: usize = 4;
+
+    // What is awaited, beside the output and the spellings.
+    const ANYTHING: usize = 0;
+
+    const NO_OPTION: usize = 3;
+
+    fn of(command: usize) -> Arguments {
         Arguments {
             command,
-            image: 0,
-            output: 0,
-            names: 0,
+            files: [0; 3],
+            choices: [false; 5],
             record: 0,
-            has_record: false,
-            view: View {
-                types: false,
-                records: false,
-                annotations: false,
-            },
-            raw: false,
-            awaited: 0,
-            fault: Fault(Fault::NONE),
+            awaited: Arguments::ANYTHING,
+            fault: fault::NONE,
             at: 0,
         }
     }
 
-    fn wrong(self, fault: u8, at: usize) -> Arguments {
+    pub fn file(self, which: usize) -> usize {
+        if which < 3 {
+            return self.files[which];
+        }
+        0
+    }
+
+    pub fn has(self, choice: usize) -> bool {
+        if choice < 5 {
+            return self.choices[choice];
+        }
+        false
+    }
+
+    fn wrong(self, fault: usize, at: usize) -> Arguments {
         let mut next = self;
-        if self.fault.0 == Fault::NONE {
-            next.fault.0 = fault;
+        if self.fault == fault::NONE {
+            next.fault = fault;
             next.at = at;
         }
         next
     }
 
-    fn awaiting(self, value: u8) -> Arguments {
+    fn awaiting(self, what: usize) -> Arguments {
         let mut next = self;
-        next.awaited = value;
+        next.awaited = what;
         next
     }
 
-    // The value of an option.
-    fn value(self, i: usize) -> Arguments {
-        let mut next = self.awaiting(0);
-        if self.awaited == b'o' {
-            next.output = i;
-        } else {
-            next.names = i;
+    fn choosing(self, choice: usize) -> Arguments {
+        let mut next = self;
+        if choice < 5 {
+            next.choices[choice] = true;
+        }
+        next
+    }
+
+    // Argument i names a file.
+    fn naming(self, which: usize, i: usize) -> Arguments {
+        let mut next = self;
+        if which < 3 {
+            next.files[which] = i;
         }
         next
     }
@@ -153,108 +107,131 @@ impl Arguments {
     fn record_number(self, word: &[u8], i: usize) -> Arguments {
         let n = number(word, 0);
         if word.len() == 0 || n.end != word.len() {
-            return self.wrong(Fault::NOT_A_RECORD, i);
+            return self.wrong(fault::NOT_A_RECORD, i);
         }
-        let mut next = self;
+        let mut next = self.choosing(Arguments::RECORD);
         next.record = n.value;
-        next.has_record = true;
         next
+    }
+
+    // Is the record still to come?
+    fn lacks_record(self) -> bool {
+        if self.command == command::ANNOTATE {
+            return !self.has(Arguments::RECORD);
+        }
+        false
     }
 
     // An argument that is no option.
     fn plain(self, word: &[u8], i: usize) -> Arguments {
-        if self.command.0 == Command::ANNOTATE && !self.has_record {
+        if self.lacks_record() {
             return self.record_number(word, i);
         }
-        if self.image != 0 {
-            return self.wrong(Fault::TOO_MANY, i);
+        if self.file(Arguments::IMAGE) != 0 {
+            return self.wrong(fault::TOO_MANY, i);
         }
-        let mut next = self;
-        next.image = i;
-        next
+        self.naming(Arguments::IMAGE, i)
     }
 
+    // The options are in the order of the choices.
     fn dump_option(self, word: &[u8], i: usize) -> Arguments {
-        let mut next = self;
-        if same(word, b"--names") {
-            return self.awaiting(b'n');
+        let option = line_of(b"--types\n--records\n--annotations\n--names\n", word);
+        match option {
+            1 => self.choosing(Arguments::TYPES),
+            2 => self.choosing(Arguments::RECORDS),
+            3 => self.choosing(Arguments::ANNOTATIONS),
+            4 => self.awaiting(Arguments::NAMES),
+            _ => self.wrong(fault::CHOICE, i),
         }
-        if same(word, b"--types") {
-            next.view.types = true;
-        } else if same(word, b"--records") {
-            next.view.records = true;
-        } else if same(word, b"--annotations") {
-            next.view.annotations = true;
-        } else {
-            return self.wrong(Fault::CHOICE, i);
-        }
-        next
     }
 
     fn annotate_option(self, word: &[u8], i: usize) -> Arguments {
-        if !same(word, b"--raw") {
-            return self.wrong(Fault::CHOICE, i);
+        if same(word, b"--raw") {
+            return self.choosing(Arguments::RAW);
         }
-        let mut next = self;
-        next.raw = true;
-        next
+        self.wrong(fault::CHOICE, i)
     }
 
     // An option of this command alone.
     fn own_option(self, word: &[u8], i: usize) -> Arguments {
-        let command = self.command.0;
+        let command = self.command;
         match command {
-            Command::ANNOTATE => self.annotate_option(word, i),
-            Command::DUMP => self.dump_option(word, i),
-            _ => self.wrong(Fault::CHOICE, i),
+            command::ANNOTATE => self.annotate_option(word, i),
+            command::DUMP => self.dump_option(word, i),
+            _ => self.wrong(fault::CHOICE, i),
         }
+    }
+
+    fn helping(self) -> Arguments {
+        let mut next = self;
+        next.command = command::HELP;
+        next
+    }
+
+    fn output_option(self, i: usize) -> Arguments {
+        if command::writes(self.command) {
+            return self.awaiting(Arguments::OUTPUT);
+        }
+        self.wrong(fault::CHOICE, i)
     }
 
     fn option(self, word: &[u8], i: usize) -> Arguments {
-        if same(word, b"--help") {
-            let mut next = self;
-            next.command.0 = Command::HELP;
-            return next;
+        let option = line_of(b"--\n--help\n-o\n", word);
+        match option {
+            1 => self.awaiting(Arguments::NO_OPTION),
+            2 => self.helping(),
+            3 => self.output_option(i),
+            _ => self.own_option(word, i),
         }
-        if self.command.writes() && same(word, b"-o") {
-            return self.awaiting(b'o');
-        }
-        self.own_option(word, i)
     }
 
-    // With argument i, which is this word.
-    fn with(self, word: &[u8], i: usize) -> Arguments {
-        if self.awaited != 0 {
-            return self.value(i);
-        }
-        if byte(word, 0) == b'-' && 1 < word.len() {
+    fn plain_or_option(self, word: &[u8], i: usize) -> Arguments {
+        if is_option(word) {
             return self.option(word, i);
         }
         self.plain(word, i)
     }
 
-    fn ended(self, count: usize) -> Arguments {
-        if self.awaited != 0 {
-            return self.wrong(Fault::NO_VALUE, count);
+    // With argument i, which is this word.
+    fn with(self, word: &[u8], i: usize) -> Arguments {
+        let awaited = self.awaited;
+        match awaited {
+            Arguments::ANYTHING => self.plain_or_option(word, i),
+            Arguments::NO_OPTION => self.plain(word, i),
+            _ => self.naming(awaited, i).awaiting(Arguments::ANYTHING),
         }
-        if self.command.0 == Command::ANNOTATE && !self.has_record {
-            return self.wrong(Fault::NO_RECORD, count);
+    }
+
+    fn complete(self) -> Arguments {
+        if self.awaited == Arguments::OUTPUT || self.awaited == Arguments::NAMES {
+            return self.wrong(fault::NO_VALUE, 0);
+        }
+        if self.lacks_record() {
+            return self.wrong(fault::NO_RECORD, 0);
         }
         self
     }
 }
 
-// The command, which is argument i.
-fn first(i: usize) -> Arguments {
+// A - alone is no option: it stands for standard input or output.
+fn is_option(word: &[u8]) -> bool {
+    byte(word, 0) == b'-' && 1 < word.len()
+}
+
+// The command that argument i names.
+fn command_at(i: usize) -> usize {
     let mut word = io::buffer();
     let n = os::arg(i, &mut word);
-    let command = Command::of(&word[..n]);
-    let start = Arguments::of(command);
-    if n == 0 {
-        return start.wrong(Fault::NO_COMMAND, i);
+    command::of(&word[..n])
+}
+
+fn first(i: usize) -> Arguments {
+    let start = Arguments::of(command_at(i));
+    if os::arg_count() <= i {
+        return start.wrong(fault::NO_COMMAND, 0);
     }
-    if command.0 == Command::NONE {
-        return start.wrong(Fault::COMMAND, i);
+    if start.command == command::NONE {
+        return start.wrong(fault::COMMAND, i);
     }
     start
 }
@@ -263,7 +240,7 @@ fn next(before: Arguments, i: usize) -> Arguments {
     let mut word = io::buffer();
     let n = os::arg(i, &mut word);
     if os::errno() != 0 {
-        return before.wrong(Fault::UNREADABLE, i);
+        return before.wrong(fault::UNREADABLE, 0);
     }
     before.with(&word[..n], i)
 }
@@ -275,5 +252,5 @@ pub fn gather(from: usize) -> Arguments {
     for i in plus(from, 1)..count {
         got = next(got, i);
     }
-    got.ended(count)
+    got.complete()
 }

@@ -58,9 +58,13 @@ fn fill_from(fd: i32, path: &[u8], buf: &mut [u8]) -> Taken {
     }
 }
 
+fn take_standard(buf: &mut [u8]) -> Taken {
+    fill_from(STDIN_FILENO, b"standard input", buf)
+}
+
 fn take_path(path: &[u8], buf: &mut [u8]) -> Taken {
     if same(path, b"-") {
-        return fill_from(STDIN_FILENO, path, buf);
+        return take_standard(buf);
     }
     let fd = os::open_read(path);
     if fd < 0 {
@@ -75,7 +79,7 @@ fn take_path(path: &[u8], buf: &mut [u8]) -> Taken {
 // Reads the file that argument i names, or standard input where i is 0 or the argument is -.
 pub fn take(i: usize, buf: &mut [u8]) -> Taken {
     if i == 0 {
-        return fill_from(STDIN_FILENO, b"standard input", buf);
+        return take_standard(buf);
     }
     let mut path = io::buffer();
     let n = os::arg(i, &mut path);
@@ -89,15 +93,26 @@ pub struct Output {
     pub made: bool,
     // The argument that names it, or 0 for standard output.
     pub at: usize,
+    // Is it standard output, and was asked for?
+    pub asked: bool,
 }
 
 impl Output {
-    fn standard() -> Output {
+    fn standard(asked: bool) -> Output {
         Output {
             fd: STDOUT_FILENO,
             made: false,
             at: 0,
+            asked,
         }
+    }
+
+    // May an image go to it? To a terminal only as standard output that was asked for.
+    pub fn takes_images(self) -> bool {
+        if self.asked {
+            return true;
+        }
+        libc::isatty(self.fd) == 0
     }
 }
 
@@ -111,24 +126,30 @@ fn reopen(path: &[u8], at: usize) -> Output {
         fd,
         made: false,
         at,
+        asked: false,
     }
 }
 
 fn open_path(path: &[u8], at: usize) -> Output {
     if same(path, b"-") {
-        return Output::standard();
+        return Output::standard(true);
     }
     let fd = os::create(path);
     if fd < 0 {
         return reopen(path, at);
     }
-    Output { fd, made: true, at }
+    Output {
+        fd,
+        made: true,
+        at,
+        asked: false,
+    }
 }
 
 // Opens the file that argument i names, or standard output where i is 0 or the argument is -.
 pub fn open(i: usize) -> Output {
     if i == 0 {
-        return Output::standard();
+        return Output::standard(false);
     }
     let mut path = io::buffer();
     let n = os::arg(i, &mut path);

@@ -1,21 +1,32 @@
 // The command axcut, thin over the library's functions. A program in Rattle always ends with exit status 0, so bin/axcut calls this one with
 // --status before the other arguments, and it then writes the status, a digit, to descriptor 3, as the last thing it does.
 mod arguments;
+mod asking;
+mod command;
+mod due;
+mod fault;
 mod files;
+mod finding;
+mod lines;
+mod parts;
+mod place;
+mod scan;
+mod scope;
+mod walk;
 mod words;
 
 use arguments::Arguments;
-use arguments::Command;
-use arguments::Fault;
 use arguments::gather;
 use check::same;
 use files::Taken;
+use finding::find;
 use libc::STDERR_FILENO;
 use libc::STDOUT_FILENO;
 use tool_listing::annotation::sets;
 use tool_listing::book::Book;
 use tool_listing::book::index;
 use tool_listing::fields::begin;
+use tool_listing::line::View;
 use tool_listing::page::Page;
 use tool_listing::page::flush;
 use tool_listing::page::put;
@@ -32,8 +43,9 @@ const TROUBLE: u8 = 2;
 // The descriptor for the exit status.
 const STATUS: i32 = 3;
 
-fn refuse(number: u32) -> u8 {
-    words::refused(number);
+fn refuse(got: Arguments, image: &[u8], number: u32) -> u8 {
+    let place = find(image, number, got.record);
+    words::refused(got.file(Arguments::IMAGE), number, place);
     REFUSED
 }
 
@@ -45,35 +57,43 @@ fn written(whole: bool) -> u8 {
     TROUBLE
 }
 
-// The answer of read and check.
-fn answer(number: u32, max_id: u32) -> u8 {
-    if number != 0 {
-        return refuse(number);
-    }
+// What read and check say of an image that is accepted.
+fn accept(max_id: u32) -> u8 {
     let said = io::write_all(STDOUT_FILENO, b"accepted, max_id ");
     let counted = io::print_decimal(STDOUT_FILENO, max_id as u64);
     let ended = io::write_all(STDOUT_FILENO, b"\n");
     written(files::close(files::open(0), said && counted && ended))
 }
 
-fn read(image: &[u8]) -> u8 {
+fn read(got: Arguments, image: &[u8]) -> u8 {
     let mut length: usize = 0;
     let mut max_id: u32 = 0;
     let number = axcut::axcut_read(image, &mut length, &mut max_id);
-    answer(number, max_id)
+    if number != 0 {
+        return refuse(got, image, number);
+    }
+    accept(max_id)
 }
 
-fn check(image: &[u8]) -> u8 {
+fn check(got: Arguments, image: &[u8]) -> u8 {
     let mut length: usize = 0;
     let mut max_id: u32 = 0;
     let number = axcut::axcut_check(image, &mut length, &mut max_id);
-    answer(number, max_id)
+    if number != 0 {
+        return refuse(got, image, number);
+    }
+    accept(max_id)
 }
 
-// Writes bytes to the output that is asked for.
+// Writes an image or an annotation to the output that is asked for.
 fn write(got: Arguments, bytes: &[u8]) -> u8 {
-    let output = files::open(got.output);
+    let output = files::open(got.file(Arguments::OUTPUT));
     if output.fd < 0 {
+        return TROUBLE;
+    }
+    if !output.takes_images() {
+        words::terminal();
+        files::close(output, true);
         return TROUBLE;
     }
     let well = io::write_all(output.fd, bytes);
@@ -94,14 +114,14 @@ fn linearize(got: Arguments, image: &[u8]) -> u8 {
     let mut max_id: u32 = 0;
     let number = axcut::axcut_linearize(image, &mut out, &mut length, &mut max_id);
     if number != 0 {
-        return refuse(number);
+        return refuse(got, image, number);
     }
     write_first(got, &out, length)
 }
 
 // Writes an annotation as text.
 fn annotation_text(got: Arguments, found: &[u8], kind: u8) -> u8 {
-    let output = files::open(got.output);
+    let output = files::open(got.file(Arguments::OUTPUT));
     if output.fd < 0 {
         return TROUBLE;
     }
@@ -117,9 +137,9 @@ fn annotate(got: Arguments, image: &[u8]) -> u8 {
     let mut max_id: u32 = 0;
     let number = axcut::axcut_annotate(image, got.record, &mut found, &mut length, &mut max_id);
     if number != 0 {
-        return refuse(number);
+        return refuse(got, image, number);
     }
-    if got.raw {
+    if got.has(Arguments::RAW) {
         return write_first(got, &found, length);
     }
     annotation_text(got, &found, byte(image, begin(image, got.record)))
@@ -138,12 +158,16 @@ fn first_seven(image: &[u8]) -> u32 {
 }
 
 fn list(got: Arguments, image: &[u8], book: &[u8], max_id: u32) -> u8 {
-    let output = files::open(got.output);
+    let output = files::open(got.file(Arguments::OUTPUT));
     if output.fd < 0 {
         return TROUBLE;
     }
     let mut room = io::large_buffer();
-    let view = got.view;
+    let view = View {
+        types: got.has(Arguments::TYPES),
+        records: got.has(Arguments::RECORDS),
+        annotations: got.has(Arguments::ANNOTATIONS),
+    };
     let well = listing(output.fd, &mut room, book, image, view, max_id);
     written(files::close(output, well))
 }
@@ -151,7 +175,7 @@ fn list(got: Arguments, image: &[u8], book: &[u8], max_id: u32) -> u8 {
 // The listing with the spellings whose text has n bytes.
 fn list_spelled(got: Arguments, image: &[u8], book: &mut [u8], n: usize, max_id: u32) -> u8 {
     if Book::MOST <= n {
-        words::too_long(got.names);
+        words::too_long(got.file(Arguments::NAMES));
         return TROUBLE;
     }
     let end = Book::TEXT + n;
@@ -160,7 +184,7 @@ fn list_spelled(got: Arguments, image: &[u8], book: &mut [u8], n: usize, max_id:
     }
     let line = index(&mut book[0..end]);
     if line != 0 {
-        words::faulty_line(got.names, line);
+        words::faulty_line(got.file(Arguments::NAMES), line);
         return TROUBLE;
     }
     list(got, image, &book[0..end], max_id)
@@ -171,7 +195,7 @@ fn take_book(got: Arguments, book: &mut [u8]) -> Taken {
     if book.len() < Book::TEXT {
         return Taken::Failed;
     }
-    files::take(got.names, &mut book[Book::TEXT..])
+    files::take(got.file(Arguments::NAMES), &mut book[Book::TEXT..])
 }
 
 fn list_from(got: Arguments, image: &[u8], book: &mut [u8], max_id: u32) -> u8 {
@@ -188,7 +212,7 @@ fn list_with_names(got: Arguments, image: &[u8], max_id: u32) -> u8 {
 
 // The listing of an image that was accepted.
 fn show(got: Arguments, image: &[u8], max_id: u32) -> u8 {
-    if got.names == 0 {
+    if got.file(Arguments::NAMES) == 0 {
         return list(got, image, b"", max_id);
     }
     list_with_names(got, image, max_id)
@@ -199,24 +223,24 @@ fn dump(got: Arguments, image: &[u8]) -> u8 {
     let mut max_id: u32 = 0;
     let number = axcut::axcut_read(image, &mut length, &mut max_id);
     if number != 0 {
-        return refuse(number);
+        return refuse(got, image, number);
     }
-    if got.view.annotations {
+    if got.has(Arguments::ANNOTATIONS) {
         let asked = first_seven(image);
         if asked != 0 {
-            return refuse(asked);
+            return refuse(got, image, asked);
         }
     }
     show(got, image, max_id)
 }
 
 fn call(got: Arguments, image: &[u8]) -> u8 {
-    let command = got.command.0;
+    let command = got.command;
     match command {
-        Command::READ => read(image),
-        Command::CHECK => check(image),
-        Command::LINEARIZE => linearize(got, image),
-        Command::ANNOTATE => annotate(got, image),
+        command::READ => read(got, image),
+        command::CHECK => check(got, image),
+        command::LINEARIZE => linearize(got, image),
+        command::ANNOTATE => annotate(got, image),
         _ => dump(got, image),
     }
 }
@@ -230,38 +254,32 @@ fn call_on_first(got: Arguments, image: &[u8], n: usize) -> u8 {
 
 fn on_image(got: Arguments) -> u8 {
     let mut image = io::large_buffer();
-    match files::take(got.image, &mut image) {
+    match files::take(got.file(Arguments::IMAGE), &mut image) {
         Taken::Bytes(n) => call_on_first(got, &image, n),
         Taken::Failed => TROUBLE,
     }
 }
 
 fn complain(got: Arguments) -> u8 {
-    let fault = got.fault.0;
-    match fault {
-        Fault::NO_COMMAND => words::usage(STDERR_FILENO),
-        Fault::COMMAND => words::wrong(b"no such command: ", got.at),
-        Fault::CHOICE => words::wrong(b"no option of this command: ", got.at),
-        Fault::NO_VALUE => words::wrong(b"a file name is missing", 0),
-        Fault::TOO_MANY => words::wrong(b"one file too many: ", got.at),
-        Fault::NO_RECORD => words::wrong(b"annotate: which record?", 0),
-        Fault::NOT_A_RECORD => words::wrong(b"annotate: not a record's number: ", got.at),
-        _ => words::wrong(b"an argument is too long", 0),
+    if got.fault == fault::NO_COMMAND {
+        words::usage(STDERR_FILENO);
+        return TROUBLE;
     }
+    words::wrong(got.fault, got.at);
     TROUBLE
 }
 
 fn run(got: Arguments) -> u8 {
-    if got.fault.0 != Fault::NONE {
+    if got.fault != fault::NONE {
         return complain(got);
     }
-    let command = got.command.0;
+    let command = got.command;
     match command {
-        Command::HELP => {
+        command::HELP => {
             words::usage(STDOUT_FILENO);
             ACCEPTED
         }
-        Command::VERSION => {
+        command::VERSION => {
             words::version(STDOUT_FILENO);
             ACCEPTED
         }

@@ -1,4 +1,4 @@
--- `tool::arguments::gather` is safe and ends: the arguments that are left fall. Assumes nothing.
+-- `tool_command::arguments::gather` is safe and ends: the arguments that are left fall. Assumes nothing.
 use borrow.Author.Needs.{needs}
 use Prim.Native.Nat.{_-_}
 use native.Mathlib.Omega.{arith}
@@ -35,8 +35,8 @@ loop-less c = omega arith
 loop-again : tie.Need-loop-again Inv-loop μ-loop
 loop-again c = tt
 
-ended-requires : tie.Need-ended-requires Inv-loop μ-loop
-ended-requires c κs = search needs
+complete-requires : tie.Need-complete-requires Inv-loop μ-loop
+complete-requires c κs = search needs
 
 returns : tie.Need-returns Inv-loop μ-loop
 returns c = search needs
@@ -55,5 +55,5 @@ gather-spec =
     add-i
     loop-less
     loop-again
-    ended-requires
+    complete-requires
     returns)

@@ -1,4 +1,4 @@
--- `tool::files::fill` is safe and ends: the reads that are left fall, and the buffer keeps its length. Assumes nothing.
+-- `tool_command::files::fill` is safe and ends: the reads that are left fall, and the buffer keeps its length. Assumes nothing.
 use borrow.Author.Needs.{needs}
 use Prim.Native.Nat.{_-_, _≤_}
 use mathlib.Core.Path.{_≡_}
