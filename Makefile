@@ -2,6 +2,11 @@
 .PHONY: run test tries tool library bindings c-example examples differential bench
 
 example = examples/axle
+program = target/bin/tool_command
+archive = target/staticlib/libaxcut.a
+
+sources := crates.txt $(shell find crates -name '*.rt' -o -name '*.antt')
+library_sources := $(filter-out crates/try_% crates/tool_%,$(sources))
 
 run: tool
 	bin/axcut dump --names $(example)/names $(example)/program.axc
@@ -18,25 +23,31 @@ tries: tool
 	$(MAKE) bindings c-example
 
 # The library against the Rust: 1,300,000 cases.
-differential: library
+differential: $(archive)
 	cd oracle && cargo run --release --offline -p differential --features library -- --cases 1300000
 
 # The command bin/axcut: proves the program and all below it, builds it and tries it.
-tool:
-	rt check tool
+tool: $(program)
 
-# target/staticlib/libaxcut.a, for C and Rust.
-library:
+# Where a change left the program as it was, rt does not write it again.
+$(program): $(sources)
+	rt check tool_command
+	touch $@
+
+# The library for C and Rust.
+library: $(archive)
+
+$(archive): $(library_sources)
 	rt staticlib axcut
 
 # The tests of the Rust crate.
-bindings: library
+bindings: $(archive)
 	cargo test --offline --manifest-path bindings/rust/Cargo.toml
 
 # The C example, on an example program.
-c-example: library
+c-example: $(archive)
 	mkdir -p target/c
-	$(CC) -std=c99 -Wall -Wextra -pedantic -Werror -Iinclude -o target/c/linearize examples/c/linearize.c target/staticlib/libaxcut.a
+	$(CC) -std=c99 -Wall -Wextra -pedantic -Werror -Iinclude -o target/c/linearize examples/c/linearize.c $(archive)
 	target/c/linearize $(example)/program.axc target/c/linear.axc
 	cmp target/c/linear.axc $(example)/linear.axc
 
@@ -45,5 +56,5 @@ examples: tool
 	examples/make
 
 # The library and the Rust on the same images: time and stack.
-bench: library
+bench: $(archive)
 	cd oracle && cargo run --release --offline -p bench --features library

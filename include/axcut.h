@@ -1,20 +1,21 @@
 /*
- * AxCut's linearization over binary program images (docs/FORMAT.md), proved in Rattle.
+ * AxCut's linearization over binary program images (docs/FORMAT.md), proved in Rattle. docs/SPEC.md says what is proved.
  *
  * The functions are those of target/staticlib/libaxcut.a, which `make library` builds; x86-64 Linux. They need nothing of the C library but
- * memcpy, memmove and memset, take no memory but the caller's buffers and the stack (less than 1 MiB of it), keep nothing between calls, and
- * may be called from any number of threads at once.
+ * memcpy, memmove and memset, take no memory but the caller's buffers and the stack (less than 640 KiB of it), keep nothing between calls,
+ * and may be called from any number of threads at once.
  *
  * What holds for every call:
  *
- * - Every input is allowed. An input that is no image, or an image that cannot be answered, is refused.
+ * - Every sequence of bytes, every record index and every length of `out` is allowed. What is no image, or an image that cannot be answered,
+ *   is refused.
+ * - Not allowed are a null pointer with a length above 0, a null `length` or `max_id`, a length above what is lent, and memory that overlaps:
+ *   `image`, `out`, *length and *max_id are four places. They are lent for the time of the call, and nothing else writes to them meanwhile.
  * - The result is 0 for acceptance, or the number of the first question below whose answer is no.
  * - *length and *max_id are set on every call. On acceptance *length is the number of bytes that were written to `out` (0 where there is
  *   no `out`), and *max_id the image's max_id, for axcut_linearize that of the output. On a refusal both are 0.
  * - `image` is never changed. Of `out`, acceptance changes the first *length bytes; the refusals 11 and 12 set the whole buffer to zero; any
  *   other refusal leaves it as it was.
- * - The buffers and the two results are lent for the time of the call. None overlaps another, and no pointer is null, also where its length
- *   is 0.
  */
 #ifndef AXCUT_H
 #define AXCUT_H

@@ -7,13 +7,15 @@
 //! let image = include_bytes!("../../../examples/worked/program.axc");
 //! let output = axcut::linearize(image)?;
 //! assert_eq!((output.bytes.len(), output.max_id), (45, 1));
-//! // An output is an image, and no source program any more where it holds a Substitute.
+//! // An output is an image, and no source program any more where it holds a Substitute or an environment.
 //! assert_eq!(axcut::read(&output.bytes)?, 1);
 //! assert_eq!(axcut::read(&image[..54]).unwrap_err().number(), 3);
 //! # Ok::<(), axcut::Refusal>(())
 //! ```
 //!
-//! The functions with `_into` write to the caller's buffer and take no memory of their own.
+//! The functions with `_into` write to the caller's buffer and take no memory but the stack: less than
+//! 640 KiB of it, as every call. Every slice is allowed; what the library excludes, null pointers and
+//! memory that overlaps, a slice excludes by itself.
 
 mod library;
 mod refusal;
@@ -27,7 +29,7 @@ pub const LARGEST_IMAGE: usize = 65_535;
 #[derive(Debug, Clone, PartialEq, Eq)]
 pub struct Output {
     pub bytes: Vec<u8>,
-    /// The largest ID of the image, for linearization that of its output.
+    /// The `max_id` of the image, for linearization that of its output.
     pub max_id: u32,
 }
 
@@ -35,7 +37,7 @@ pub struct Output {
 #[derive(Debug, Clone, Copy, PartialEq, Eq)]
 pub struct Written {
     pub length: usize,
-    /// The largest ID of the image, for linearization that of its output.
+    /// The `max_id` of the image, for linearization that of its output.
     pub max_id: u32,
 }
 

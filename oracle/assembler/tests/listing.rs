@@ -16,7 +16,7 @@ const GENERATED: u64 = 1_500;
 const ANNOTATED: u64 = 300;
 
 fn tool() -> PathBuf {
-    Path::new(env!("CARGO_MANIFEST_DIR")).join("../../target/bin/tool")
+    Path::new(env!("CARGO_MANIFEST_DIR")).join("../../target/bin/tool_command")
 }
 
 fn dump(image: &[u8], options: &[&str]) -> String {

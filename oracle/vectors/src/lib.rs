@@ -15,7 +15,7 @@
 //! every other number all bytes past the length are still the old byte. No image and no output buffer
 //! has more than 65,536 bytes.
 //!
-//! The program is the crate `vectors` of the repository: the file is its `stdin`, and the summary
+//! The program is the crate `try_vectors` of the repository: the file is its `stdin`, and the summary
 //! its `stdout`.
 
 mod sample;

@@ -91,10 +91,10 @@ fn the_sample_replays_and_covers_every_answer() {
     }
 }
 
-/// The crate `vectors` replays the file, and prints the summary, that are made now.
+/// The crate `try_vectors` replays the file, and prints the summary, that are made now.
 #[test]
 fn the_stored_files_are_those_made_now() {
-    let stored = |name: &str| fs::read(format!("../../crates/vectors/{name}")).expect(name);
+    let stored = |name: &str| fs::read(format!("../../crates/try_vectors/{name}")).expect(name);
     let sample = vectors::sample();
     assert!(stored("stdin") == vectors::file(&sample), "stdin");
     assert!(
