@@ -9,12 +9,12 @@ use lib.ListN.{length, drop, replicate, length-append, length-replicate, drop-of
 use lib.Seq.{sets, length-sets}
 use Rattle.syntax.specs.declared.names.VarId.{VarId}
 use Rattle.syntax.proofs.Bools.{both-true}
-use Rattle.model.specs.Syntax.{Stmt, Substitute, Call, Let, Switch, Create, Invoke, Literal, Op, IfC, Clauses, end, Prog}
+use Rattle.model.specs.Syntax.{Stmt, Substitute, Call, Let, Switch, Create, Invoke, Literal, Op, IfC, PrintI64, Exit, Clauses, end, Prog}
 use Rattle.model.specs.Sizes.{recordsDefs, depthDefs}
 use Rattle.model.specs.FreeVars.{freeVars, freeVarsClauses, ascending, annotations}
 use Rattle.model.specs.Questions.{asked, askedDefs, plain, anyBinders, question6, question7, small}
 use Rattle.image_spec.specs.Parse.{each, field, All}
-use Rattle.image_spec.specs.Records.{Record, definition, substitute, call, let', switch, create, invoke, literal, op, ifc, clause', RecordOk}
+use Rattle.image_spec.specs.Records.{Record, definition, substitute, call, let', switch, create, invoke, literal, op, ifc, clause', print, exit, RecordOk}
 use Rattle.image_spec.specs.Kinds.{kindOf, clausesOf, bodies}
 use Rattle.image_spec.specs.Shape.{flatten, flattenClauses, flattenDefs, maxDepth}
 use Rattle.image_spec.specs.declared.Answer.{Answer}
@@ -64,6 +64,8 @@ has-kind (literal z v) = refl
 has-kind (op f o s v) = refl
 has-kind (ifc c f s) = refl
 has-kind (clause' x Γ) = refl
+has-kind (print n v) = refl
+has-kind (exit v) = refl
 
 -- a statement with one next
 pub record HasNext (t : Stmt) : Type 0 where
@@ -82,6 +84,8 @@ clause-set (Invoke var tag ty args) k = absurd (omega (arith, k))
 clause-set (Literal lit var next) k = absurd (omega (arith, k))
 clause-set (Op fst o snd var next) k = absurd (omega (arith, k))
 clause-set (IfC sort fst snd thenc elsec) k = absurd (omega (arith, k))
+clause-set (PrintI64 newline var next) k = absurd (omega (arith, k))
+clause-set (Exit var) k = absurd (omega (arith, k))
 
 -- Create: that of its clauses, then that of its next
 pub record BothSets (t : Stmt) : Type 0 where
@@ -99,8 +103,10 @@ both-sets (Invoke var tag ty args) k = absurd (omega (arith, k))
 both-sets (Literal lit var next) k = absurd (omega (arith, k))
 both-sets (Op fst o snd var next) k = absurd (omega (arith, k))
 both-sets (IfC sort fst snd thenc elsec) k = absurd (omega (arith, k))
+both-sets (PrintI64 newline var next) k = absurd (omega (arith, k))
+both-sets (Exit var) k = absurd (omega (arith, k))
 
--- Let, Literal, Op: that of its next, which stands right behind the record
+-- Let, Literal, Op, PrintI64: that of its next, which stands right behind the record
 pub record NextSet (t : Stmt) : Type 0 where
   pub has : HasNext t
   pub clauses : clausesIn t ≡ end
@@ -117,6 +123,8 @@ next-set (Invoke var tag ty args) h a b = absurd (false≢true h)
 next-set (Literal lit var next) h a b = record { has = record { next = next; bodies = refl }; clauses = refl; sets = refl }
 next-set (Op fst o snd var next) h a b = record { has = record { next = next; bodies = refl }; clauses = refl; sets = refl }
 next-set (IfC sort fst snd thenc elsec) h a b = absurd (false≢true h)
+next-set (PrintI64 newline var next) h a b = record { has = record { next = next; bodies = refl }; clauses = refl; sets = refl }
+next-set (Exit var) h a b = absurd (false≢true h)
 
 -- ── every record of an image is one that its layout can hold ──
 

@@ -3,7 +3,7 @@ use Prim.Native.Nat.{ℕ, _≤_}
 use mathlib.Core.Path.{_≡_}
 use mathlib.Core.Bool.{Bool, true, _&&_, _||_, cond}
 use mathlib.Core.List.{List, []}
-use lib.Dec.{leb}
+use lib.Dec.{leb, eqb}
 use lib.ListN.{length, replicate}
 use Rattle.syntax.specs.declared.names.VarId.{VarId}
 use Rattle.model.specs.Questions.{asked, plain, anyBinders, question6, question7}
@@ -26,7 +26,7 @@ use Rattle.annotate.specs.declared.annotate.Written.{Written}
 
 -- has a record of the kind an annotation?
 abbrev pub annotatedKind : ℕ → Bool
-annotatedKind k = (leb 4 k && leb k 6) || (leb 8 k && leb k 9)
+annotatedKind k = (leb 4 k && leb k 6) || ((leb 8 k && leb k 9) || eqb k 12)
 
 -- the set that a row marks is written, and the walk has come to this place
 pub record Wrote (r : Written) (before after : List ℕ) (at place w : ℕ) (row : List ℕ) : Type 0 where

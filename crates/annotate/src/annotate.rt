@@ -54,7 +54,10 @@ fn has_annotation(kind: u8) -> bool
     if kind < Kind::LITERAL {
         return false;
     }
-    kind <= Kind::OP
+    if kind <= Kind::OP {
+        return true;
+    }
+    kind == Kind::PRINT
 }
 
 // Writes the free variables of the statement at index i.

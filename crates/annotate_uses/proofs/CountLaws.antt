@@ -7,7 +7,7 @@ use native.Mathlib.Omega.{arith}
 use borrow.Author.Tests.{leb-true}
 use lib.ListN.{length}
 use Rattle.syntax.proofs.Filters.{ids-length}
-use Rattle.image_spec.specs.Records.{Record, definition, substitute, call, let', switch, create, invoke, literal, op, ifc, clause'}
+use Rattle.image_spec.specs.Records.{Record, definition, substitute, call, let', switch, create, invoke, literal, op, ifc, clause', print, exit}
 use Rattle.image_places_spec.specs.Views.{usesOf}
 use Rattle.scope_spec.specs.Flat.{smallRecord}
 
@@ -24,3 +24,5 @@ uses-few (op f o s v) h = omega arith
 uses-few (ifc c f none) h = omega arith
 uses-few (ifc c f (some x)) h = omega arith
 uses-few (clause' x Γ) h = omega arith
+uses-few (print n v) h = omega arith
+uses-few (exit v) h = omega arith

@@ -17,7 +17,7 @@ use Rattle.image_read_nodes.proofs.NodeLaws.{record-ok, identifier-room, second
 
 module _ {g : Frame} {s : List ℕ} {i mark : ℕ} (a : At g s i 10) (m : mark ≡ fixed (g .id) 10) where
   some : 0 < length (tailBytes (g .id) (recordAt g s i))
-  some = tail-some (g .id) (recordAt g s i) (λ q. omega (arith, a .kind)) (λ q. omega (arith, a .kind))
+  some = tail-some (g .id) (recordAt g s i) (λ q. omega (arith, a .kind)) (λ q. omega (arith, a .kind)) (λ q. omega (arith, a .kind)) (λ q. omega (arith, a .kind))
 
   pub mark-room : RoomIn g i mark 1 s
   mark-room = tail-room g s i 10 0 mark a (m ∙ omega arith) some

@@ -7,10 +7,11 @@ use native.Mathlib.Omega.{arith}
 use borrow.Author.Tests.{leb-true}
 use lib.ListN.{length, set, length-append}
 use Rattle.syntax.specs.Arrays.{setOf, SetHolds}
+use Rattle.syntax.specs.declared.names.Identifier.{Identifier}
 use Rattle.syntax.specs.declared.names.VarId.{VarId}
 use Rattle.syntax.specs.declared.sets.IdSet.{IdSet}
 use Rattle.syntax.proofs.Lists.{take-stored, stored-count}
-use Rattle.image_spec.specs.Records.{Record, definition, substitute, call, let', switch, create, invoke, literal, op, ifc, clause'}
+use Rattle.image_spec.specs.Records.{Record, definition, substitute, call, let', switch, create, invoke, literal, op, ifc, clause', print, exit}
 use Rattle.image_spec.specs.Kinds.{kindOf}
 use Rattle.image_directory.specs.declared.Frame.{Frame}
 use Rattle.scope_spec.specs.Flat.{smallRecord}
@@ -60,6 +61,8 @@ list-small (literal z v) h k = absurd (false≢true h)
 list-small (op f o j v) h k = absurd (false≢true h)
 list-small (ifc c f j) h k = absurd (false≢true h)
 list-small (clause' x Γ) h k = leb-true _ 32 k
+list-small (print n v) h k = absurd (false≢true h)
+list-small (exit v) h k = absurd (false≢true h)
 
 pub at-kind : {g : Frame} {s : List ℕ} {i k : ℕ} (n : ℕ) → At g s i k → k ≡ n → At g s i n
 at-kind n a e = record { ready = a .ready; inside = a .inside; kind = a .kind ∙ e }
@@ -73,3 +76,7 @@ list-room {g} {s} {i} {k} {a} {xs} n c e h m x l =
 -- behind a set that is known
 pub set-then : {a b : IdSet} {xs : List VarId} (ys : List VarId) → SetHolds a xs → SetHolds b (setOf a ++ ys) → SetHolds b (xs ++ ys)
 set-then {a} {b} {xs} ys e f = subst (λ (zs : List VarId). SetHolds b (zs ++ ys)) (e .list) f
+
+-- the set of one variable that is known
+pub set-first : {a : IdSet} {x y : Identifier} → x ≡ y → SetHolds a (x .id ∷ []) → SetHolds a (y .id ∷ [])
+set-first {a} e f = subst (λ (z : Identifier). SetHolds a (z .id ∷ [])) e f

@@ -95,19 +95,20 @@ pub fn uses(image: &[u8], frame: Frame, i: usize, kind: u8) -> IdSet
         return only(first(image, frame, i, Kind::SWITCH));
     }
     if kind == Kind::INVOKE {
-        return add_list(
-            image,
-            frame,
-            i,
-            Kind::INVOKE,
-            only(first(image, frame, i, Kind::INVOKE)),
-        );
+        let var = only(first(image, frame, i, Kind::INVOKE));
+        return add_list(image, frame, i, Kind::INVOKE, var);
     }
     if kind == Kind::OP {
         return add_operand(image, frame, i, only(first(image, frame, i, Kind::OP)));
     }
     if kind == Kind::IFC {
         return add_second(image, frame, i, only(first(image, frame, i, Kind::IFC)));
+    }
+    if kind == Kind::PRINT {
+        return only(first(image, frame, i, Kind::PRINT));
+    }
+    if kind == Kind::EXIT {
+        return only(first(image, frame, i, Kind::EXIT));
     }
     IdSet::empty()
 }

@@ -8,12 +8,12 @@ use borrow.Author.Tests.{le-leb, eq-eqb, ne-eqb}
 use lib.Dec.{eqb}
 use lib.ListN.{length, getD, List·getD-eq-default}
 use Rattle.image_spec.specs.Parse.{Parsed, refused, got, Parser, both, code, number, oneOf, counted, marked, whole}
-use Rattle.image_spec.specs.Fields.{maxCount, operators, sorts, integer, identifier, type, pair, list}
+use Rattle.image_spec.specs.Fields.{maxCount, operators, sorts, newlines, integer, identifier, type, pair, list}
 use Rattle.image_spec.specs.Records.{Record, contents, content, oneRecord, decodeRecord}
-use Rattle.image_spec.specs.Kinds.{fixed}
+use Rattle.image_spec.specs.Kinds.{kinds, fixed}
 use Rattle.image_spec.specs.Image.{isSome}
 use Rattle.image_spec.proofs.ParseLaws.{marked-exact, whole-case}
-use Rattle.image_spec.proofs.FieldLaws.{operator-exact, sort-exact, integer-exact, identifier-exact, type-exact, list-exact}
+use Rattle.image_spec.proofs.FieldLaws.{operator-exact, sort-exact, newline-exact, integer-exact, identifier-exact, type-exact, list-exact}
 use Rattle.image_spec.proofs.RecordLaws.{record-exact}
 use Rattle.image_spec.proofs.KindLaws.{kind-first, fixed-le}
 use Rattle.image_fields.specs.Found.{foundIn, stop}
@@ -81,16 +81,24 @@ module _ (w : ℕ) (s : List ℕ) (f : Found) where
   unfolding content contents
   stop11 = stop-via _ (both (identifier w) (list w)) s f ∙ idThen (list w) f
 
+  pub stop12 : stop (content w 12) s f ≡ stop (identifier w) s (stop (code 1) s f)
+  unfolding content contents
+  stop12 = stop-via _ (both (oneOf newlines) (identifier w)) s f ∙ (stop-both (identifier w) newline-exact s f ∙ ap (stop (identifier w) s) (stop-oneOf newlines 1 s f refl))
+
+  pub stop13 : stop (content w 13) s f ≡ stop (identifier w) s f
+  unfolding content contents
+  stop13 = stop-via _ (identifier w) s f
+
 -- past one more
 pub up : (a : ℕ) {b : ℕ} → a ≤ b → (b ≡ a → ⊥) → suc a ≤ b
 up a h n = omega arith
 
 pub content-other : (w k : ℕ) (s : List ℕ) (f : Found) → (k ≡ 1 → ⊥) → (k ≡ 2 → ⊥) → (k ≡ 3 → ⊥) → (k ≡ 4 → ⊥) → (k ≡ 5 → ⊥) → (k ≡ 6 → ⊥)
-    → (k ≡ 7 → ⊥) → (k ≡ 8 → ⊥) → (k ≡ 9 → ⊥) → (k ≡ 10 → ⊥) → (k ≡ 11 → ⊥) → stop (content w k) s f ≡ Nothing
+    → (k ≡ 7 → ⊥) → (k ≡ 8 → ⊥) → (k ≡ 9 → ⊥) → (k ≡ 10 → ⊥) → (k ≡ 11 → ⊥) → (k ≡ 12 → ⊥) → (k ≡ 13 → ⊥) → stop (content w k) s f ≡ Nothing
 unfolding content contents
-content-other w zero s f n1 n2 n3 n4 n5 n6 n7 n8 n9 n10 n11 = never-stops ℕ Record s f
-content-other w (suc k) s f n1 n2 n3 n4 n5 n6 n7 n8 n9 n10 n11 =
-    let h : 12 ≤ suc k = up 11 (up 10 (up 9 (up 8 (up 7 (up 6 (up 5 (up 4 (up 3 (up 2 (up 1 (omega arith) n1) n2) n3) n4) n5) n6) n7) n8) n9) n10) n11 in
+content-other w zero s f n1 n2 n3 n4 n5 n6 n7 n8 n9 n10 n11 n12 n13 = never-stops ℕ Record s f
+content-other w (suc k) s f n1 n2 n3 n4 n5 n6 n7 n8 n9 n10 n11 n12 n13 =
+    let h : kinds ≤ suc k = up 13 (up 12 (up 11 (up 10 (up 9 (up 8 (up 7 (up 6 (up 5 (up 4 (up 3 (up 2 (up 1 (omega arith) n1) n2) n3) n4) n5) n6) n7) n8) n9) n10) n11) n12) n13 in
     rw (List·getD-eq-default (contents w) (λ _. refused) h) (never-stops ℕ Record s f)
 
 endsAt : ℕ → Found → Bool
@@ -110,7 +118,7 @@ formed w (k ∷ l) h =
     go (got a (b ∷ m)) = let e : suc (length l) - suc (length m) ≡ suc (length l) → ⊥ = omega arith in sym (ne-eqb _ _ e)
 
 -- a kind past the last
-pub formed-other : (w : ℕ) (s : List ℕ) → 12 ≤ getD s 0 0 → isSome (decodeRecord w s) ≡ false
+pub formed-other : (w : ℕ) (s : List ℕ) → kinds ≤ getD s 0 0 → isSome (decodeRecord w s) ≡ false
 unfolding decodeRecord oneRecord content contents
 formed-other w [] h = refl
 formed-other w (k ∷ l) h = rw (List·getD-eq-default (contents w) (λ _. refused) h)

@@ -19,7 +19,7 @@ getD-le m (x ∷ xs) zero h = h .0
 getD-le m (x ∷ xs) (suc k) h = getD-le m xs k (h .1)
 
 pub plain-le : (k : ℕ) → getD plainBytes k 0 ≤ 11
-plain-le k = getD-le 11 plainBytes k (omega arith, (omega arith, (omega arith, (omega arith, (omega arith, (omega arith, (omega arith, (omega arith, (omega arith, (omega arith, (omega arith, (omega arith, tt))))))))))))
+plain-le k = getD-le 11 plainBytes k (omega arith, (omega arith, (omega arith, (omega arith, (omega arith, (omega arith, (omega arith, (omega arith, (omega arith, (omega arith, (omega arith, (omega arith, (omega arith, (omega arith, tt))))))))))))))
 
 pub ids-le : (k w : ℕ) → w ≤ 8 → getD idCounts k 0 * w ≤ 24
-ids-le k w h = mul-le-mul (getD-le 3 idCounts k (omega arith, (omega arith, (omega arith, (omega arith, (omega arith, (omega arith, (omega arith, (omega arith, (omega arith, (omega arith, (omega arith, (omega arith, tt))))))))))))) h
+ids-le k w h = mul-le-mul (getD-le 3 idCounts k (omega arith, (omega arith, (omega arith, (omega arith, (omega arith, (omega arith, (omega arith, (omega arith, (omega arith, (omega arith, (omega arith, (omega arith, (omega arith, (omega arith, tt))))))))))))))) h

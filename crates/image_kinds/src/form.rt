@@ -59,11 +59,13 @@ pub fn skip_content(bytes: &[u8], w: usize, k: u8) -> Found
         ),
         10 => skip_second(bytes, w, skip_identifier(bytes, w, skip_code(bytes, 5, f))),
         11 => skip_list(bytes, w, skip_identifier(bytes, w, f)),
+        12 => skip_identifier(bytes, w, skip_code(bytes, 1, f)),
+        13 => skip_identifier(bytes, w, f),
         _ => Found::Nothing,
     }
 }
 
-// Is s a record of a known kind, of exactly its length, with every count, code and mark in range, and I64's bytes zero?
+// Are the bytes a record of a known kind, of exactly its length, with every count, code and mark in range, and I64's bytes zero?
 pub fn record_formed(bytes: &[u8], w: usize) -> bool
     requires { ⌜ w ≤ 8 ⌝ }
     ensures { λ r. ⌜ r ≡ isSome (decodeRecord w (now (bytes .entry))) ⌝ }

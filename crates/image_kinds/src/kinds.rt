@@ -2,7 +2,7 @@
 use image_fields::count;
 ghost use mathlib.Core.Path.{_≡_};
 ghost use Prim.Native.Nat.{_≤_, _<_};
-ghost use Rattle.image_spec.specs.Kinds.{fixed, bodies};
+ghost use Rattle.image_spec.specs.Kinds.{kinds, fixed, bodies};
 ghost use Rattle.image_kinds.specs.Table.{IsKind};
 
 pub struct Kind {
@@ -37,11 +37,15 @@ impl Kind {
 
     pub const CLAUSE: u8 = 11;
 
+    pub const PRINT: u8 = 12;
+
+    pub const EXIT: u8 = 13;
+
     // One more than the last.
-    pub const COUNT: u8 = 12;
+    pub const COUNT: u8 = 14;
 
     // By the kind byte; 0 is no kind.
-    pub const TABLE: [Kind; 12] = [
+    pub const TABLE: [Kind; 14] = [
         // none
         Kind {
             plain: 0,
@@ -114,10 +118,22 @@ impl Kind {
             ids: 1,
             bodies: 1,
         },
+        // PrintI64
+        Kind {
+            plain: 4,
+            ids: 1,
+            bodies: 1, // its next
+        },
+        // Exit
+        Kind {
+            plain: 3,
+            ids: 1,
+            bodies: 0,
+        },
     ];
 
     pub fn of(kind: u8) -> Kind
-        requires { ⌜ kind < 12 ⌝ }
+        requires { ⌜ kind < kinds ⌝ }
         ensures { λ r. ⌜ IsKind r kind ⌝ }
     {
         Kind::TABLE[count(kind)]
@@ -125,7 +141,7 @@ impl Kind {
 
     // The bytes of the fixed part, with IDs of w bytes.
     pub fn fixed(kind: u8, w: usize) -> usize
-        requires { ⌜ (kind < 12) × (w ≤ 8) ⌝ }
+        requires { ⌜ (kind < kinds) × (w ≤ 8) ⌝ }
         ensures { λ r. ⌜ r ≡ «fixed» w kind ⌝ }
     {
         let row = Kind::of(kind);
@@ -133,7 +149,7 @@ impl Kind {
     }
 
     pub fn bodies(kind: u8) -> usize
-        requires { ⌜ kind < 12 ⌝ }
+        requires { ⌜ kind < kinds ⌝ }
         ensures { λ r. ⌜ r ≡ «bodies» kind ⌝ }
     {
         let row = Kind::of(kind);

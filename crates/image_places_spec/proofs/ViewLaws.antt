@@ -4,7 +4,7 @@ use mathlib.Core.Path.{_≡_, refl, sym, ap, _∙_}
 use mathlib.Core.List.{List, [], _∷_, _++_, append-nil, append-assoc}
 use native.Mathlib.Omega.{arith}
 use lib.ListN.{length}
-use Rattle.model.specs.Syntax.{Stmt, Substitute, Call, Let, Switch, Create, Invoke, Literal, Op, IfC, Clauses, end, clause}
+use Rattle.model.specs.Syntax.{Stmt, Substitute, Call, Let, Switch, Create, Invoke, Literal, Op, IfC, PrintI64, Exit, Clauses, end, clause}
 use Rattle.model.specs.Sizes.{depth, depthClauses, countClauses}
 use Rattle.image_spec.specs.Parse.{each, All}
 use Rattle.image_spec.specs.Records.{Record}
@@ -23,6 +23,8 @@ flatten-view (Invoke var tag ty args) = refl
 flatten-view (Literal lit var next) = rw append-nil refl
 flatten-view (Op fst o snd var next) = rw append-nil refl
 flatten-view (IfC sort fst snd thenc elsec) = rw append-nil refl
+flatten-view (PrintI64 newline var next) = rw append-nil refl
+flatten-view (Exit var) = refl
 
 -- the table of kinds says how many there are
 pub clauses-counted : (t : Stmt) → countClauses (clausesIn t) ≡ clausesOf (recordOf t)
@@ -35,6 +37,8 @@ clauses-counted (Invoke var tag ty args) = refl
 clauses-counted (Literal lit var next) = refl
 clauses-counted (Op fst o snd var next) = refl
 clauses-counted (IfC sort fst snd thenc elsec) = refl
+clauses-counted (PrintI64 newline var next) = refl
+clauses-counted (Exit var) = refl
 
 pub bodies-counted : (t : Stmt) → length (bodiesOf t) ≡ bodies (kindOf (recordOf t))
 bodies-counted (Substitute ps next) = refl
@@ -46,6 +50,8 @@ bodies-counted (Invoke var tag ty args) = refl
 bodies-counted (Literal lit var next) = refl
 bodies-counted (Op fst o snd var next) = refl
 bodies-counted (IfC sort fst snd thenc elsec) = refl
+bodies-counted (PrintI64 newline var next) = refl
+bodies-counted (Exit var) = refl
 
 -- a statement is at least one deep, and what follows it less deep than it
 pub record Shallower (d : ℕ) (t : Stmt) : Type 0 where
@@ -64,3 +70,5 @@ shallower d (Invoke var tag ty args) h = record { positive = omega arith; clause
 shallower d (Literal lit var next) h = record { positive = omega arith; clauses = omega arith; bodies = (omega arith, tt) }
 shallower d (Op fst o snd var next) h = record { positive = omega arith; clauses = omega arith; bodies = (omega arith, tt) }
 shallower d (IfC sort fst snd thenc elsec) h = record { positive = omega arith; clauses = omega arith; bodies = (omega arith, (omega arith, tt)) }
+shallower d (PrintI64 newline var next) h = record { positive = omega arith; clauses = omega arith; bodies = (omega arith, tt) }
+shallower d (Exit var) h = record { positive = omega arith; clauses = omega arith; bodies = tt }

@@ -12,7 +12,7 @@ use Rattle.syntax.specs.declared.names.VarId.{VarId}
 use Rattle.syntax.specs.declared.context.ContextBinding.{ContextBinding}
 use Rattle.image_spec.specs.Parse.{each, All}
 use Rattle.image_spec.specs.Fields.{chiralityCode, identifierBytes, typeBytes, bindingBytes, listBytes, IdentifierOk, BindingOk, ListOk}
-use Rattle.image_spec.specs.Records.{Record, definition, substitute, call, let', switch, create, invoke, literal, op, ifc, clause', recordBytes, RecordOk}
+use Rattle.image_spec.specs.Records.{Record, definition, substitute, call, let', switch, create, invoke, literal, op, ifc, clause', print, exit, recordBytes, RecordOk}
 use Rattle.image_spec.specs.Kinds.{kindOf, fixed, tailBytes}
 use Rattle.image_spec.proofs.FieldLaws.{binding-length}
 use Rattle.image_spec.proofs.KindLaws.{fixed-le}
@@ -41,6 +41,8 @@ module _ (w : ℕ) where
   list-tail (op f o j v) a ok = no a
   list-tail (ifc c f j) a ok = no a
   list-tail (clause' x Γ) a ok = (refl, ok .1)
+  list-tail (print n v) a ok = no a
+  list-tail (exit v) a ok = no a
 
   pub list-stands : (r : Record) (k : ℕ) → kindOf r ≡ k → hasList k ≡ true → RecordOk w r → Stands (listBytes w) (ListOk w) (recordBytes w r) (fixed w k) (listOf r)
   list-stands r k e h ok =

@@ -12,8 +12,8 @@ use Rattle.syntax.specs.Context.{ids}
 use Rattle.syntax.specs.declared.names.Identifier.{Identifier}
 use Rattle.model.specs.FreeVars.{optionalId}
 use Rattle.image_spec.specs.Fields.{operatorCode, identifierBytes, IdentifierOk}
-use Rattle.image_spec.specs.Records.{Record, definition, substitute, call, let', switch, create, invoke, literal, op, ifc, clause', recordBytes, RecordOk}
-use Rattle.image_spec.specs.Kinds.{kindOf, clausesOf, fixed, tailBytes}
+use Rattle.image_spec.specs.Records.{Record, definition, substitute, call, let', switch, create, invoke, literal, op, ifc, clause', print, exit, recordBytes, RecordOk}
+use Rattle.image_spec.specs.Kinds.{kindOf, kinds, clausesOf, fixed, tailBytes}
 use Rattle.image_spec.proofs.FieldLaws.{field-length, identifier-length}
 use Rattle.image_spec.proofs.KindLaws.{tail-at}
 use Rattle.image_directory.specs.Slots.{recordsIn}
@@ -34,12 +34,12 @@ record-ok g s i k a =
     let v = seen g s i (a .ready) (a .inside) in
     subst (λ (l : List Record). RecordOk (g .id) (headOf l)) (sym (v .list)) (v .ok)
 
-pub kind-below : (g : Frame) (s : List ℕ) (i k : ℕ) → At g s i k → k < 12
+pub kind-below : (g : Frame) (s : List ℕ) (i k : ℕ) → At g s i k → k < kinds
 kind-below g s i k a =
     let v = seen g s i (a .ready) (a .inside) in
     let r = recordAt g s i in
     let e : nodeOf (drop i (recordsIn g s)) ≡ Is (kindOf r) (clausesOf r) = rw (v .list) refl in
-    subst (λ (n : ℕ). n < 12) (a .kind) (kind-small (recordsIn g s) i (kindOf r) (clausesOf r) e)
+    subst (λ (n : ℕ). n < kinds) (a .kind) (kind-small (recordsIn g s) i (kindOf r) (clausesOf r) e)
 
 -- ── identifiers ──
 
@@ -63,6 +63,8 @@ module _ (w : ℕ) where
   first-stands (op f o j v) a ok = record { others = _; bytes = refl; fits = ok .0 }
   first-stands (ifc c f j) a ok = record { others = _; bytes = refl; fits = ok .1 .0 }
   first-stands (clause' x Γ) a ok = record { others = _; bytes = refl; fits = ok .0 }
+  first-stands (print n v) a ok = record { others = []; bytes = sym (append-nil _); fits = ok .1 }
+  first-stands (exit v) a ok = record { others = []; bytes = sym (append-nil _); fits = ok }
 
   pub operand-stands : (r : Record) → kindOf r ≡ 9 → RecordOk w r → Stands (identifierBytes w) (IdentifierOk w) (recordBytes w r) (4 + w) (operandOf r)
   unfolding recordBytes RecordOk
@@ -85,6 +87,8 @@ module _ (w : ℕ) where
       }
   operand-stands (ifc c f j) a ok = absurd (omega arith)
   operand-stands (clause' x Γ) a ok = absurd (omega arith)
+  operand-stands (print n v) a ok = absurd (omega arith)
+  operand-stands (exit v) a ok = absurd (omega arith)
 
   pub target-stands : (r : Record) → kindOf r ≡ 9 → RecordOk w r → Stands (identifierBytes w) (IdentifierOk w) (recordBytes w r) (6 + (w + w)) (targetOf r)
   unfolding recordBytes RecordOk
@@ -109,6 +113,8 @@ module _ (w : ℕ) where
       }
   target-stands (ifc c f j) a ok = absurd (omega arith)
   target-stands (clause' x Γ) a ok = absurd (omega arith)
+  target-stands (print n v) a ok = absurd (omega arith)
+  target-stands (exit v) a ok = absurd (omega arith)
 
   -- an IfC's second operand, by its mark
   pub second-none : (r : Record) → kindOf r ≡ 10 → getD (tailBytes w r) 0 0 ≡ 0 → optionalId (secondOf r) ≡ []
@@ -124,6 +130,8 @@ module _ (w : ℕ) where
   second-none (ifc c f none) a q = refl
   second-none (ifc c f (some x)) a q = absurd (omega arith)
   second-none (clause' x Γ) a q = absurd (omega arith)
+  second-none (print n v) a q = absurd (omega arith)
+  second-none (exit v) a q = absurd (omega arith)
 
   pub record Second (r : Record) : Type 0 where
     pub var : Identifier
@@ -152,6 +160,8 @@ module _ (w : ℕ) where
     };
   }
   second-some (clause' x Γ) a ok q = absurd (omega arith)
+  second-some (print n v) a ok q = absurd (omega arith)
+  second-some (exit v) a ok q = absurd (omega arith)
 
 -- the same, of the record at an index
 module _ (g : Frame) (s : List ℕ) (i : ℕ) where
@@ -172,7 +182,7 @@ module _ (g : Frame) (s : List ℕ) (i : ℕ) where
 pub uses-are : (r : Record)
     → usesOf r ≡ cond (eqb (kindOf r) 3) (ids (listOf r)) (cond (eqb (kindOf r) 4) (ids (listOf r)) (cond (eqb (kindOf r) 5) (firstOf r .id ∷ [])
     (cond (eqb (kindOf r) 7) (firstOf r .id ∷ ids (listOf r)) (cond (eqb (kindOf r) 9) (firstOf r .id ∷ operandOf r .id ∷ [])
-    (cond (eqb (kindOf r) 10) (firstOf r .id ∷ optionalId (secondOf r)) [])))))
+    (cond (eqb (kindOf r) 10) (firstOf r .id ∷ optionalId (secondOf r)) (cond (eqb (kindOf r) 12) (firstOf r .id ∷ []) (cond (eqb (kindOf r) 13) (firstOf r .id ∷ []) [])))))))
 uses-are (definition x Γ) = refl
 uses-are (substitute ps) = refl
 uses-are (call x Γ) = refl
@@ -184,6 +194,8 @@ uses-are (literal z v) = refl
 uses-are (op f o j v) = refl
 uses-are (ifc c f j) = refl
 uses-are (clause' x Γ) = refl
+uses-are (print n v) = refl
+uses-are (exit v) = refl
 
 pub binders-are : (r : Record)
     → binders r ≡ cond (eqb (kindOf r) 4) (firstOf r .id ∷ []) (cond (eqb (kindOf r) 6) (firstOf r .id ∷ []) (cond (eqb (kindOf r) 8) (firstOf r .id ∷ [])
@@ -199,3 +211,5 @@ binders-are (literal z v) = refl
 binders-are (op f o j v) = refl
 binders-are (ifc c f j) = refl
 binders-are (clause' x Γ) = refl
+binders-are (print n v) = refl
+binders-are (exit v) = refl

@@ -9,8 +9,8 @@ use native.Mathlib.Numerals.{add-one}
 use lib.Dec.{leb, eqb}
 use lib.ListN.{length, drop, getD, length-drop}
 use lib.Seq.{drop-drop, drop-cons}
-use Rattle.image_spec.specs.Records.{Record, definition, substitute, call, let', switch, create, invoke, literal, op, ifc, clause', recordBytes, RecordOk}
-use Rattle.image_spec.specs.Kinds.{kindOf, clausesOf, fixed, tailBytes}
+use Rattle.image_spec.specs.Records.{Record, definition, substitute, call, let', switch, create, invoke, literal, op, ifc, clause', print, exit, recordBytes, RecordOk}
+use Rattle.image_spec.specs.Kinds.{kindOf, kinds, clausesOf, fixed, tailBytes}
 use Rattle.image_spec.proofs.KindLaws.{tail-at}
 use Rattle.image_directory.specs.Slots.{Ready, recordsIn}
 use Rattle.image_directory.specs.declared.Frame.{Frame}
@@ -28,7 +28,7 @@ module _ (g : Frame) (s : List ℕ) (i : ℕ) where
   pub record Looked (k c : ℕ) : Type 0 where
     pub at : At g s i k
     pub count : clausesOf (recordAt g s i) ≡ c
-    pub small : k < 12
+    pub small : k < kinds
 
   pub looked : (k c : ℕ) → Ready g s → nodeOf (drop i (recordsIn g s)) ≡ Is k c → Looked k c
   looked k c h e =
@@ -85,21 +85,23 @@ module _ (g : Frame) (s : List ℕ) (i : ℕ) {o : ℕ} (t : Stands (recordBytes
       let m = tail-room g s i k 0 p a (q ∙ omega arith) h in
       record { inside = omega (arith, part-room (a .ready .id .1) t m .inside); byte = tail-byte (g .id) k (recordAt g s i) 0 p (a .kind) (q ∙ omega arith) h (part-reads t m byte-reads) }
 
--- every kind but Literal and Op has a tail
-pub tail-some : (w : ℕ) (r : Record) → (kindOf r ≡ 8 → ⊥) → (kindOf r ≡ 9 → ⊥) → 0 < length (tailBytes w r)
-tail-some w (definition x Γ) a b = omega arith
-tail-some w (substitute ps) a b = omega arith
-tail-some w (call x Γ) a b = omega arith
-tail-some w (let' v t g Γ) a b = omega arith
-tail-some w (switch v t n) a b = omega arith
-tail-some w (create v t none n) a b = omega arith
-tail-some w (create v t (some Γ) n) a b = omega arith
-tail-some w (invoke v g t Γ) a b = omega arith
-tail-some w (literal z v) a b = absurd (a refl)
-tail-some w (op f o s v) a b = absurd (b refl)
-tail-some w (ifc c f none) a b = omega arith
-tail-some w (ifc c f (some x)) a b = omega arith
-tail-some w (clause' x Γ) a b = omega arith
+-- every kind but Literal, Op, PrintI64 and Exit has a tail
+pub tail-some : (w : ℕ) (r : Record) → (kindOf r ≡ 8 → ⊥) → (kindOf r ≡ 9 → ⊥) → (kindOf r ≡ 12 → ⊥) → (kindOf r ≡ 13 → ⊥) → 0 < length (tailBytes w r)
+tail-some w (definition x Γ) a b d e = omega arith
+tail-some w (substitute ps) a b d e = omega arith
+tail-some w (call x Γ) a b d e = omega arith
+tail-some w (let' v t g Γ) a b d e = omega arith
+tail-some w (switch v t n) a b d e = omega arith
+tail-some w (create v t none n) a b d e = omega arith
+tail-some w (create v t (some Γ) n) a b d e = omega arith
+tail-some w (invoke v g t Γ) a b d e = omega arith
+tail-some w (literal z v) a b d e = absurd (a refl)
+tail-some w (op f o s v) a b d e = absurd (b refl)
+tail-some w (ifc c f none) a b d e = omega arith
+tail-some w (ifc c f (some x)) a b d e = omega arith
+tail-some w (clause' x Γ) a b d e = omega arith
+tail-some w (print n v) a b d e = absurd (d refl)
+tail-some w (exit v) a b d e = absurd (e refl)
 
 -- behind a mark that is not 0 there is more
 pub mark-more : (w : ℕ) (r : Record) → (kindOf r ≡ 6) → 1 < length (tailBytes w r)
@@ -115,3 +117,5 @@ mark-more w (literal z v) a = absurd (omega arith)
 mark-more w (op f o s v) a = absurd (omega arith)
 mark-more w (ifc c f x) a = absurd (omega arith)
 mark-more w (clause' x Γ) a = absurd (omega arith)
+mark-more w (print n v) a = absurd (omega arith)
+mark-more w (exit v) a = absurd (omega arith)

@@ -8,7 +8,7 @@ use lib.Dec.{eqb}
 use lib.ListN.{drop, getD}
 use Rattle.syntax.specs.Context.{emptyBinding}
 use Rattle.syntax.specs.declared.names.Identifier.{Identifier}
-use Rattle.image_spec.specs.Records.{Record, definition, substitute, call, let', switch, create, invoke, literal, op, ifc, clause'}
+use Rattle.image_spec.specs.Records.{Record, definition, substitute, call, let', switch, create, invoke, literal, op, ifc, clause', print, exit}
 use Rattle.image_spec.specs.Kinds.{kindOf, clausesOf, bodies}
 use Rattle.image_directory.specs.Slots.{Ready, recordsIn}
 use Rattle.image_directory.specs.declared.Frame.{Frame}
@@ -51,10 +51,12 @@ firstOf (literal z v) = v
 firstOf (op f o s v) = f
 firstOf (ifc c f s) = f
 firstOf (clause' x Γ) = x
+firstOf (print n v) = v
+firstOf (exit v) = v
 
 -- .. and where it stands
 abbrev pub firstAt : ℕ → ℕ
-firstAt k = cond (eqb k 8) 9 (cond (eqb k 10) 2 1)
+firstAt k = cond (eqb k 8) 9 (cond (eqb k 10) 2 (cond (eqb k 12) 2 1))
 
 -- the second operand of an Op
 abbrev pub operandOf : Record → Identifier
@@ -69,6 +71,8 @@ operandOf (literal z v) = noIdentifier
 operandOf (op f o s v) = s
 operandOf (ifc c f s) = noIdentifier
 operandOf (clause' x Γ) = noIdentifier
+operandOf (print n v) = noIdentifier
+operandOf (exit v) = noIdentifier
 
 -- the var of an Op
 abbrev pub targetOf : Record → Identifier
@@ -83,6 +87,8 @@ targetOf (literal z v) = noIdentifier
 targetOf (op f o s v) = v
 targetOf (ifc c f s) = noIdentifier
 targetOf (clause' x Γ) = noIdentifier
+targetOf (print n v) = noIdentifier
+targetOf (exit v) = noIdentifier
 
 -- the second operand of an IfC, if there is one
 abbrev pub secondOf : Record → Option Identifier
@@ -97,3 +103,5 @@ secondOf (literal z v) = none
 secondOf (op f o s v) = none
 secondOf (ifc c f s) = s
 secondOf (clause' x Γ) = none
+secondOf (print n v) = none
+secondOf (exit v) = none

@@ -64,6 +64,9 @@ fn first_at(kind: u8) -> usize
     if kind == Kind::IFC {
         return 2;
     }
+    if kind == Kind::PRINT {
+        return 2;
+    }
     1
 }
 

@@ -9,7 +9,7 @@ use Rattle.syntax.specs.Context.{emptyBinding}
 use Rattle.syntax.specs.declared.names.Identifier.{Identifier}
 use Rattle.syntax.specs.declared.context.ContextBinding.{ContextBinding}
 use Rattle.image_spec.specs.Fields.{identifierBytes, bindingBytes, listBytes, IdentifierOk, BindingOk, ListOk}
-use Rattle.image_spec.specs.Records.{Record, definition, substitute, call, let', switch, create, invoke, literal, op, ifc, clause', recordBytes, RecordOk}
+use Rattle.image_spec.specs.Records.{Record, definition, substitute, call, let', switch, create, invoke, literal, op, ifc, clause', print, exit, recordBytes, RecordOk}
 use Rattle.image_spec.specs.Kinds.{kindOf, fixed, tailBytes}
 use Rattle.image_spec.proofs.FieldLaws.{identifier-length, binding-length}
 use Rattle.image_read_parts.specs.Standing.{Stands}
@@ -31,6 +31,8 @@ module _ (w : ℕ) where
   tail-list (op f o s v) h = absurd h
   tail-list (ifc c f s) h = absurd h
   tail-list (clause' x Γ) h = refl
+  tail-list (print n v) h = absurd h
+  tail-list (exit v) h = absurd h
 
   pub list-ok : (r : Record) → RecordOk w r → HasList r → ListOk w (listOf r)
   unfolding RecordOk
@@ -45,6 +47,8 @@ module _ (w : ℕ) where
   list-ok (op f o s v) ok h = absurd h
   list-ok (ifc c f s) ok h = absurd h
   list-ok (clause' x Γ) ok h = ok .1
+  list-ok (print n v) ok h = absurd h
+  list-ok (exit v) ok h = absurd h
 
 -- the same in bytes where a record stands
 module _ (w : ℕ) (s : List ℕ) (o : ℕ) (r : Record) (st : Stands (recordBytes w) (RecordOk w) s o r) where

@@ -1,6 +1,7 @@
 -- Where the parts of each record stand in its bytes: `let-tag` says that a Let's tag stands 6 + 2 × w bytes into it, and so on.
 -- w is the number of bytes of an ID. Counts, lists, marks and what follows them stand in the tail (TailPlaces.antt). Assumes nothing.
 use Prim.Native.Nat.{ℕ, _+_}
+use mathlib.Core.Bool.{Bool}
 use mathlib.Core.List.{List, [], _∷_, _++_, append-assoc, append-nil}
 use mathlib.Core.Option.{Option}
 use mathlib.Core.Path.{_≡_, refl, ap, sym, _∙_}
@@ -16,8 +17,8 @@ use Rattle.syntax.specs.declared.types.Ty.{Ty}
 use Rattle.syntax.specs.declared.op.BinOp.{BinOp}
 use Rattle.syntax.specs.declared.ifc.IfSort.{IfSort}
 use Rattle.image_spec.specs.Parse.{mark}
-use Rattle.image_spec.specs.Fields.{operatorCode, sortCode, integerBytes, identifierBytes, typeBytes, listBytes, IdentifierOk, TypeOk}
-use Rattle.image_spec.specs.Records.{let', switch, create, invoke, literal, op, ifc, recordBytes, RecordOk}
+use Rattle.image_spec.specs.Fields.{operatorCode, sortCode, newlineCode, integerBytes, identifierBytes, typeBytes, listBytes, IdentifierOk, TypeOk}
+use Rattle.image_spec.specs.Records.{let', switch, create, invoke, literal, op, ifc, print, exit, recordBytes, RecordOk}
 use Rattle.image_spec.proofs.FieldLaws.{identifier-length, type-length}
 use Rattle.image_read_parts.specs.Standing.{Stands}
 
@@ -101,3 +102,15 @@ module _ (w : ℕ) where
   pub ifc-fst : (c : IfSort) (f : Identifier) (s : Option Identifier) → RecordOk w (ifc c f s) → Stands (identifierBytes w) (IdentifierOk w) (recordBytes w (ifc c f s)) 2 f
   unfolding recordBytes RecordOk
   ifc-fst c f s ok = stands-here (10 ∷ sortCode c ∷ []) (mark (identifierBytes w) s) 2 refl (ok .1 .0) refl
+
+  pub print-code : (n : Bool) (v : Identifier) → RecordOk w (print n v) → Stands (byteOf) (λ _. Unit {0}) (recordBytes w (print n v)) 1 (newlineCode n)
+  unfolding recordBytes RecordOk
+  print-code n v ok = stands-here (12 ∷ []) (identifierBytes w v) 1 refl (ok .0) refl
+
+  pub print-var : (n : Bool) (v : Identifier) → RecordOk w (print n v) → Stands (identifierBytes w) (IdentifierOk w) (recordBytes w (print n v)) 2 v
+  unfolding recordBytes RecordOk
+  print-var n v ok = stands-here (12 ∷ newlineCode n ∷ []) ([]) 2 refl (ok .1) (ap (λ l. 12 ∷ newlineCode n ∷ l) (sym (append-nil (identifierBytes w v))))
+
+  pub exit-var : (v : Identifier) → RecordOk w (exit v) → Stands (identifierBytes w) (IdentifierOk w) (recordBytes w (exit v)) 1 v
+  unfolding recordBytes RecordOk
+  exit-var v ok = stands-here (13 ∷ []) ([]) 1 refl ok (ap (λ l. 13 ∷ l) (sym (append-nil (identifierBytes w v))))

@@ -1,7 +1,7 @@
 -- A part of records by name, whatever their kind: the list of bindings.
 use mathlib.Core.List.{[]}
 use Rattle.syntax.specs.Context.{Context}
-use Rattle.image_spec.specs.Records.{Record, definition, substitute, call, let', switch, create, invoke, literal, op, ifc, clause'}
+use Rattle.image_spec.specs.Records.{Record, definition, substitute, call, let', switch, create, invoke, literal, op, ifc, clause', print, exit}
 
 -- document 01, "The image": the list of a definition, Call, Let, Invoke or clause
 abbrev pub listOf : Record → Context
@@ -16,6 +16,8 @@ listOf (literal z v) = []
 listOf (op f o s v) = []
 listOf (ifc c f s) = []
 listOf (clause' x Γ) = Γ
+listOf (print n v) = []
+listOf (exit v) = []
 
 -- the record ends with a list
 abbrev pub HasList : Record → Type 0
@@ -30,3 +32,5 @@ HasList (literal z v) = ⊥
 HasList (op f o s v) = ⊥
 HasList (ifc c f s) = ⊥
 HasList (clause' x Γ) = Unit {0}
+HasList (print n v) = ⊥
+HasList (exit v) = ⊥

@@ -20,7 +20,7 @@ ghost use Prim.Native.Nat.{ℕ, _+_, _*_, _≤_, _<_, _^_};
 ghost use lib.ListN.{length, drop, getD};
 ghost use mir.Syntax.{w64};
 ghost use mir.Val.{SFits};
-ghost use Rattle.image_spec.specs.Fields.{chiralities, operators, sorts, integerBytes, identifierBytes, typeBytes, bindingBytes, IdentifierOk, TypeOk, BindingOk};
+ghost use Rattle.image_spec.specs.Fields.{chiralities, operators, sorts, newlines, integerBytes, identifierBytes, typeBytes, bindingBytes, IdentifierOk, TypeOk, BindingOk};
 ghost use Rattle.image_spec.specs.Records.{recordBytes, RecordOk};
 ghost use Rattle.image_directory.specs.Slots.{Ready, recordsIn};
 ghost use Rattle.syntax.specs.Context.{emptyBinding};
@@ -90,6 +90,15 @@ pub fn sort_of(b: u8) -> IfSort
         3 => IfSort::LessOrEqual,
         4 => IfSort::Greater,
         _ => IfSort::GreaterOrEqual,
+    }
+}
+
+pub fn newline_of(b: u8) -> bool
+    ensures { λ r. ⌜ IsCode newlines b r ⌝ }
+{
+    match b {
+        0 => false,
+        _ => true,
     }
 }
 

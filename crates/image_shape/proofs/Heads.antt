@@ -10,8 +10,8 @@ use lib.Dec.{leb, eqb}
 use lib.ListN.{length, drop, getD, length-drop}
 use lib.Seq.{drop-drop}
 use Rattle.image_spec.specs.Parse.{refused, got, Parser}
-use Rattle.image_spec.specs.Records.{Record, definition, substitute, call, let', switch, create, invoke, literal, op, ifc, clause'}
-use Rattle.image_spec.specs.Kinds.{kindOf, clausesOf}
+use Rattle.image_spec.specs.Records.{Record, definition, substitute, call, let', switch, create, invoke, literal, op, ifc, clause', print, exit}
+use Rattle.image_spec.specs.Kinds.{kindOf, kinds, clausesOf}
 use Rattle.image_fields.specs.Found.{foundIn, stop}
 use Rattle.image_fields.specs.declared.Found.the-variants.{At, Nothing}
 use Rattle.image_spec.specs.Shape.{clauseHead, definitionHead}
@@ -66,7 +66,7 @@ at-end p rs i e h = go (drop i rs) refl h (leb i (length rs))
     go [] q h false = refl
     go (r ∷ l) q h t = let z : _≡_ {A = ℕ} 0 1 = cc in absurd (omega arith)
 
-pub kind-small : (rs : List Record) (i k c : ℕ) → nodeOf (drop i rs) ≡ Is k c → k < 12
+pub kind-small : (rs : List Record) (i k c : ℕ) → nodeOf (drop i rs) ≡ Is k c → k < kinds
 kind-small rs i k c h = let p = place rs i k c h in rw (p .kind) (kind-below (p .head))
 
 clause-yes : (r : Record) → kindOf r ≡ 11 → (n : ℕ) (l : List Record) → foundIn n (clauseHead (r ∷ l)) ≡ foundIn {A = ℕ} n (got 0 l)
@@ -81,6 +81,8 @@ clause-yes (literal m v) h n l = absurd (omega arith)
 clause-yes (op f o g v) h n l = absurd (omega arith)
 clause-yes (ifc c f g) h n l = absurd (omega arith)
 clause-yes (clause' x bs) h n l = refl
+clause-yes (print m v) h n l = absurd (omega arith)
+clause-yes (exit v) h n l = absurd (omega arith)
 
 clause-not : (r : Record) → (kindOf r ≡ 11 → ⊥) → (n : ℕ) (l : List Record) → foundIn n (clauseHead (r ∷ l)) ≡ foundIn {X = Record} {A = ℕ} n refused
 clause-not (definition i bs) h n l = refl
@@ -94,6 +96,8 @@ clause-not (literal m v) h n l = refl
 clause-not (op f o g v) h n l = refl
 clause-not (ifc c f g) h n l = refl
 clause-not (clause' x bs) h n l = absurd (h refl)
+clause-not (print m v) h n l = refl
+clause-not (exit v) h n l = refl
 
 definition-yes : (r : Record) → kindOf r ≡ 1 → (n : ℕ) (l : List Record) → foundIn n (definitionHead (r ∷ l)) ≡ foundIn {A = ℕ} n (got 0 l)
 definition-yes (definition i bs) h n l = refl
@@ -107,6 +111,8 @@ definition-yes (literal m v) h n l = absurd (omega arith)
 definition-yes (op f o g v) h n l = absurd (omega arith)
 definition-yes (ifc c f g) h n l = absurd (omega arith)
 definition-yes (clause' x bs) h n l = absurd (omega arith)
+definition-yes (print m v) h n l = absurd (omega arith)
+definition-yes (exit v) h n l = absurd (omega arith)
 
 definition-not : (r : Record) → (kindOf r ≡ 1 → ⊥) → (n : ℕ) (l : List Record) → foundIn n (definitionHead (r ∷ l)) ≡ foundIn {X = Record} {A = ℕ} n refused
 definition-not (definition i bs) h n l = absurd (h refl)
@@ -120,6 +126,8 @@ definition-not (literal m v) h n l = refl
 definition-not (op f o g v) h n l = refl
 definition-not (ifc c f g) h n l = refl
 definition-not (clause' x bs) h n l = refl
+definition-not (print m v) h n l = refl
+definition-not (exit v) h n l = refl
 
 -- by a record's kind: the head that is looked for, or not
 head-yes : (k : ℕ) → IsHead k → (r : Record) → kindOf r ≡ k → (n : ℕ) (l : List Record) → foundIn n (headParser k (r ∷ l)) ≡ foundIn {A = ℕ} n (got 0 l)

@@ -9,7 +9,7 @@ use borrow.Author.Tests.{le-leb, eqb-true, eqb-false, eq-eqb, ne-eqb}
 use lib.Dec.{eqb}
 use lib.ListN.{length, drop, length-append}
 use Rattle.image_spec.specs.Parse.{Parsed, refused, got, Parser, both, times, whole}
-use Rattle.image_spec.specs.Records.{Record, definition, substitute, call, let', switch, create, invoke, literal, op, ifc, clause'}
+use Rattle.image_spec.specs.Records.{Record, definition, substitute, call, let', switch, create, invoke, literal, op, ifc, clause', print, exit}
 use Rattle.image_spec.specs.Kinds.{kindOf, clausesOf, bodies}
 use Rattle.image_fields.specs.Found.{foundIn, stop, Within}
 use Rattle.image_fields.specs.declared.Found.{Found}
@@ -71,6 +71,8 @@ module _ (d : ℕ) (p : Parser Record Stmt) (x : Exact flatten (Depth d) p) (rs 
   after i (op o3 o1 o2 v) h l a b = at-record (step p) p rs i (op o3 o1 o2 v) h l (λ n m. found-via _ n (p m)) ∙ (sym (one-body (At (i + 1))) ∙ ap (past-bodies 1) (sym (no-clauses (At (i + 1)) h)))
   after i (ifc u o3 o2) h l a b = at-record (step p) (both p p) rs i (ifc u o3 o2) h l (λ n m. found-via _ n (both p p m)) ∙ (stop-both p x rs (At (i + 1)) ∙ (sym (two-bodies (At (i + 1))) ∙ ap (past-bodies 2) (sym (no-clauses (At (i + 1)) h))))
   after i (clause' x bs) h l a b = absurd (b refl)
+  after i (print q v) h l a b = at-record (step p) p rs i (print q v) h l (λ n m. found-via _ n (p m)) ∙ (sym (one-body (At (i + 1))) ∙ ap (past-bodies 1) (sym (no-clauses (At (i + 1)) h)))
+  after i (exit v) h l a b = at-record {B = ℕ} (step p) (λ m. got 0 m) rs i (exit v) h l (λ n m. refl) ∙ (stop-none {A = ℕ} 0 rs (At (i + 1)) h ∙ (sym (no-clauses (At (i + 1)) h) ∙ sym (no-bodies _ (stop-within (clauses p 0) rs (At (i + 1))))))
 
   never : (i : ℕ) (r : Record) → i + 1 ≤ length rs → drop i rs ≡ r ∷ drop (i + 1) rs → (kindOf r ≡ 1) ⊎ (kindOf r ≡ 11) → stop (step p) rs (At i) ≡ Nothing
   unfolding step
@@ -85,6 +87,8 @@ module _ (d : ℕ) (p : Parser Record Stmt) (x : Exact flatten (Depth d) p) (rs 
   never i (op o3 o1 o2 v) h l a = absurd (⊎-elim (λ e. omega arith) (λ e. omega arith) a)
   never i (ifc u o3 o2) h l a = absurd (⊎-elim (λ e. omega arith) (λ e. omega arith) a)
   never i (clause' x bs) h l a = at-record {B = ℕ} (step p) (λ m. refused) rs i (clause' x bs) h l (λ n m. refl) ∙ never-stops Record ℕ rs (At (i + 1))
+  never i (print q v) h l a = absurd (⊎-elim (λ e. omega arith) (λ e. omega arith) a)
+  never i (exit v) h l a = absurd (⊎-elim (λ e. omega arith) (λ e. omega arith) a)
 
 module _ (rs : List Record) where
   pub stmt-zero : (d : ℕ) (f : Found) → d ≡ 0 → stop (stmt d) rs f ≡ Nothing

@@ -1,5 +1,6 @@
 -- Reading a part of a record is exact for writing it, at every width of IDs; and how many bytes each part has. Assumes nothing.
 use Prim.Native.Nat.{ℕ, zero, suc, _+_, _/_}
+use mathlib.Core.Bool.{Bool, true, false}
 use mathlib.Core.List.{List, [], _∷_, _++_}
 use mathlib.Core.Path.{_≡_, refl, ap, sym, _∙_}
 use native.Mathlib.Omega.{arith}
@@ -19,7 +20,7 @@ use Rattle.syntax.specs.declared.ifc.IfSort.{IfSort}
 use Rattle.syntax.specs.declared.ifc.IfSort.the-variants.{Equal, NotEqual, Less, LessOrEqual, Greater, GreaterOrEqual}
 use mathlib.Core.Option.{some}
 use Rattle.image_spec.specs.Parse.{got, field, numbered, oneOf}
-use Rattle.image_spec.specs.Fields.{maxCount, chiralities, chiralityCode, operators, operatorCode, sorts, sortCode, integerBytes, integer, identifierBytes, typeBytes, bindingBytes, listBytes, pairBytes, IdentifierOk, TypeOk, BindingOk, ListOk, PairOk, identifier, type, binding, list, pair}
+use Rattle.image_spec.specs.Fields.{maxCount, chiralities, chiralityCode, operators, operatorCode, sorts, sortCode, newlines, newlineCode, integerBytes, integer, identifierBytes, typeBytes, bindingBytes, listBytes, pairBytes, IdentifierOk, TypeOk, BindingOk, ListOk, PairOk, identifier, type, binding, list, pair}
 use Rattle.image_spec.proofs.ParseLaws.{Sound, none-read, one-read, Exact, following, both-exact, via-exact, number-exact, zeros-exact, oneOf-exact, counted-exact}
 
 -- ---- codes
@@ -52,6 +53,13 @@ sort-exact = oneOf-exact sortCode sorts (refl, (refl, (refl, (refl, (refl, (refl
     back LessOrEqual = refl
     back Greater = refl
     back GreaterOrEqual = refl
+
+pub newline-exact : Exact (λ n. newlineCode n ∷ []) (λ _. Unit {0}) (oneOf newlines)
+newline-exact = oneOf-exact newlineCode newlines (refl, (refl, tt)) back
+  where
+    back : (n : Bool) → numbered newlines (newlineCode n) ≡ some n
+    back false = refl
+    back true = refl
 
 pub integer-exact : Exact integerBytes (SFits w64) integer
 unfolding integer

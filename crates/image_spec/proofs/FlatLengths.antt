@@ -3,7 +3,7 @@ use Prim.Native.Nat.{suc}
 use mathlib.Core.List.{List, [], _∷_}
 use mathlib.Core.Path.{_≡_, refl, ap, _∙_}
 use lib.ListN.{length, length-append}
-use Rattle.model.specs.Syntax.{Stmt, Substitute, Call, Let, Switch, Create, Invoke, Literal, Op, IfC, Clauses, end, clause, Def}
+use Rattle.model.specs.Syntax.{Stmt, Substitute, Call, Let, Switch, Create, Invoke, Literal, Op, IfC, PrintI64, Exit, Clauses, end, clause, Def}
 use Rattle.model.specs.Sizes.{records, recordsClauses, recordsDefs}
 use Rattle.image_spec.specs.Shape.{flatten, flattenClauses, flattenDefs}
 
@@ -20,6 +20,8 @@ mutual
   flatten-length (Literal lit var next) = ap suc (flatten-length next)
   flatten-length (Op fst op snd var next) = ap suc (flatten-length next)
   flatten-length (IfC sort fst snd thenc elsec) = ap suc (length-append (flatten thenc) (flatten elsec) ∙ rw (flatten-length thenc, flatten-length elsec))
+  flatten-length (PrintI64 newline var next) = ap suc (flatten-length next)
+  flatten-length (Exit var) = refl
 
   pub flattenClauses-length : (cs : Clauses) → length (flattenClauses cs) ≡ recordsClauses cs
   flattenClauses-length end = refl

@@ -9,9 +9,9 @@ use lib.Dec.{eqb}
 use lib.ListN.{length, drop, getD, length-append}
 use lib.Seq.{drop-at, getD-append-seam}
 use Rattle.image_spec.specs.Parse.{mark}
-use Rattle.image_spec.specs.Fields.{operatorCode, sortCode, integerBytes, identifierBytes, typeBytes, listBytes}
-use Rattle.image_spec.specs.Records.{Record, definition, substitute, call, let', switch, create, invoke, literal, op, ifc, clause', recordBytes}
-use Rattle.image_spec.specs.Kinds.{kindOf, clausesOf, fixed, tailBytes}
+use Rattle.image_spec.specs.Fields.{operatorCode, sortCode, newlineCode, integerBytes, identifierBytes, typeBytes, listBytes}
+use Rattle.image_spec.specs.Records.{Record, definition, substitute, call, let', switch, create, invoke, literal, op, ifc, clause', print, exit, recordBytes}
+use Rattle.image_spec.specs.Kinds.{kindOf, kinds, clausesOf, fixed, tailBytes}
 use Rattle.image_spec.proofs.FieldLaws.{field-length, type-length}
 
 module _ (w : ℕ) where
@@ -28,6 +28,8 @@ module _ (w : ℕ) where
   frontBytes (op f o g v) = (9 ∷ []) ++ ((identifierBytes w f) ++ ((operatorCode o ∷ []) ++ ((identifierBytes w g) ++ (identifierBytes w v))))
   frontBytes (ifc c f g) = (10 ∷ (sortCode c ∷ [])) ++ (identifierBytes w f)
   frontBytes (clause' x bs) = (11 ∷ []) ++ (identifierBytes w x)
+  frontBytes (print n v) = (12 ∷ (newlineCode n ∷ [])) ++ (identifierBytes w v)
+  frontBytes (exit v) = (13 ∷ []) ++ (identifierBytes w v)
 
   front-length : (r : Record) → length (frontBytes r) ≡ fixed w (kindOf r)
   unfolding frontBytes
@@ -42,6 +44,8 @@ module _ (w : ℕ) where
   front-length (op f o g v) = simp (length-append, field-length) (omega arith)
   front-length (ifc c f g) = simp (field-length) (omega arith)
   front-length (clause' x bs) = simp (field-length) (omega arith)
+  front-length (print n v) = simp (field-length) (omega arith)
+  front-length (exit v) = simp (field-length) (omega arith)
 
   front-tail : (r : Record) → recordBytes w r ≡ frontBytes r ++ tailBytes w r
   unfolding frontBytes recordBytes
@@ -60,6 +64,8 @@ module _ (w : ℕ) where
   front-tail (op f o g v) = sym (append-nil (frontBytes (op f o g v)))
   front-tail (ifc c f g) = simp (append-assoc)
   front-tail (clause' x bs) = simp (append-assoc)
+  front-tail (print n v) = sym (append-nil (frontBytes (print n v)))
+  front-tail (exit v) = sym (append-nil (frontBytes (exit v)))
 
   -- the tail begins where the table says
   pub tail-at : (r : Record) → drop (fixed w (kindOf r)) (recordBytes w r) ≡ tailBytes w r
@@ -83,6 +89,8 @@ kind-first w (literal n v) = refl
 kind-first w (op f o g v) = refl
 kind-first w (ifc c f g) = refl
 kind-first w (clause' x bs) = refl
+kind-first w (print n v) = refl
+kind-first w (exit v) = refl
 
 pub record-nonempty : (w : ℕ) (r : Record) → 0 < length (recordBytes w r)
 unfolding recordBytes
@@ -97,6 +105,8 @@ record-nonempty w (literal n v) = omega arith
 record-nonempty w (op f o g v) = omega arith
 record-nonempty w (ifc c f g) = omega arith
 record-nonempty w (clause' x bs) = omega arith
+record-nonempty w (print n v) = omega arith
+record-nonempty w (exit v) = omega arith
 
 -- the last element of a list
 abbrev pub last : List ℕ → ℕ
@@ -125,9 +135,10 @@ clauses-last w (literal n v) = refl
 clauses-last w (op f o g v) = refl
 clauses-last w (ifc c f g) = refl
 clauses-last w (clause' x bs) = refl
+clauses-last w (print n v) = refl
+clauses-last w (exit v) = refl
 
--- there are eleven kinds
-pub kind-below : (r : Record) → kindOf r < 12
+pub kind-below : (r : Record) → kindOf r < kinds
 kind-below (definition i bs) = omega arith
 kind-below (substitute ps) = omega arith
 kind-below (call i bs) = omega arith
@@ -139,3 +150,5 @@ kind-below (literal n v) = omega arith
 kind-below (op f o g v) = omega arith
 kind-below (ifc c f g) = omega arith
 kind-below (clause' x bs) = omega arith
+kind-below (print n v) = omega arith
+kind-below (exit v) = omega arith

@@ -8,9 +8,9 @@ use native.Mathlib.Nat.{suc-add, add-suc, add-zero, zero-add}
 use lib.ListN.{getD}
 use Rattle.image_spec.specs.Parse.{refused, got, Parser, via}
 use Rattle.image_spec.specs.Fields.{maxCount}
-use Rattle.image_spec.specs.Records.{Record, definition, substitute, call, let', switch, create, invoke, literal, op, ifc, clause', recordBytes, RecordOk, contents, content, oneRecord, decodeRecord}
+use Rattle.image_spec.specs.Records.{Record, definition, substitute, call, let', switch, create, invoke, literal, op, ifc, clause', print, exit, recordBytes, RecordOk, contents, content, oneRecord, decodeRecord}
 use Rattle.image_spec.proofs.ParseLaws.{Sound, none-read, one-read, Exact, following, both-exact, code-exact, counted-exact, marked-exact, whole-left, whole-right}
-use Rattle.image_spec.proofs.FieldLaws.{operator-exact, sort-exact, integer-exact, identifier-exact, type-exact, list-exact, pair-exact}
+use Rattle.image_spec.proofs.FieldLaws.{operator-exact, sort-exact, newline-exact, integer-exact, identifier-exact, type-exact, list-exact, pair-exact}
 
 module _ (w : ℕ) where
   -- reading what follows the kind byte k
@@ -57,7 +57,13 @@ module _ (w : ℕ) where
                       arm 9 _ (both-exact (identifier-exact w) (both-exact operator-exact (both-exact (identifier-exact w) (identifier-exact w)))) (λ a o. (o, refl)),
                       (
                         arm 10 _ (both-exact sort-exact (both-exact (identifier-exact w) (marked-exact (identifier-exact w)))) (λ a o. (o, refl)),
-                        (arm 11 _ (both-exact (identifier-exact w) (list-exact w)) (λ a o. (o, refl)), tt),
+                        (
+                          arm 11 _ (both-exact (identifier-exact w) (list-exact w)) (λ a o. (o, refl)),
+                          (
+                            arm 12 _ (both-exact newline-exact (identifier-exact w)) (λ a o. (o, refl)),
+                            (arm 13 _ (identifier-exact w) (λ a o. (o, refl)), tt),
+                          ),
+                        ),
                       ),
                     ),
                   ),
@@ -83,6 +89,8 @@ module _ (w : ℕ) where
   record-left (op f c s v) o l = rw (both-exact (identifier-exact w) (both-exact operator-exact (both-exact (identifier-exact w) (identifier-exact w))) .left (f, (c, (s, v))) o l)
   record-left (ifc c f s) o l = rw (both-exact sort-exact (both-exact (identifier-exact w) (marked-exact (identifier-exact w))) .left (c, (f, s)) o l)
   record-left (clause' i bs) o l = rw (both-exact (identifier-exact w) (list-exact w) .left (i, bs) o l)
+  record-left (print n v) o l = rw (both-exact newline-exact (identifier-exact w) .left (n, v) o l)
+  record-left (exit v) o l = rw (identifier-exact w .left v o l)
 
   record-right : (l : List ℕ) → Sound (recordBytes w) (RecordOk w) l (oneRecord w l)
   unfolding oneRecord content Arm

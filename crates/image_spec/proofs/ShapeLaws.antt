@@ -8,10 +8,10 @@ use native.Mathlib.Omega.{arith}
 use lib.ListN.{length}
 use Rattle.syntax.specs.Context.{Context}
 use Rattle.syntax.specs.declared.names.Identifier.{Identifier}
-use Rattle.model.specs.Syntax.{Stmt, Substitute, Call, Let, Switch, Create, Invoke, Literal, Op, IfC, Clauses, end, clause, Def}
+use Rattle.model.specs.Syntax.{Stmt, Substitute, Call, Let, Switch, Create, Invoke, Literal, Op, IfC, PrintI64, Exit, Clauses, end, clause, Def}
 use Rattle.model.specs.Sizes.{depth, depthClauses, depthDefs, countClauses}
 use Rattle.image_spec.specs.Parse.{got, Parser, times, All}
-use Rattle.image_spec.specs.Records.{Record, definition, substitute, call, let', switch, create, invoke, literal, op, ifc, clause'}
+use Rattle.image_spec.specs.Records.{Record, definition, substitute, call, let', switch, create, invoke, literal, op, ifc, clause', print, exit}
 use Rattle.image_spec.specs.Shape.{flatten, flattenClauses, flattenDef, flattenDefs, clauseHead, definitionHead, clauses, step, stmt, maxDepth, DefOk, oneDef, definitions}
 use Rattle.image_spec.proofs.ParseLaws.{Sound, none-read, one-read, Exact, following, both-exact, via-exact, times-exact, whole-left, whole-right}
 
@@ -31,6 +31,8 @@ clauseHead-exact = record { left = λ t o l. refl; right = right }
     right (op f o g v ∷ l) = none-read
     right (ifc c f g ∷ l) = none-read
     right (clause' x bs ∷ l) = one-read tt refl
+    right (print n v ∷ l) = none-read
+    right (exit v ∷ l) = none-read
 
 pub definitionHead-exact : Exact (λ (t : Identifier × Context). definition (t .0) (t .1) ∷ []) (λ _. Unit {0}) definitionHead
 definitionHead-exact = record { left = λ t o l. refl; right = right }
@@ -48,6 +50,8 @@ definitionHead-exact = record { left = λ t o l. refl; right = right }
     right (op f o g v ∷ l) = none-read
     right (ifc c f g ∷ l) = none-read
     right (clause' x bs ∷ l) = none-read
+    right (print n v ∷ l) = none-read
+    right (exit v ∷ l) = none-read
 
 abbrev pub Within : ℕ → Stmt → Type 0
 Within d s = depth s ≤ d
@@ -91,6 +95,8 @@ step-exact {p} d x = record { left = left; right = right }
     left (Literal n v s) o l = rw (x .left s (omega arith) l)
     left (Op f c g v s) o l = rw (x .left s (omega arith) l)
     left (IfC c f g a b) o l = rw (both-exact x x .left (a, b) (omega arith, omega arith) l)
+    left (PrintI64 n v s) o l = rw (x .left s (omega arith) l)
+    left (Exit v) o l = refl
 
     right : (l : List Record) → Sound flatten (Within (suc d)) l (step p l)
     right [] = none-read
@@ -105,6 +111,8 @@ step-exact {p} d x = record { left = left; right = right }
     right (op f c g v ∷ l) = following _ (x .right l) (λ s m o e. one-read {a = Op f c g v s} (omega arith) (ap (λ z. op f c g v ∷ z) e))
     right (ifc c f g ∷ l) = following _ (both-exact x x .right l) (λ s m o e. one-read {a = IfC c f g (s .0) (s .1)} (omega (arith, o .0)) (ap (λ z. ifc c f g ∷ z) e))
     right (clause' i bs ∷ l) = none-read
+    right (print n v ∷ l) = following _ (x .right l) (λ s m o e. one-read {a = PrintI64 n v s} (omega arith) (ap (λ z. print n v ∷ z) e))
+    right (exit v ∷ l) = one-read {a = Exit v} (omega arith) refl
 
 depth-pos : (s : Stmt) → 1 ≤ depth s
 unfolding depth
@@ -117,6 +125,8 @@ depth-pos (Invoke v g t bs) = omega arith
 depth-pos (Literal n v s) = omega arith
 depth-pos (Op f o g v s) = omega arith
 depth-pos (IfC c f g a b) = omega arith
+depth-pos (PrintI64 n v s) = omega arith
+depth-pos (Exit v) = omega arith
 
 pub stmt-exact : (d : ℕ) → Exact flatten (λ s. depth s ≤ d) (stmt d)
 unfolding stmt

@@ -14,7 +14,7 @@ numberOf Size = 1
 numberOf LayoutNumber = 2
 -- 3. Is N at most 4,000, and do the pairs tile the bytes from 8 + 4 × N to the end?
 numberOf Directory = 3
--- 4. Is each record of kind 1 to 11, of exactly its length, every count at most 128, every code and mark in range, I64's four bytes zero?
+-- 4. Is each record of kind 1 to 11 (document 02, A.1: 1 to 13), of exactly its length, every count at most 128, every code and mark in range, I64's four bytes zero?
 numberOf RecordForm = 4
 -- 5. Are the records D definitions in the order above, at most 128 statements deep (a body is depth 1)?
 numberOf Shape = 5

@@ -1,5 +1,6 @@
 -- The parts of records: how each is written, what the layout can hold of it, and how it is read. w is the number of bytes of an ID.
 use Prim.Native.Nat.{ℕ, zero, suc, _+_, _^_, _≤_, _<_}
+use mathlib.Core.Bool.{Bool, true, false}
 use mathlib.Core.List.{List, [], _∷_, _++_}
 use lib.IntN.{ℤ}
 use lib.ListN.{length, replicate}
@@ -53,6 +54,14 @@ sortCode Less = 2
 sortCode LessOrEqual = 3
 sortCode Greater = 4
 sortCode GreaterOrEqual = 5
+
+-- document 02, A.1: newline byte 0 or 1
+abbrev pub newlines : List Bool
+newlines = false ∷ true ∷ []
+
+abbrev pub newlineCode : Bool → ℕ
+newlineCode false = 0
+newlineCode true = 1
 
 -- document 01, "The image": eight bytes, signed
 abbrev pub integerBytes : ℤ → List ℕ

@@ -4,7 +4,7 @@ use mathlib.Core.List.{List, [], _∷_, _++_}
 use lib.ListN.{length, getD}
 use Rattle.image_spec.specs.Parse.{each, mark}
 use Rattle.image_spec.specs.Fields.{identifierBytes, listBytes, pairBytes}
-use Rattle.image_spec.specs.Records.{Record, definition, substitute, call, let', switch, create, invoke, literal, op, ifc, clause'}
+use Rattle.image_spec.specs.Records.{Record, definition, substitute, call, let', switch, create, invoke, literal, op, ifc, clause', print, exit}
 
 -- document 01, "The image": the kind byte
 abbrev pub kindOf : Record → ℕ
@@ -19,6 +19,12 @@ kindOf (literal z v) = 8
 kindOf (op f o s v) = 9
 kindOf (ifc c f s) = 10
 kindOf (clause' x Γ) = 11
+kindOf (print n v) = 12
+kindOf (exit v) = 13
+
+-- one more than the last of them
+abbrev pub kinds : ℕ
+kinds = 14
 
 -- the clauses that follow a record, each with its body
 abbrev pub clausesOf : Record → ℕ
@@ -33,19 +39,21 @@ clausesOf (literal z v) = 0
 clausesOf (op f o s v) = 0
 clausesOf (ifc c f s) = 0
 clausesOf (clause' x Γ) = 0
+clausesOf (print n v) = 0
+clausesOf (exit v) = 0
 
 -- document 01, "The image": each kind has one fixed part and one number of bodies, clauses apart.
 -- By kind from 0: the bytes of the fixed part (the kind byte, and what stands before its list, mark or count) without its IDs
 abbrev pub plainBytes : List ℕ
-plainBytes = 0 ∷ 3 ∷ 1 ∷ 3 ∷ 8 ∷ 6 ∷ 6 ∷ 8 ∷ 11 ∷ 8 ∷ 4 ∷ 3 ∷ []
+plainBytes = 0 ∷ 3 ∷ 1 ∷ 3 ∷ 8 ∷ 6 ∷ 6 ∷ 8 ∷ 11 ∷ 8 ∷ 4 ∷ 3 ∷ 4 ∷ 3 ∷ []
 
 -- .. how many IDs are in it (one in a type)
 abbrev pub idCounts : List ℕ
-idCounts = 0 ∷ 1 ∷ 0 ∷ 1 ∷ 3 ∷ 2 ∷ 2 ∷ 3 ∷ 1 ∷ 3 ∷ 1 ∷ 1 ∷ []
+idCounts = 0 ∷ 1 ∷ 0 ∷ 1 ∷ 3 ∷ 2 ∷ 2 ∷ 3 ∷ 1 ∷ 3 ∷ 1 ∷ 1 ∷ 1 ∷ 1 ∷ []
 
--- .. and the bodies
+-- .. and the bodies (document 02, A.1: PrintI64 is followed by one body)
 abbrev pub bodyCounts : List ℕ
-bodyCounts = 0 ∷ 1 ∷ 1 ∷ 0 ∷ 1 ∷ 0 ∷ 1 ∷ 0 ∷ 1 ∷ 1 ∷ 2 ∷ 1 ∷ []
+bodyCounts = 0 ∷ 1 ∷ 1 ∷ 0 ∷ 1 ∷ 0 ∷ 1 ∷ 0 ∷ 1 ∷ 1 ∷ 2 ∷ 1 ∷ 1 ∷ 0 ∷ []
 
 abbrev pub bodies : ℕ → ℕ
 bodies k = getD bodyCounts k 0
@@ -68,3 +76,5 @@ module _ (w : ℕ) where
   tailBytes (op f o s v) = []
   tailBytes (ifc c f s) = mark (identifierBytes w) s
   tailBytes (clause' x Γ) = listBytes w Γ
+  tailBytes (print n v) = []
+  tailBytes (exit v) = []

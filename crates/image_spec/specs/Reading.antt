@@ -51,7 +51,7 @@ module _ (L : Layout) (s : List ℕ) where
   unfoldable pub question3 : Bool
   question3 = leb recordCount maxRecords && tiledFrom (L .place) recordCount (headerSize L) (bodyAt L recordCount) s
 
-  -- document 01, question 4: is each record of kind 1 to 11, of exactly its length, ..? (Records.antt)
+  -- document 01, question 4: is each record of kind 1 to 11 (document 02, A.1: 1 to 13), of exactly its length, ..? (Records.antt)
   unfoldable pub question4 : Bool
   question4 = isSome recordsOf
 

@@ -1,6 +1,7 @@
--- The flat records of the eleven kinds: how each is written, what the layout can hold, and how each is read (question 4).
+-- The flat records of the thirteen kinds: how each is written, what the layout can hold, and how each is read (question 4).
 -- w is the number of bytes of an ID.
 use Prim.Native.Nat.{ℕ, _≤_}
+use mathlib.Core.Bool.{Bool}
 use mathlib.Core.List.{List, [], _∷_, _++_}
 use mathlib.Core.Option.{Option}
 use lib.IntN.{ℤ}
@@ -14,7 +15,7 @@ use Rattle.syntax.specs.declared.context.ContextBinding.{ContextBinding}
 use Rattle.syntax.specs.declared.op.BinOp.{BinOp}
 use Rattle.syntax.specs.declared.ifc.IfSort.{IfSort}
 use Rattle.image_spec.specs.Parse.{refused, Parser, via, both, each, All, code, oneOf, counted, marked, mark, Marked, whole}
-use Rattle.image_spec.specs.Fields.{maxCount, operators, operatorCode, sorts, sortCode, integerBytes, integer, identifierBytes, typeBytes, listBytes, pairBytes, IdentifierOk, TypeOk, ListOk, PairOk, identifier, type, list, pair}
+use Rattle.image_spec.specs.Fields.{maxCount, operators, operatorCode, sorts, sortCode, newlines, newlineCode, integerBytes, integer, identifierBytes, typeBytes, listBytes, pairBytes, IdentifierOk, TypeOk, ListOk, PairOk, identifier, type, list, pair}
 
 -- a record without what follows it: a Switch or a Create has the number of its clauses
 pub data Record : Type 0 where
@@ -29,6 +30,8 @@ pub data Record : Type 0 where
   op : (fst : Identifier) (op : BinOp) (snd : Identifier) (var : Identifier) → Record
   ifc : (sort : IfSort) (fst : Identifier) (snd : Option Identifier) → Record
   clause' : (xtor : Identifier) (context : Context) → Record
+  print : (newline : Bool) (var : Identifier) → Record
+  exit : (var : Identifier) → Record
 
 module _ (w : ℕ) where
   -- document 01, "The image": each record opens with a kind byte
@@ -55,6 +58,10 @@ module _ (w : ℕ) where
   recordBytes (ifc c f s) = 10 ∷ ((sortCode c ∷ []) ++ (identifierBytes w f ++ mark (identifierBytes w) s))
   -- 11 clause: xtor, list
   recordBytes (clause' x Γ) = 11 ∷ (identifierBytes w x ++ listBytes w Γ)
+  -- document 02, A.1: PrintI64, kind 12 (newline byte 0 or 1, var)
+  recordBytes (print n v) = 12 ∷ ((newlineCode n ∷ []) ++ identifierBytes w v)
+  -- document 02, A.1: Exit, kind 13 (var)
+  recordBytes (exit v) = 13 ∷ identifierBytes w v
 
   -- what a record of the layout can hold
   unfoldable pub RecordOk : Record → Type 0
@@ -69,6 +76,8 @@ module _ (w : ℕ) where
   RecordOk (op f o s v) = IdentifierOk w f × (Unit {0} × (IdentifierOk w s × IdentifierOk w v))
   RecordOk (ifc c f s) = Unit {0} × (IdentifierOk w f × Marked (IdentifierOk w) s)
   RecordOk (clause' x Γ) = IdentifierOk w x × ListOk w Γ
+  RecordOk (print n v) = Unit {0} × IdentifierOk w v
+  RecordOk (exit v) = IdentifierOk w v
 
   -- what follows the kind byte, by kind from 0, which is none
   unfoldable pub contents : List (Parser ℕ Record)
@@ -85,9 +94,11 @@ module _ (w : ℕ) where
       ∷ via (λ t. op (t .0) (t .1 .0) (t .1 .1 .0) (t .1 .1 .1)) (both (identifier w) (both (oneOf operators) (both (identifier w) (identifier w))))
       ∷ via (λ t. ifc (t .0) (t .1 .0) (t .1 .1)) (both (oneOf sorts) (both (identifier w) (marked (identifier w))))
       ∷ via (λ t. clause' (t .0) (t .1)) (both (identifier w) (list w))
+      ∷ via (λ t. print (t .0) (t .1)) (both (oneOf newlines) (identifier w))
+      ∷ via exit (identifier w)
       ∷ []
 
-  -- document 01, question 4: is each record of kind 1 to 11 ..
+  -- document 01, question 4: is each record of kind 1 to 11 (document 02, A.1: 1 to 13) ..
   unfoldable pub content : ℕ → Parser ℕ Record
   content k = getD contents k (λ _. refused)
 

@@ -4,10 +4,10 @@ use mathlib.Core.List.{List, [], _∷_, _++_}
 use mathlib.Core.Option.{Option}
 use Rattle.syntax.specs.Context.{Context}
 use Rattle.syntax.specs.declared.names.Identifier.{Identifier}
-use Rattle.model.specs.Syntax.{Stmt, Substitute, Call, Let, Switch, Create, Invoke, Literal, Op, IfC, Clauses, end, clause, Def}
+use Rattle.model.specs.Syntax.{Stmt, Substitute, Call, Let, Switch, Create, Invoke, Literal, Op, IfC, PrintI64, Exit, Clauses, end, clause, Def}
 use Rattle.model.specs.Sizes.{depth, countClauses}
 use Rattle.image_spec.specs.Parse.{refused, got, Parser, via, both, times, each, whole}
-use Rattle.image_spec.specs.Records.{Record, definition, substitute, call, let', switch, create, invoke, literal, op, ifc, clause'}
+use Rattle.image_spec.specs.Records.{Record, definition, substitute, call, let', switch, create, invoke, literal, op, ifc, clause', print, exit}
 
 -- document 01, "The image": a statement, then its clauses (each followed by its body), then its next, or then-branch before else-branch
 unfoldable mutual
@@ -21,6 +21,8 @@ unfoldable mutual
   flatten (Literal lit var next) = literal lit var ∷ flatten next
   flatten (Op fst o snd var next) = op fst o snd var ∷ flatten next
   flatten (IfC sort fst snd thenc elsec) = ifc sort fst snd ∷ (flatten thenc ++ flatten elsec)
+  flatten (PrintI64 newline var next) = print newline var ∷ flatten next
+  flatten (Exit var) = exit var ∷ []
 
   pub flattenClauses : Clauses → List Record
   flattenClauses end = []
@@ -47,6 +49,8 @@ clauseHead (literal z v ∷ l) = refused
 clauseHead (op f o s v ∷ l) = refused
 clauseHead (ifc c f s ∷ l) = refused
 clauseHead (clause' x Γ ∷ l) = got (x, Γ) l
+clauseHead (print n v ∷ l) = refused
+clauseHead (exit v ∷ l) = refused
 
 -- a definition's record
 abbrev pub definitionHead : Parser Record (Identifier × Context)
@@ -62,6 +66,8 @@ definitionHead (literal z v ∷ l) = refused
 definitionHead (op f o s v ∷ l) = refused
 definitionHead (ifc c f s ∷ l) = refused
 definitionHead (clause' x Γ ∷ l) = refused
+definitionHead (print n v ∷ l) = refused
+definitionHead (exit v ∷ l) = refused
 
 -- n clauses, whose bodies p reads
 unfoldable pub clauses : Parser Record Stmt → ℕ → Parser Record Clauses
@@ -82,6 +88,8 @@ step p (literal z v ∷ l) = via (Literal z v) p l
 step p (op f o s v ∷ l) = via (Op f o s v) p l
 step p (ifc c f s ∷ l) = via (λ b. IfC c f s (b .0) (b .1)) (both p p) l
 step p (clause' x Γ ∷ l) = refused
+step p (print n v ∷ l) = via (PrintI64 n v) p l
+step p (exit v ∷ l) = got (Exit v) l
 
 -- a statement at most d statements deep
 unfoldable pub stmt : ℕ → Parser Record Stmt

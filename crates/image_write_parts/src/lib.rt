@@ -12,7 +12,7 @@ ghost use mathlib.Core.Bool.{true};
 ghost use Prim.Native.Nat.{_+_, _/_, _%_, _≤_, _<_, _^_};
 ghost use lib.ListN.{length};
 ghost use Rattle.image_spec.specs.Parse.{field};
-ghost use Rattle.image_spec.specs.Fields.{chiralityCode, operatorCode, sortCode, integerBytes, identifierBytes, typeBytes, bindingBytes};
+ghost use Rattle.image_spec.specs.Fields.{chiralityCode, operatorCode, sortCode, newlineCode, integerBytes, identifierBytes, typeBytes, bindingBytes};
 ghost use Rattle.image_write_parts.specs.Puts.{Puts};
 
 fn low(n: u32) -> u8
@@ -203,6 +203,15 @@ pub fn sort_code(c: IfSort) -> u8
         IfSort::Greater => 4,
         IfSort::GreaterOrEqual => 5,
     }
+}
+
+pub fn newline_code(newline: bool) -> u8
+    ensures { λ r. ⌜ r ≡ newlineCode newline ⌝ }
+{
+    if newline {
+        return 1;
+    }
+    0
 }
 
 // A binding: an identifier, a chirality and a type.

@@ -1,6 +1,7 @@
 // Records by kind. Call and Invoke come out with empty args, and Create with its environment.
 use crate::lists::put_list;
 use image_kinds::kinds::Kind;
+use image_write_parts::newline_code;
 use image_write_parts::operator_code;
 use image_write_parts::put_byte;
 use image_write_parts::put_identifier;
@@ -18,7 +19,7 @@ ghost use Prim.Native.Nat.{_+_, _≤_, _<_, _^_};
 ghost use Rattle.syntax.specs.Arrays.{contextOf};
 ghost use Rattle.image_spec.specs.Parse.{mark};
 ghost use Rattle.image_spec.specs.Fields.{identifierBytes, typeBytes, listBytes};
-ghost use Rattle.image_spec.specs.Records.{call, let', switch, create, invoke, literal, op, ifc, recordBytes};
+ghost use Rattle.image_spec.specs.Records.{call, let', switch, create, invoke, literal, op, ifc, print, exit, recordBytes};
 ghost use Rattle.image_write_parts.specs.Puts.{Puts};
 ghost use Rattle.image_write_records.specs.Marks.{ifMarked};
 
@@ -186,4 +187,20 @@ pub fn put_ifc(
     let after = put_byte(out, next, sort_code(sort));
     let last = put_identifier(out, after, w, fst);
     put_marked(out, last, w, marked, snd)
+}
+
+pub fn put_print(out: &mut [u8], at: usize, w: usize, newline: bool, var: Identifier) -> usize
+    requires { ⌜ (at + 8192 < 2 ^ 64) × (w ≤ 8) ⌝ }
+    ensures { λ r. ⌜ Puts (now (out .entry)) (now (out .exit)) at r (recordBytes w (print newline var)) ⌝ }
+{
+    let next = put_byte(out, at, Kind::PRINT);
+    let after = put_byte(out, next, newline_code(newline));
+    put_identifier(out, after, w, var)
+}
+
+pub fn put_exit(out: &mut [u8], at: usize, w: usize, var: Identifier) -> usize
+    requires { ⌜ (at + 8192 < 2 ^ 64) × (w ≤ 8) ⌝ }
+    ensures { λ r. ⌜ Puts (now (out .entry)) (now (out .exit)) at r (recordBytes w (exit var)) ⌝ }
+{
+    put_named(out, at, w, Kind::EXIT, var)
 }

@@ -1,5 +1,5 @@
--- The definitions do something: accepted programs run on both machines, the source copied for the output stops, programs that a
--- question refuses, and Op's edges; all by computation. Assumes nothing.
+-- The definitions do something: accepted programs run on both machines, the source copied for the output stops, what PrintI64 and Exit show
+-- and where they have no next step, programs that a question refuses, and Op's edges; all by computation. Assumes nothing.
 use Prim.Native.Nat.{ℕ, _^_, _-_}
 use mathlib.Core.Path.{_≡_, refl}
 use mathlib.Core.Bool.{Bool, true, false}
@@ -18,7 +18,7 @@ use Rattle.syntax.specs.declared.context.ContextBinding.{ContextBinding}
 use Rattle.syntax.specs.declared.op.BinOp.{BinOp}
 use Rattle.syntax.specs.declared.op.BinOp.the-variants.{Div, Prod, Rem, Sum, Sub}
 use Rattle.syntax.specs.declared.ifc.IfSort.the-variants.{Equal}
-use Rattle.model.specs.Syntax.{Stmt, Substitute, Call, Let, Switch, Create, Invoke, Literal, Op, IfC, end, clause, Prog}
+use Rattle.model.specs.Syntax.{Stmt, Substitute, Call, Let, Switch, Create, Invoke, Literal, Op, IfC, PrintI64, Exit, end, clause, Prog}
 use Rattle.model.specs.Sizes.{records, depth}
 use Rattle.model.specs.FreeVars.{freeVars}
 use Rattle.model.specs.Renaming.{renameUnless}
@@ -26,7 +26,7 @@ use Rattle.model.specs.Rules.{bind, arrange, freshenUnless, freshVarUnle
 use Rattle.model.specs.Pass.{linearizeStmt, linearizeDefs, linearize}
 use Rattle.model.specs.Rows.{identifier}
 use Rattle.model.specs.Integers.{wrap, evalOp, holds}
-use Rattle.model.specs.Machine.{int, State, Event, Literal′, Op′, IfC′, Let′, Create′, Switch′, Invoke′, Outside′, Call′, Outcome, halts, stops, run, Given, integer, outsideNumber, Start, begun, noStart, stopped}
+use Rattle.model.specs.Machine.{Value, int, cell, outside, Entries, State, at, ended, Event, Literal′, Op′, IfC′, PrintI64′, Exit′, Let′, Create′, Switch′, Invoke′, Outside′, Call′, Outcome, shows, halts, stops, run, Given, integer, outsideNumber, Start, begun, noStart, stopped}
 use Rattle.model.specs.Source.{sourceStep, sourceWork, sourceEnter, sourceStart}
 use Rattle.model.specs.Linear.{linearStep, inOrder, linearWork, linearEnter, linearStart}
 use Rattle.model.specs.Questions.{asked, question6, question8, question9, question10, question11, Accepted}
@@ -83,10 +83,26 @@ countdown = record {
   } ∷ [];
 }
 
--- both are accepted
-pub examples-accepted : All Accepted (closures ∷ countdown ∷ [])
+-- report(1, 2): print 1; lit 3 ← 8; println 3; exit 1
+abbrev pub printing : Prog
+printing = record {
+  maxId = 3;
+  defs = record { name = named 1; context = e 1 ∷ e 2 ∷ []; body = PrintI64 false (v 1) (Literal (pos 8) (v 3) (PrintI64 true (v 3) (Exit (v 1)))) } ∷ [];
+}
+
+-- pair(1): let 2 = Pair(1); exit 2: the value is a cell
+abbrev pub leaving : Prog
+leaving = record { maxId = 2; defs = record { name = named 1; context = e 1 ∷ []; body = Let (v 2) T (named 3) (e 1 ∷ []) (Exit (v 2)) } ∷ [] }
+
+-- all are accepted
+pub examples-accepted : All Accepted (closures ∷ countdown ∷ printing ∷ leaving ∷ [])
 unfolding asked records depth fresh freshen retained fill filtered arrange freshenUnless renameUnless freshVarUnless moveBehind linearizeStmt freeVars linearizeDefs linearize
-examples-accepted = record { six = refl; seven = refl; eight = refl; nine = refl; ten = refl; eleven = refl } & record { six = refl; seven = refl; eight = refl; nine = refl; ten = refl; eleven = refl } & done
+examples-accepted =
+    record { six = refl; seven = refl; eight = refl; nine = refl; ten = refl; eleven = refl }
+    & record { six = refl; seven = refl; eight = refl; nine = refl; ten = refl; eleven = refl }
+    & record { six = refl; seven = refl; eight = refl; nine = refl; ten = refl; eleven = refl }
+    & record { six = refl; seven = refl; eight = refl; nine = refl; ten = refl; eleven = refl }
+    & done
 
 abbrev shown : Option (List Event × State) → Option (List Event)
 shown none = none
@@ -115,11 +131,13 @@ examples =
     ∷ runs countdown (integer (pos 2) ∷ outsideNumber 0 ∷ []) 10 13
     (IfC′ false ∷ Literal′ (pos 1) ∷ Op′ (pos 1) ∷ Call′ (name 1) ∷ IfC′ false ∷ Literal′ (pos 1) ∷ Op′ (pos 0) ∷ Call′ (name 1)
     ∷ IfC′ true ∷ Outside′ 0 (name 4) [] ∷ [])
+    ∷ runs printing (integer (pos 7) ∷ integer (pos 9) ∷ []) 4 5 (PrintI64′ false (pos 7) ∷ Literal′ (pos 8) ∷ PrintI64′ true (pos 8) ∷ Exit′ (int (pos 7)) ∷ [])
+    ∷ runs leaving (outsideNumber 3 ∷ []) 2 2 (Let′ 0 (name 3) ∷ Exit′ (cell 0) ∷ [])
     ∷ []
 
 pub examples-run : All ExampleClaim examples
 unfolding sourceStart sourceStep sourceWork sourceEnter evalOp holds wrap linearStart linearStep inOrder linearWork linearEnter fresh freshen retained fill filtered arrange freshenUnless renameUnless freshVarUnless moveBehind linearizeStmt freeVars linearizeDefs linearize
-examples-run = refl & refl & done
+examples-run = refl & refl & refl & refl & done
 
 -- the source copied for the output: the linear machine stops at once
 abbrev stepFrom : (State → Outcome) → Start → Outcome
@@ -130,6 +148,35 @@ stepFrom step (stopped s) = stops
 pub copied-stops : stepFrom (linearStep closures) (linearStart closures 0 (integer (pos 5) ∷ outsideNumber 3 ∷ [])) ≡ stops
 unfolding linearStart linearStep inOrder linearWork
 copied-stops = refl
+
+-- ── PrintI64 and Exit, step by step: a statement, the entries of either machine, and what each does ──
+
+pub data Meeting : Type 0 where
+  meets : (s : Stmt) (l : Entries) (source linear : Outcome) → Meeting
+
+abbrev pub MeetingClaim : Meeting → Type 0
+MeetingClaim (meets s l a b) = _≡_ {A = Outcome × Outcome} (sourceStep printing (at s l []), linearStep printing (at s l [])) (a, b)
+
+abbrev both : Value → Entries
+both x = (v 1 .id, x) ∷ (v 2 .id, int (pos 9)) ∷ []
+
+abbrev pub meetings : List Meeting
+meetings =
+    -- an integer is shown with the newline byte; everything stays; the var need not be last
+    meets (PrintI64 true (v 1) (Exit (v 2))) (both (int (pos 7)))
+    (shows (PrintI64′ true (pos 7)) (at (Exit (v 2)) (both (int (pos 7))) [])) (shows (PrintI64′ true (pos 7)) (at (Exit (v 2)) (both (int (pos 7))) []))
+    -- a wrong sort of value has no next step, and an absent var stops the linear machine
+    ∷ meets (PrintI64 true (v 1) (Exit (v 2))) (both (cell 0)) halts halts
+    ∷ meets (PrintI64 true (v 3) (Exit (v 2))) (both (cell 0)) halts stops
+    -- Exit shows a value of whatever sort and ends the run, whatever else there is
+    ∷ meets (Exit (v 1)) (both (outside 3)) (shows (Exit′ (outside 3)) (ended (Exit (v 1)) (both (outside 3)) [])) (shows (Exit′ (outside 3)) (ended (Exit (v 1)) (both (outside 3)) []))
+    ∷ meets (Exit (v 1)) (both (cell 0)) (shows (Exit′ (cell 0)) (ended (Exit (v 1)) (both (cell 0)) [])) (shows (Exit′ (cell 0)) (ended (Exit (v 1)) (both (cell 0)) []))
+    ∷ meets (Exit (v 3)) (both (cell 0)) halts stops
+    ∷ []
+
+pub meetings-hold : All MeetingClaim meetings
+unfolding sourceStep sourceWork linearStep inOrder linearWork
+meetings-hold = refl & refl & refl & refl & refl & refl & done
 
 -- ── questions 6 to 11: programs with a no ──
 
@@ -159,13 +206,16 @@ asking =
     -- Create's var is not in scope in its clauses: a parameter may take its ID, and a use of it there is out of scope
     ∷ says (one (Create (v 2) T none (clause (named 2) (e 2 ∷ []) (Call (named 1) (e 2 ∷ [])) end) (Call (named 1) (e 1 ∷ []))) 2) (true ∷ true ∷ true ∷ true ∷ true ∷ [])
     ∷ says (one (Create (v 2) T none (clause (named 2) [] (Call (named 1) (c 2 ∷ [])) end) (Call (named 1) (e 1 ∷ []))) 2) (true ∷ true ∷ false ∷ true ∷ true ∷ [])
+    -- the var of a PrintI64 or an Exit out of scope
+    ∷ says (one (PrintI64 false (v 2) (Exit (v 1))) 2) (true ∷ true ∷ false ∷ true ∷ true ∷ [])
+    ∷ says (one (PrintI64 true (v 1) (Exit (v 2))) 2) (true ∷ true ∷ false ∷ true ∷ true ∷ [])
     -- a max_id below a binder's ID
     ∷ says (one (Literal (pos 7) (v 2) (Call (named 1) (e 2 ∷ []))) 1) (true ∷ true ∷ true ∷ false ∷ true ∷ [])
     ∷ []
 
 pub asking-holds : All AskedClaim asking
 unfolding asked fresh freshen retained fill filtered arrange freshenUnless renameUnless freshVarUnless moveBehind linearizeStmt freeVars linearizeDefs linearize
-asking-holds = refl & refl & refl & refl & refl & refl & refl & refl & done
+asking-holds = refl & refl & refl & refl & refl & refl & refl & refl & refl & refl & done
 
 -- ── Op's edges: wrapping, rounding, the dividend's sign, and the divisions without a next step ──
 

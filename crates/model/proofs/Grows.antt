@@ -9,7 +9,7 @@ use Rattle.syntax.specs.Sets.{elem}
 use Rattle.syntax.specs.declared.names.VarId.{VarId}
 use Rattle.syntax.specs.declared.context.ContextBinding.{ContextBinding}
 use Rattle.syntax.proofs.Drawing.{fresh-above, freshen-grows}
-use Rattle.model.specs.Syntax.{Stmt, Clauses, Substitute, Call, Let, Switch, Create, Invoke, Literal, Op, IfC, end, clause}
+use Rattle.model.specs.Syntax.{Stmt, Clauses, Substitute, Call, Let, Switch, Create, Invoke, Literal, Op, IfC, PrintI64, Exit, end, clause}
 use Rattle.model.specs.Renaming.{Renaming}
 use Rattle.model.specs.Rules.{freshenUnless, freshVar, freshVarUnless}
 use Rattle.model.specs.Pass.{linearizeStmt, linearizeClauses}
@@ -41,6 +41,8 @@ mutual
   linearizeStmt-grows (Literal lit var next) ρ Γ m = linearizeStmt-grows next ρ _ m
   linearizeStmt-grows (Op fst op snd var next) ρ Γ m = linearizeStmt-grows next ρ _ m
   linearizeStmt-grows (IfC sort fst snd thenc elsec) ρ Γ m = le-trans (linearizeStmt-grows thenc ρ Γ m) (linearizeStmt-grows elsec ρ Γ _)
+  linearizeStmt-grows (PrintI64 newline var next) ρ Γ m = linearizeStmt-grows next ρ _ m
+  linearizeStmt-grows (Exit var) ρ Γ m = le-refl m
 
   pub linearizeClauses-grows : (cs : Clauses) (before : Bool) (ρ : Renaming) (Γ : Context) (m : ℕ) → m ≤ (linearizeClauses cs before ρ Γ m) .1
   linearizeClauses-grows end before ρ Γ m = le-refl m

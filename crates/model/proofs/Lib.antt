@@ -19,6 +19,8 @@ pub mod InvokeStep
 pub mod LiteralStep
 pub mod OpStep
 pub mod IfCStep
+pub mod PrintStep
+pub mod ExitStep
 pub mod Step
 pub mod Runs
 pub mod Demand

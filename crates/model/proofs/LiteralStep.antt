@@ -3,7 +3,7 @@ use mathlib.Core.Path.{refl}
 use mathlib.Core.List.{List, [], _∷_, _++_}
 use Prim.Native.Nat.{ℕ}
 use lib.IntN.{ℤ}
-use Rattle.syntax.specs.Context.{Context, ids, sameContext}
+use Rattle.syntax.specs.Context.{Context, ids}
 use Rattle.syntax.specs.Sets.{without}
 use Rattle.syntax.specs.Filter.{filterBySet}
 use Rattle.syntax.specs.declared.names.VarId.{VarId}
@@ -11,7 +11,6 @@ use Rattle.syntax.specs.declared.names.Identifier.{Identifier}
 use Rattle.syntax.specs.declared.context.Chirality.the-variants.{Ext}
 use Rattle.syntax.specs.declared.types.Ty.the-variants.{I64}
 use Rattle.syntax.proofs.Members.{without-∈}
-use Rattle.syntax.proofs.Same.{sameContext-sound}
 use Rattle.model.specs.Syntax.{Stmt, Prog, Literal}
 use Rattle.model.specs.Lists.{zip}
 use Rattle.model.specs.FreeVars.{freeVars}
@@ -23,8 +22,8 @@ use Rattle.model.specs.Source.{sourceStep, sourceWork}
 use Rattle.model.specs.Linear.{linearStep, linearWork, inOrder}
 use Rattle.model.proofs.Scoping.{Scoped}
 use Rattle.model.proofs.Good.{selects-filter}
-use Rattle.model.proofs.Invariant.{Fits, SameCells, renameIds-in, fits-distinct, part-values, part-good, narrow, behind}
-use Rattle.model.proofs.Simulation.{Matches, Simulates, arrive, appended-distinct}
+use Rattle.model.proofs.Invariant.{Fits, SameCells, renameIds-in, fits-distinct, part-values, narrow, behind}
+use Rattle.model.proofs.Simulation.{Matches, Simulates, arrive-kept, appended-distinct}
 
 module _ (P : Prog) {Δ : List VarId} {ρ : Renaming} {Γ : Context} {m : ℕ} {ε l : Entries} (K K′ : Cells) (cells : SameCells (P .maxId) K K′) where
   work-Literal : (lit : ℤ) (var : Identifier) (next : Stmt) → Fits (P .maxId) (without (freeVars next) (var .id ∷ [])) Δ ρ Γ m ε l → Scoped (Literal lit var next) (P .maxId) Δ
@@ -44,6 +43,6 @@ module _ (P : Prog) {Δ : List VarId} {ρ : Renaming} {Γ : Context} {m : ℕ} {
       let sel = selects-filter (renameIds ρ (freeVars next)) Γ in
       let part = part-values f sel in (
         at (Literal lit var ((linearizeStmt next ρ (new ++ (bind var Ext I64 ∷ [])) m) .0)) (zip (ids new) (part .0)) K′,
-        arrive (linearize P) (sameContext Γ new) Γ new new _ l K′ (part .0) (λ e. (sameContext-sound Γ new e, refl)) (f .good .once) (part-good f sel .once) refl (f .ordered) (part .1),
+        arrive-kept (linearize P) f (renameIds ρ (freeVars next)) _ K′,
         work-Literal P K K′ cells lit var next (narrow f sel (λ x h. h) (λ x h. renameIds-in ρ x (freeVars next) (without-∈ x (freeVars next) (var .id ∷ []) h .0)) (part .0) (part .1)) sc,
       )

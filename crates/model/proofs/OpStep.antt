@@ -4,7 +4,7 @@ use mathlib.Core.Logic.{inl, inr}
 use mathlib.Core.List.{List, [], _∷_, _++_}
 use Prim.Native.Nat.{ℕ}
 use lib.IntN.{ℤ, pos}
-use Rattle.syntax.specs.Context.{Context, ids, sameContext}
+use Rattle.syntax.specs.Context.{Context, ids}
 use Rattle.syntax.specs.Sets.{_∈_}
 use Rattle.syntax.specs.Filter.{filterBySet}
 use Rattle.syntax.specs.declared.names.VarId.{VarId}
@@ -13,7 +13,6 @@ use Rattle.syntax.specs.declared.context.Chirality.the-variants.{Ext}
 use Rattle.syntax.specs.declared.types.Ty.the-variants.{I64}
 use Rattle.syntax.specs.declared.op.BinOp.{BinOp}
 use Rattle.syntax.proofs.Members.{without-∈}
-use Rattle.syntax.proofs.Same.{sameContext-sound}
 use Rattle.model.specs.Syntax.{Stmt, Prog, Op}
 use Rattle.model.specs.Lists.{zip}
 use Rattle.model.specs.FreeVars.{freeVars}
@@ -26,8 +25,8 @@ use Rattle.model.specs.Linear.{linearStep, linearWork, inOrder}
 use Rattle.model.specs.Integers.{evalOp}
 use Rattle.model.proofs.Scoping.{Scoped}
 use Rattle.model.proofs.Good.{selects-filter}
-use Rattle.model.proofs.Invariant.{Fits, SameCells, rename-id, renameIds-in, fits-distinct, fewer, part-values, part-good, narrow, behind}
-use Rattle.model.proofs.Simulation.{Matches, Simulates, both-halt, arrive, got-present, renamed, appended-distinct}
+use Rattle.model.proofs.Invariant.{Fits, SameCells, rename-id, renameIds-in, fits-distinct, fewer, part-values, narrow, behind}
+use Rattle.model.proofs.Simulation.{Matches, Simulates, both-halt, arrive-kept, got-present, renamed, appended-distinct}
 
 module _ (P : Prog) {Δ : List VarId} {ρ : Renaming} {Γ : Context} {m : ℕ} {ε l : Entries} (K K′ : Cells) (cells : SameCells (P .maxId) K K′) where
   work-Op : (fst : Identifier) (op : BinOp) (snd : Identifier) (var : Identifier) (next : Stmt) → Fits (P .maxId) (freeVars (Op fst op snd var next)) Δ ρ Γ m ε l → Scoped (Op fst op snd var next) (P .maxId) Δ
@@ -58,7 +57,7 @@ module _ (P : Prog) {Δ : List VarId} {ρ : Renaming} {Γ : Context} {m : ℕ} {
       let sel = selects-filter Z Γ in
       let part = part-values f sel in (
         at (Op (rename ρ fst) op (rename ρ snd) var ((linearizeStmt next ρ (new ++ (bind var Ext I64 ∷ [])) m) .0)) (zip (ids new) (part .0)) K′,
-        arrive (linearize P) (sameContext Γ new) Γ new new _ l K′ (part .0) (λ e. (sameContext-sound Γ new e, refl)) (f .good .once) (part-good f sel .once) refl (f .ordered) (part .1),
+        arrive-kept (linearize P) f Z _ K′,
         work-Op P K K′ cells fst op snd var next (narrow f sel (λ x h. h) inZ (part .0) (part .1)) sc,
       )
     where

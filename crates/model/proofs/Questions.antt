@@ -11,7 +11,7 @@ use Rattle.syntax.specs.Sets.{elem, _∈_, distinct, Distinct}
 use Rattle.syntax.specs.declared.names.VarId.{VarId}
 use Rattle.syntax.proofs.Bools.{Answers, both-true}
 use Rattle.syntax.proofs.Members.{elem?, elem-true}
-use Rattle.model.specs.Syntax.{Stmt, Clauses, Substitute, Call, Let, Switch, Create, Invoke, Literal, Op, IfC, end, clause, Def, Prog}
+use Rattle.model.specs.Syntax.{Stmt, Clauses, Substitute, Call, Let, Switch, Create, Invoke, Literal, Op, IfC, PrintI64, Exit, end, clause, Def, Prog}
 use Rattle.model.specs.FreeVars.{optionalId}
 use Rattle.model.specs.Lists.{every}
 use Rattle.model.specs.Questions.{OfStmt, OfBinders, asked, askedClauses, askedDefs, isNone, plain, new, inScope, upTo, anyStmt, anyBinders, Accepted}
@@ -30,6 +30,8 @@ unfoldable mutual
   Asked (Literal lit var next) q b Δ = (q Δ (Literal lit var next) ≡ true) × (b Δ (var .id ∷ []) ≡ true) × Asked next q b (var .id ∷ Δ)
   Asked (Op fst op snd var next) q b Δ = (q Δ (Op fst op snd var next) ≡ true) × (b Δ (var .id ∷ []) ≡ true) × Asked next q b (var .id ∷ Δ)
   Asked (IfC sort fst snd thenc elsec) q b Δ = (q Δ (IfC sort fst snd thenc elsec) ≡ true) × Asked thenc q b Δ × Asked elsec q b Δ
+  Asked (PrintI64 newline var next) q b Δ = (q Δ (PrintI64 newline var next) ≡ true) × Asked next q b Δ
+  Asked (Exit var) q b Δ = q Δ (Exit var) ≡ true
 
   pub AskedClauses : Clauses → OfStmt → OfBinders → List VarId → Type 0
   AskedClauses end q b Δ = Unit {0}
@@ -55,6 +57,8 @@ mutual
   answered (Literal lit var next) q b Δ e = let p = three (q Δ (Literal lit var next)) (b Δ (var .id ∷ [])) (asked next q b (var .id ∷ Δ)) e in (p .0, p .1, answered next q b (var .id ∷ Δ) (p .2))
   answered (Op fst op snd var next) q b Δ e = let p = three (q Δ (Op fst op snd var next)) (b Δ (var .id ∷ [])) (asked next q b (var .id ∷ Δ)) e in (p .0, p .1, answered next q b (var .id ∷ Δ) (p .2))
   answered (IfC sort fst snd thenc elsec) q b Δ e = let p = three (q Δ (IfC sort fst snd thenc elsec)) (asked thenc q b Δ) (asked elsec q b Δ) e in (p .0, answered thenc q b Δ (p .1), answered elsec q b Δ (p .2))
+  answered (PrintI64 newline var next) q b Δ e = let p = both-true (q Δ (PrintI64 newline var next)) (asked next q b Δ) e in (p .0, answered next q b Δ (p .1))
+  answered (Exit var) q b Δ e = e
 
   pub answeredClauses : (cs : Clauses) (q : OfStmt) (b : OfBinders) (Δ : List VarId) → askedClauses cs q b Δ ≡ true → AskedClauses cs q b Δ
   answeredClauses end q b Δ e = tt
@@ -112,6 +116,8 @@ mutual
   scoped-says (Literal lit var next) M Δ a b c d = (binds-says M Δ (var .id ∷ []) (b .1) (d .1), scoped-says next M (var .id ∷ Δ) (a .2) (b .2) (c .2) (d .2))
   scoped-says (Op fst op snd var next) M Δ a b c d = let u = uses-says Δ (fst .id ∷ snd .id ∷ []) (c .0) in (u (fst .id) (inl refl), u (snd .id) (inr (inl refl)), binds-says M Δ (var .id ∷ []) (b .1) (d .1), scoped-says next M (var .id ∷ Δ) (a .2) (b .2) (c .2) (d .2))
   scoped-says (IfC sort fst snd thenc elsec) M Δ a b c d = let u = uses-says Δ (fst .id ∷ optionalId snd) (c .0) in (u (fst .id) (inl refl), λ x h. u x (inr h), scoped-says thenc M Δ (a .1) (b .1) (c .1) (d .1), scoped-says elsec M Δ (a .2) (b .2) (c .2) (d .2))
+  scoped-says (PrintI64 newline var next) M Δ a b c d = (uses-says Δ (var .id ∷ []) (c .0) (var .id) (inl refl), scoped-says next M Δ (a .1) (b .1) (c .1) (d .1))
+  scoped-says (Exit var) M Δ a b c d = uses-says Δ (var .id ∷ []) c (var .id) (inl refl)
 
   pub scopedClauses-says : (cs : Clauses) (M : ℕ) (Δ : List VarId) → AskedClauses cs plain anyBinders Δ → AskedClauses cs anyStmt new Δ → AskedClauses cs inScope anyBinders Δ → AskedClauses cs anyStmt (upTo M) Δ → ScopedClauses cs M Δ
   scopedClauses-says end M Δ a b c d = tt

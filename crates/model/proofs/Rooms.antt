@@ -14,7 +14,7 @@ use Rattle.syntax.specs.declared.names.VarId.{VarId}
 use Rattle.syntax.specs.declared.types.Ty.the-variants.{I64}
 use Rattle.syntax.specs.declared.context.Chirality.the-variants.{Prd, Cns, Ext}
 use Rattle.syntax.proofs.Filters.{filter-fewer}
-use Rattle.model.specs.Syntax.{Stmt, Clauses, Substitute, Call, Let, Switch, Create, Invoke, Literal, Op, IfC, end, clause, Def, Prog}
+use Rattle.model.specs.Syntax.{Stmt, Clauses, Substitute, Call, Let, Switch, Create, Invoke, Literal, Op, IfC, PrintI64, Exit, end, clause, Def, Prog}
 use Rattle.model.specs.Sizes.{recordsDefs, depthDefs}
 use Rattle.model.specs.FreeVars.{freeVars, freeVarsClauses}
 use Rattle.model.specs.Renaming.{Renaming, noRenaming, rename, renameIds, renameContext, renaming, renameUnless}
@@ -46,6 +46,8 @@ unfoldable mutual
   Fits64 (Op fst op snd var next) ρ Γ m =
       (length Γ ≤ 64) × Fits64 next ρ (filterBySet ((rename ρ fst) .id ∷ (rename ρ snd) .id ∷ renameIds ρ (freeVars next)) Γ ++ (bind var Ext I64 ∷ [])) m
   Fits64 (IfC sort fst snd thenc elsec) ρ Γ m = (length Γ ≤ 64) × Fits64 thenc ρ Γ m × Fits64 elsec ρ Γ ((linearizeStmt thenc ρ Γ m) .1)
+  Fits64 (PrintI64 newline var next) ρ Γ m = (length Γ ≤ 64) × Fits64 next ρ (filterBySet ((rename ρ var) .id ∷ renameIds ρ (freeVars next)) Γ) m
+  Fits64 (Exit var) ρ Γ m = length Γ ≤ 64
 
   pub Fits64Clauses : Clauses → Bool → Renaming → Context → ℕ → Type 0
   Fits64Clauses end before ρ Γ m = Unit {0}
@@ -83,6 +85,10 @@ mutual
       let s = (rename ρ fst) .id ∷ (rename ρ snd) .id ∷ renameIds ρ (freeVars next) in
       (omega (arith, small-says Δ (Op fst op snd var next) (a .0)), fits64 next (var .id ∷ Δ) (a .2) ρ _ m (longer (filterBySet s Γ) (bind var Ext I64) Δ (var .id) (le-trans (filter-fewer s Γ) h)))
   fits64 (IfC sort fst snd thenc elsec) Δ a ρ Γ m h = (omega (arith, small-says Δ (IfC sort fst snd thenc elsec) (a .0)), fits64 thenc Δ (a .1) ρ Γ m h, fits64 elsec Δ (a .2) ρ Γ _ h)
+  fits64 (PrintI64 newline var next) Δ a ρ Γ m h =
+      let s = (rename ρ var) .id ∷ renameIds ρ (freeVars next) in
+      (omega (arith, small-says Δ (PrintI64 newline var next) (a .0)), fits64 next Δ (a .1) ρ _ m (le-trans (filter-fewer s Γ) h))
+  fits64 (Exit var) Δ a ρ Γ m h = omega (arith, small-says Δ (Exit var) a)
 
   fits64Clauses : (cs : Clauses) (Δ : List VarId) → AskedClauses cs small smallBinders Δ → (before : Bool) (ρ : Renaming) (Γ : Context) (m : ℕ) → length Γ ≤ length Δ → Fits64Clauses cs before ρ Γ m
   fits64Clauses end Δ a before ρ Γ m h = tt

@@ -8,13 +8,13 @@ use native.Mathlib.Omega.{arith}
 use Rattle.syntax.specs.Context.{Context}
 use Rattle.syntax.specs.declared.names.VarId.{VarId}
 use Rattle.syntax.specs.declared.names.Identifier.{Identifier}
-use Rattle.model.specs.Syntax.{Stmt, Clauses, Substitute, Call, Let, Switch, Create, Invoke, Literal, Op, IfC, end, clause, Def}
+use Rattle.model.specs.Syntax.{Stmt, Clauses, Substitute, Call, Let, Switch, Create, Invoke, Literal, Op, IfC, PrintI64, Exit, end, clause, Def}
 use Rattle.model.specs.FreeVars.{freeVars, freeVarsClauses}
 use Rattle.model.specs.Renaming.{Renaming, noRenaming, rename, renameOption, renameContext, renameIds, orSelf, thenRename, _⨾_, renameUnless}
-use Rattle.model.specs.Rules.{Linearize, ruleLet, ruleSwitch, ruleCreate, ruleLiteral, ruleOp, ruleIfC, ruleClause}
+use Rattle.model.specs.Rules.{Linearize, ruleLet, ruleSwitch, ruleCreate, ruleLiteral, ruleOp, ruleIfC, rulePrintI64, ruleExit, ruleClause}
 use Rattle.model.specs.Pass.{linearizeStmt, linearizeClauses, linearizeDefs}
 use Rattle.model.specs.Sizes.{depth, depthClauses}
-use Rattle.model.specs.Rust.{Noted, NotedClauses, Substituteⁿ, Callⁿ, Letⁿ, Switchⁿ, Createⁿ, Invokeⁿ, Literalⁿ, Opⁿ, IfCⁿ, endⁿ, clauseⁿ, annotate, annotateClauses, substSim, substSimClauses, substUnless, linearizeClausesⁿ, linearizeⁿ, linearizeDefsⁿ}
+use Rattle.model.specs.Rust.{Noted, NotedClauses, Substituteⁿ, Callⁿ, Letⁿ, Switchⁿ, Createⁿ, Invokeⁿ, Literalⁿ, Opⁿ, IfCⁿ, PrintI64ⁿ, Exitⁿ, endⁿ, clauseⁿ, annotate, annotateClauses, substSim, substSimClauses, substUnless, linearizeClausesⁿ, linearizeⁿ, linearizeDefsⁿ}
 use Rattle.model.proofs.Renames.{renameId-⨾}
 
 -- ── first ρ, then σ ──
@@ -51,6 +51,8 @@ mutual
   substSim-⨾ (Literalⁿ lit var next fv) ρ σ = cc (substSim-⨾ next ρ σ, renameIds-⨾ ρ σ fv)
   substSim-⨾ (Opⁿ fst op snd var next fv) ρ σ = cc (rename-⨾ ρ σ fst, rename-⨾ ρ σ snd, substSim-⨾ next ρ σ, renameIds-⨾ ρ σ fv)
   substSim-⨾ (IfCⁿ sort fst snd thenc elsec) ρ σ = cc (rename-⨾ ρ σ fst, renameOption-⨾ ρ σ snd, substSim-⨾ thenc ρ σ, substSim-⨾ elsec ρ σ)
+  substSim-⨾ (PrintI64ⁿ newline var next fv) ρ σ = cc (rename-⨾ ρ σ var, substSim-⨾ next ρ σ, renameIds-⨾ ρ σ fv)
+  substSim-⨾ (Exitⁿ var) ρ σ = cc (rename-⨾ ρ σ var)
 
   pub substSimClauses-⨾ : (cs : NotedClauses) (ρ σ : Renaming) → substSimClauses cs (ρ ⨾ σ) ≡ substSimClauses (substSimClauses cs ρ) σ
   substSimClauses-⨾ endⁿ ρ σ = refl
@@ -91,6 +93,10 @@ mutual
   rust-form (IfC sort fst snd thenc elsec) zero ρ h = absurd (omega arith)
   rust-form (IfC sort fst snd thenc elsec) (suc n) ρ h =
       ap₂ (λ (f g : Linearize Stmt). ruleIfC sort (rename ρ fst) (renameOption ρ snd) f g) (rust-form thenc n ρ (omega arith)) (rust-form elsec n ρ (omega arith))
+  rust-form (PrintI64 newline var next) zero ρ h = absurd (omega arith)
+  rust-form (PrintI64 newline var next) (suc n) ρ h = ap (λ (f : Linearize Stmt). rulePrintI64 newline (rename ρ var) f (renameIds ρ (freeVars next))) (rust-form next n ρ (omega arith))
+  rust-form (Exit var) zero ρ h = absurd (omega arith)
+  rust-form (Exit var) (suc n) ρ h = refl
 
   pub rust-formClauses : (cs : Clauses) (n : ℕ) (ρ : Renaming) (before : Bool) → depthClauses cs ≤ n → linearizeClausesⁿ (linearizeⁿ n) (substSimClauses (annotateClauses cs) ρ) before ≡ linearizeClauses cs before ρ
   rust-formClauses end n ρ before h = refl
@@ -124,6 +130,8 @@ mutual
   substSim-none (Literalⁿ lit var next fv) = cc (substSim-none next, renIds-none fv)
   substSim-none (Opⁿ fst op snd var next fv) = cc (substSim-none next, renIds-none fv)
   substSim-none (IfCⁿ sort fst snd thenc elsec) = cc (renOpt-none snd, substSim-none thenc, substSim-none elsec)
+  substSim-none (PrintI64ⁿ newline var next fv) = cc (substSim-none next, renIds-none fv)
+  substSim-none (Exitⁿ var) = refl
 
   substSimClauses-none : (cs : NotedClauses) → substSimClauses cs noRenaming ≡ cs
   substSimClauses-none endⁿ = refl

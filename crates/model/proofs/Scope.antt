@@ -6,7 +6,7 @@ use Rattle.syntax.specs.Sets.{_∈_, without}
 use Rattle.syntax.specs.Context.{ids}
 use Rattle.syntax.specs.declared.names.VarId.{VarId}
 use Rattle.syntax.proofs.Members.{∈-split, without-∈}
-use Rattle.model.specs.Syntax.{Stmt, Clauses, Substitute, Call, Let, Switch, Create, Invoke, Literal, Op, IfC, end, clause}
+use Rattle.model.specs.Syntax.{Stmt, Clauses, Substitute, Call, Let, Switch, Create, Invoke, Literal, Op, IfC, PrintI64, Exit, end, clause}
 use Rattle.model.specs.FreeVars.{freeVars, freeVarsClauses, optionalId}
 use Rattle.model.proofs.Scoping.{_⊆_, Scoped, ScopedClauses}
 
@@ -42,6 +42,8 @@ mutual
   scoped-free (Literal lit var next) M Δ sc = free-above (freeVars next) (var .id ∷ []) Δ (scoped-free next M (var .id ∷ Δ) (sc .1))
   scoped-free (Op fst op snd var next) M Δ sc = added (fst .id) (snd .id ∷ without (freeVars next) (var .id ∷ [])) Δ (sc .0) (added (snd .id) (without (freeVars next) (var .id ∷ [])) Δ (sc .1) (free-above (freeVars next) (var .id ∷ []) Δ (scoped-free next M (var .id ∷ Δ) (sc .3))))
   scoped-free (IfC sort fst snd thenc elsec) M Δ sc = added (fst .id) (optionalId snd ++ (freeVars thenc ++ freeVars elsec)) Δ (sc .0) (joined (optionalId snd) (freeVars thenc ++ freeVars elsec) Δ (sc .1) (joined (freeVars thenc) (freeVars elsec) Δ (scoped-free thenc M Δ (sc .2)) (scoped-free elsec M Δ (sc .3))))
+  scoped-free (PrintI64 newline var next) M Δ sc = added (var .id) (freeVars next) Δ (sc .0) (scoped-free next M Δ (sc .1))
+  scoped-free (Exit var) M Δ sc = added (var .id) [] Δ sc (λ x h. absurd h)
 
   pub scoped-freeClauses : (cs : Clauses) (M : ℕ) (Δ : List VarId) → ScopedClauses cs M Δ → freeVarsClauses cs ⊆ Δ
   scoped-freeClauses end M Δ sc = λ x h. absurd h

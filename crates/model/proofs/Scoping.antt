@@ -6,7 +6,7 @@ use mathlib.Core.Option.{none}
 use Rattle.syntax.specs.Context.{ids}
 use Rattle.syntax.specs.Sets.{_∈_, Distinct}
 use Rattle.syntax.specs.declared.names.VarId.{VarId}
-use Rattle.model.specs.Syntax.{Stmt, Clauses, Substitute, Call, Let, Switch, Create, Invoke, Literal, Op, IfC, end, clause, Def, Prog}
+use Rattle.model.specs.Syntax.{Stmt, Clauses, Substitute, Call, Let, Switch, Create, Invoke, Literal, Op, IfC, PrintI64, Exit, end, clause, Def, Prog}
 use Rattle.model.specs.FreeVars.{optionalId}
 
 -- 8: "Does each binder take an ID not in scope there and not earlier in its list?" 10: "Is max_id at least every binder's ID?"
@@ -33,6 +33,8 @@ unfoldable mutual
   Scoped (Literal lit var next) M Δ = Binds M Δ (var .id ∷ []) × Scoped next M (var .id ∷ Δ)
   Scoped (Op fst op snd var next) M Δ = (fst .id ∈ Δ) × (snd .id ∈ Δ) × Binds M Δ (var .id ∷ []) × Scoped next M (var .id ∷ Δ)
   Scoped (IfC sort fst snd thenc elsec) M Δ = (fst .id ∈ Δ) × (optionalId snd ⊆ Δ) × Scoped thenc M Δ × Scoped elsec M Δ
+  Scoped (PrintI64 newline var next) M Δ = (var .id ∈ Δ) × Scoped next M Δ
+  Scoped (Exit var) M Δ = var .id ∈ Δ
 
   pub ScopedClauses : Clauses → ℕ → List VarId → Type 0
   ScopedClauses end M Δ = Unit {0}

@@ -8,12 +8,14 @@ use Prim.Native.Nat.{ℕ, _+_, _-_}
 use native.Mathlib.Omega.{arith}
 use lib.ListN.{length, length-append, length-map}
 use lib.Seq.{take-at, drop-at}
-use Rattle.syntax.specs.Context.{Context, idOf, ids, vars}
+use Rattle.syntax.specs.Context.{Context, idOf, ids, vars, sameContext}
 use Rattle.syntax.specs.Sets.{_∈_, Distinct, distinct}
+use Rattle.syntax.specs.Filter.{filterBySet}
 use Rattle.syntax.specs.declared.names.VarId.{VarId}
 use Rattle.syntax.specs.declared.names.Identifier.{Identifier}
 use Rattle.syntax.proofs.Members.{distinct-true, elem-true, same-self}
 use Rattle.syntax.proofs.Filters.{ids-++}
+use Rattle.syntax.proofs.Same.{sameContext-sound}
 use Rattle.model.specs.Syntax.{Stmt, Prog}
 use Rattle.model.specs.Lists.{lookup, zip}
 use Rattle.model.specs.Rules.{arrange}
@@ -23,7 +25,8 @@ use Rattle.model.specs.Source.{sourceStep}
 use Rattle.model.specs.Linear.{linearStep, inOrder, linearWork, lastOf, beforeLast, sameIds, endsIn, present, targets, sources, lastValue}
 use Rattle.model.specs.Renaming.{Renaming, rename, renameId}
 use Rattle.model.proofs.Alist.{firsts, in-lookup, zip-++, Got, got-++, got-length, got-lookups, got-self, got-unique}
-use Rattle.model.proofs.Invariant.{Same, rename-id}
+use Rattle.model.proofs.Good.{selects-filter}
+use Rattle.model.proofs.Invariant.{Fits, Same, rename-id, part-values, part-good}
 
 -- ── the end of the list ──
 
@@ -117,6 +120,15 @@ arrive P true Γ T W s l K vs same dΓ dT e o g = inr (ap (λ (r : Entries). at 
         let u : values l ≡ vs = got-unique (ids W) l (values l) vs (rw p at h) g in
         rebuilt l ∙ ap₂ (λ (r : List VarId) (q : List Value). zip r q) (p ∙ ap ids (sym (q .1))) u
 arrive P false Γ T W s l K vs same dΓ dT e o g = inl (rw (targets-zip T W e, sources-zip T W e, distinct-true (ids T) dT, got-present (ids W) l vs g, got-lookups (ids W) l vs g))
+
+-- what a filter keeps of the context needs at most the inserted Substitute
+pub arrive-kept : (P : Prog) {M : ℕ} {fv Δ : List VarId} {ρ : Renaming} {Γ : Context} {m : ℕ} {ε l : Entries} (f : Fits M fv Δ ρ Γ m ε l) (Z : List VarId) (s : Stmt) (K : Cells)
+    → Reaches P (at (arrange (sameContext Γ (filterBySet Z Γ)) (filterBySet Z Γ) (filterBySet Z Γ) s) l K) (at s (zip (ids (filterBySet Z Γ)) (part-values f (selects-filter Z Γ) .0)) K)
+arrive-kept P {Γ = Γ} {l = l} f Z s K =
+    let new = filterBySet Z Γ in
+    let sel = selects-filter Z Γ in
+    let part = part-values f sel in
+    arrive P (sameContext Γ new) Γ new new s l K (part .0) (λ e. (sameContext-sound Γ new e, refl)) (f .good .once) (part-good f sel .once) refl (f .ordered) (part .1)
 
 -- the same where targets and wanted are in two parts
 pub arrive₂ : (P : Prog) (right : Bool) (Γ A B C D : Context) (s : Stmt) (l : Entries) (K : Cells) (us vs : List Value)

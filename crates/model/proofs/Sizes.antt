@@ -5,7 +5,7 @@ use Prim.Native.Nat.{ℕ, suc, _*_, max, _≤_, suc-le-suc}
 use native.Mathlib.Nat.{le-trans, add-le-add}
 use native.Mathlib.Omega.{arith}
 use Rattle.syntax.specs.Context.{Context}
-use Rattle.model.specs.Syntax.{Stmt, Clauses, Substitute, Call, Let, Switch, Create, Invoke, Literal, Op, IfC, end, clause, Def, Prog}
+use Rattle.model.specs.Syntax.{Stmt, Clauses, Substitute, Call, Let, Switch, Create, Invoke, Literal, Op, IfC, PrintI64, Exit, end, clause, Def, Prog}
 use Rattle.model.specs.Renaming.{Renaming, noRenaming, rename}
 use Rattle.model.specs.Rules.{arrange}
 use Rattle.model.specs.Pass.{linearizeStmt, linearizeClauses, linearizeDefs, linearize}
@@ -36,6 +36,8 @@ mutual
   linearizeStmt-records (Literal lit var next) ρ Γ m = le-trans (arrange-records _ _ _ _) (le-trans (suc-le-suc (suc-le-suc (linearizeStmt-records next ρ _ _))) (omega arith))
   linearizeStmt-records (Op fst op snd var next) ρ Γ m = le-trans (arrange-records _ _ _ _) (le-trans (suc-le-suc (suc-le-suc (linearizeStmt-records next ρ _ _))) (omega arith))
   linearizeStmt-records (IfC sort fst snd thenc elsec) ρ Γ m = omega (arith, linearizeStmt-records thenc ρ Γ m, linearizeStmt-records elsec ρ Γ ((linearizeStmt thenc ρ Γ m) .1))
+  linearizeStmt-records (PrintI64 newline var next) ρ Γ m = le-trans (arrange-records _ _ _ _) (le-trans (suc-le-suc (suc-le-suc (linearizeStmt-records next ρ _ _))) (omega arith))
+  linearizeStmt-records (Exit var) ρ Γ m = omega arith
 
   pub linearizeClauses-records : (cs : Clauses) (before : Bool) (ρ : Renaming) (Γ : Context) (m : ℕ) → recordsClauses ((linearizeClauses cs before ρ Γ m) .0) ≤ 2 * recordsClauses cs
   linearizeClauses-records end before ρ Γ m = omega arith
@@ -61,6 +63,8 @@ mutual
   linearizeStmt-depth (Literal lit var next) ρ Γ m = le-trans (arrange-depth _ _ _ _) (le-trans (suc-le-suc (suc-le-suc (linearizeStmt-depth next ρ _ _))) (omega arith))
   linearizeStmt-depth (Op fst op snd var next) ρ Γ m = le-trans (arrange-depth _ _ _ _) (le-trans (suc-le-suc (suc-le-suc (linearizeStmt-depth next ρ _ _))) (omega arith))
   linearizeStmt-depth (IfC sort fst snd thenc elsec) ρ Γ m = omega (arith, linearizeStmt-depth thenc ρ Γ m, linearizeStmt-depth elsec ρ Γ ((linearizeStmt thenc ρ Γ m) .1))
+  linearizeStmt-depth (PrintI64 newline var next) ρ Γ m = le-trans (arrange-depth _ _ _ _) (le-trans (suc-le-suc (suc-le-suc (linearizeStmt-depth next ρ _ _))) (omega arith))
+  linearizeStmt-depth (Exit var) ρ Γ m = omega arith
 
   pub linearizeClauses-depth : (cs : Clauses) (before : Bool) (ρ : Renaming) (Γ : Context) (m : ℕ) → depthClauses ((linearizeClauses cs before ρ Γ m) .0) ≤ 2 * depthClauses cs
   linearizeClauses-depth end before ρ Γ m = omega arith

@@ -5,7 +5,7 @@ use mathlib.Core.List.{List}
 use Prim.Native.Nat.{ℕ}
 use Rattle.syntax.specs.Context.{Context}
 use Rattle.syntax.specs.declared.names.VarId.{VarId}
-use Rattle.model.specs.Syntax.{Stmt, Substitute, Call, Let, Switch, Create, Invoke, Literal, Op, IfC, Prog}
+use Rattle.model.specs.Syntax.{Stmt, Substitute, Call, Let, Switch, Create, Invoke, Literal, Op, IfC, PrintI64, Exit, Prog}
 use Rattle.model.specs.FreeVars.{freeVars}
 use Rattle.model.specs.Renaming.{Renaming}
 use Rattle.model.specs.Pass.{linearizeStmt}
@@ -23,6 +23,8 @@ use Rattle.model.proofs.InvokeStep.{sim-Invoke}
 use Rattle.model.proofs.LiteralStep.{sim-Literal}
 use Rattle.model.proofs.OpStep.{sim-Op}
 use Rattle.model.proofs.IfCStep.{sim-IfC}
+use Rattle.model.proofs.PrintStep.{sim-PrintI64}
+use Rattle.model.proofs.ExitStep.{sim-Exit}
 
 sim-statement : (P : Prog) → ScopedProg P → (s : Stmt) {Δ : List VarId} {ρ : Renaming} {Γ : Context} {m : ℕ} {ε l : Entries} (K K′ : Cells) → SameCells (P .maxId) K K′ → Fits (P .maxId) (freeVars s) Δ ρ Γ m ε l → Scoped s (P .maxId) Δ
     → Simulates P (at s ε K) (at ((linearizeStmt s ρ Γ m) .0) l K′)
@@ -36,6 +38,8 @@ sim-statement P acc (Invoke var tag ty args) K K′ cells f sc = sim-Invoke P K 
 sim-statement P acc (Literal lit var next) K K′ cells f sc = sim-Literal P K K′ cells lit var next f sc
 sim-statement P acc (Op fst op snd var next) K K′ cells f sc = sim-Op P K K′ cells fst op snd var next f sc
 sim-statement P acc (IfC sort fst snd thenc elsec) K K′ cells f sc = sim-IfC P K K′ cells sort fst snd thenc elsec f sc
+sim-statement P acc (PrintI64 newline var next) K K′ cells f sc = sim-PrintI64 P K K′ cells newline var next f sc
+sim-statement P acc (Exit var) K K′ cells f sc = sim-Exit P K K′ cells var f
 
 pub simulate : (P : Prog) → ScopedProg P → (s t : State) → Same (P .maxId) s t → Simulates P s t
 unfolding sourceStep linearStep

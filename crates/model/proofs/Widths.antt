@@ -19,7 +19,7 @@ use Rattle.syntax.proofs.Bools.{both-true}
 use Rattle.syntax.proofs.Permutations.{perm-length}
 use Rattle.syntax.proofs.Filters.{filter-fewer}
 use Rattle.syntax.proofs.Drawing.{freshen-length}
-use Rattle.model.specs.Syntax.{Stmt, Clauses, Substitute, Call, Let, Switch, Create, Invoke, Literal, Op, IfC, end, clause, Def, Prog}
+use Rattle.model.specs.Syntax.{Stmt, Clauses, Substitute, Call, Let, Switch, Create, Invoke, Literal, Op, IfC, PrintI64, Exit, end, clause, Def, Prog}
 use Rattle.model.specs.Lists.{zip}
 use Rattle.model.specs.FreeVars.{freeVars, freeVarsClauses}
 use Rattle.model.specs.Renaming.{Renaming, noRenaming, rename, renameIds, renameBinding, renameContext, renaming, renameUnless}
@@ -123,6 +123,13 @@ mutual
       let k : length new ≤ length Δ = le-trans (filter-fewer Z Γ) h in
       arrange-widest (sameContext Γ new) new new _ (omega arith) (linearizeStmt-widest next (var .id ∷ Δ) (p .2) (a .2) ρ (new ++ (bind var Ext I64 ∷ [])) m (longer new (bind var Ext I64) Δ (var .id) k))
   linearizeStmt-widest (IfC sort fst snd thenc elsec) Δ p a ρ Γ m h = omega (arith, linearizeStmt-widest thenc Δ (p .1) (a .1) ρ Γ m h, linearizeStmt-widest elsec Δ (p .2) (a .2) ρ Γ ((linearizeStmt thenc ρ Γ m) .1) h)
+  linearizeStmt-widest (PrintI64 newline var next) Δ p a ρ Γ m h =
+      let q = small-says Δ (PrintI64 newline var next) (a .0) in
+      let Z = (rename ρ var) .id ∷ renameIds ρ (freeVars next) in
+      let new = filterBySet Z Γ in
+      let k : length new ≤ length Δ = le-trans (filter-fewer Z Γ) h in
+      arrange-widest (sameContext Γ new) new new _ (omega arith) (linearizeStmt-widest next Δ (p .1) (a .1) ρ new m k)
+  linearizeStmt-widest (Exit var) Δ p a ρ Γ m h = omega arith
 
   pub linearizeClauses-widest : (cs : Clauses) (Δ : List VarId) → AskedClauses cs plain anyBinders Δ → AskedClauses cs small smallBinders Δ → (before : Bool) (ρ : Renaming) (Γ : Context) (m : ℕ) → length Γ ≤ length Δ → widestClauses ((linearizeClauses cs before ρ Γ m) .0) ≤ 128
   linearizeClauses-widest end Δ p a before ρ Γ m h = omega arith

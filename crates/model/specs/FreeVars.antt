@@ -9,7 +9,7 @@ use Rattle.syntax.specs.Sets.{without}
 use Rattle.syntax.specs.declared.names.VarId.{VarId}
 use Rattle.syntax.specs.declared.names.Identifier.{Identifier}
 use Rattle.syntax.specs.declared.context.ContextBinding.{ContextBinding}
-use Rattle.model.specs.Syntax.{Stmt, Clauses, Substitute, Call, Let, Switch, Create, Invoke, Literal, Op, IfC, end, clause}
+use Rattle.model.specs.Syntax.{Stmt, Clauses, Substitute, Call, Let, Switch, Create, Invoke, Literal, Op, IfC, PrintI64, Exit, end, clause}
 
 -- the ID of an optional variable
 abbrev pub optionalId : Option Identifier → List VarId
@@ -32,6 +32,8 @@ unfoldable mutual
   freeVars (Literal lit var next) = without (freeVars next) (var .id ∷ [])
   freeVars (Op fst op snd var next) = fst .id ∷ snd .id ∷ without (freeVars next) (var .id ∷ [])
   freeVars (IfC sort fst snd thenc elsec) = fst .id ∷ optionalId snd ++ (freeVars thenc ++ freeVars elsec)
+  freeVars (PrintI64 newline var next) = var .id ∷ freeVars next
+  freeVars (Exit var) = var .id ∷ []
 
   -- clause.rs: what a body has free, without the clause's parameters
   pub freeVarsClauses : Clauses → List VarId
@@ -48,6 +50,7 @@ ascending [] = []
 ascending (x ∷ s) = insert x (ascending s)
 
 -- the annotations of a statement: document 01, question 13: one with an annotation (Let, Switch, Create, Literal, Op);
+-- document 02, A.1: PrintI64 carrying an annotation;
 -- "The image": Create's is that of its clauses, then that of its next
 unfoldable pub annotations : Stmt → List (List VarId)
 annotations (Substitute ps next) = []
@@ -59,3 +62,5 @@ annotations (Invoke var tag ty args) = []
 annotations (Literal lit var next) = ascending (freeVars next) ∷ []
 annotations (Op fst op snd var next) = ascending (freeVars next) ∷ []
 annotations (IfC sort fst snd thenc elsec) = []
+annotations (PrintI64 newline var next) = ascending (freeVars next) ∷ []
+annotations (Exit var) = []

@@ -11,11 +11,11 @@ use Rattle.syntax.specs.declared.names.Name.{Name}
 use Rattle.syntax.specs.declared.names.VarId.{VarId}
 use Rattle.syntax.specs.declared.names.Identifier.{Identifier}
 use Rattle.syntax.specs.declared.context.ContextBinding.{ContextBinding}
-use Rattle.model.specs.Syntax.{Stmt, Substitute, Call, Let, Switch, Create, Invoke, Literal, Op, IfC, Def, Prog}
+use Rattle.model.specs.Syntax.{Stmt, Substitute, Call, Let, Switch, Create, Invoke, Literal, Op, IfC, PrintI64, Exit, Def, Prog}
 use Rattle.model.specs.Lists.{every, lookup, lookups, zip}
 use Rattle.model.specs.FreeVars.{optionalId}
 use Rattle.model.specs.Integers.{evalOp, holds}
-use Rattle.model.specs.Machine.{Value, int, cell, Entries, keys, values, Cells, xtor, closure, State, at, ended, Event, Literal′, Op′, IfC′, Let′, Create′, Switch′, Invoke′, Call′, Outside′, Outcome, shows, silent, halts, stops, orHalt, nth, pairUp, findDef, findClause, asInt, second, matched, Target, out, clo, invoked, Given, value, Start, begun, noStart, stopped}
+use Rattle.model.specs.Machine.{Value, int, cell, Entries, keys, values, Cells, xtor, closure, State, at, ended, Event, Literal′, Op′, IfC′, PrintI64′, Exit′, Let′, Create′, Switch′, Invoke′, Call′, Outside′, Outcome, shows, silent, halts, stops, orHalt, nth, pairUp, findDef, findClause, asInt, second, matched, Target, out, clo, invoked, Given, value, Start, begun, noStart, stopped}
 
 module _ {A : Type 0} where
   -- the last k, and what stands before them
@@ -72,6 +72,9 @@ inOrder (Invoke var tag ty args) l = endsIn (var .id ∷ []) l
 inOrder (Literal lit var next) l = distinct (l ++ (var .id ∷ []))
 inOrder (Op fst op snd var next) l = present (fst .id ∷ snd .id ∷ []) l && distinct (l ++ (var .id ∷ []))
 inOrder (IfC sort fst snd thenc elsec) l = present (fst .id ∷ optionalId snd) l
+-- document 02, A.1: PrintI64 .. reads it ..; Exit .. whatever else the environment holds. The var is there, and need not be last
+inOrder (PrintI64 newline var next) l = present (var .id ∷ []) l
+inOrder (Exit var) l = present (var .id ∷ []) l
 
 abbrev pub stopUnless : Bool → Outcome → Outcome
 stopUnless true o = o
@@ -145,6 +148,15 @@ linearWork P (IfC sort fst snd thenc elsec) l K =
     orHalt (asInt a) λ x.
     orHalt (asInt b) λ y.
     shows (IfC′ (holds sort x y)) (at (cond (holds sort x y) thenc elsec) l K)
+-- document 02, A.1: in both machines PrintI64 needs an integer, reads it and shows it with the newline byte; Exit shows its value, of
+-- whatever sort, and ends the run
+linearWork P (PrintI64 newline var next) l K =
+    orHalt (lookup (var .id) l) λ v.
+    orHalt (asInt v) λ z.
+    shows (PrintI64′ newline z) (at next l K)
+linearWork P (Exit var) l K =
+    orHalt (lookup (var .id) l) λ v.
+    shows (Exit′ v) (ended (Exit var) l K)
 
 -- the linear machine's step
 unfoldable pub linearStep : Prog → State → Outcome

@@ -44,6 +44,7 @@ pub data State : Type 0 where
 
 -- document 01: events, one per step other than Substitute: kind, and Literal or Op its integer, IfC its branch, Let and Create the
 -- cell (Let the tag), Switch and Invoke the cell and tag, Call the label. Invoke of an outside number shows it, the tag and argument values.
+-- document 02, A.1: PrintI64 needs an integer and shows it with the newline byte; Exit shows its value, of whatever sort
 pub data Event : Type 0 where
   Literal′ : ℤ → Event
   Op′ : ℤ → Event
@@ -54,6 +55,8 @@ pub data Event : Type 0 where
   Invoke′ : (cell : ℕ) (tag : Name) → Event
   Call′ : (label : Name) → Event
   Outside′ : (number : ℕ) (tag : Name) (args : List Value) → Event
+  PrintI64′ : (newline : Bool) → ℤ → Event
+  Exit′ : Value → Event
 
 -- the next step with its event; the next step of a Substitute; no next step; no next step because of an ID
 pub data Outcome : Type 0 where

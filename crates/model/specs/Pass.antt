@@ -6,10 +6,10 @@ use mathlib.Core.Bool.{Bool, true, false}
 use mathlib.Core.List.{List, [], _∷_}
 use Rattle.syntax.specs.Context.{Context}
 use Rattle.syntax.specs.declared.names.Identifier.{Identifier}
-use Rattle.model.specs.Syntax.{Stmt, Clauses, Substitute, Call, Let, Switch, Create, Invoke, Literal, Op, IfC, end, clause, Def, Prog}
+use Rattle.model.specs.Syntax.{Stmt, Clauses, Substitute, Call, Let, Switch, Create, Invoke, Literal, Op, IfC, PrintI64, Exit, end, clause, Def, Prog}
 use Rattle.model.specs.FreeVars.{freeVars, freeVarsClauses}
 use Rattle.model.specs.Renaming.{Renaming, noRenaming, rename, renameOption, renameContext, renameIds, renameUnless}
-use Rattle.model.specs.Rules.{Linearize, ruleCall, ruleLet, ruleSwitch, ruleCreate, ruleInvoke, ruleLiteral, ruleOp, ruleIfC, ruleClause}
+use Rattle.model.specs.Rules.{Linearize, ruleCall, ruleLet, ruleSwitch, ruleCreate, ruleInvoke, ruleLiteral, ruleOp, ruleIfC, rulePrintI64, ruleExit, ruleClause}
 
 -- `linearizeStmt s ρ` linearizes s renamed by ρ
 unfoldable mutual
@@ -25,6 +25,8 @@ unfoldable mutual
   linearizeStmt (Literal lit var next) ρ = ruleLiteral lit var (linearizeStmt next ρ) (renameIds ρ (freeVars next))
   linearizeStmt (Op fst op snd var next) ρ = ruleOp (rename ρ fst) op (rename ρ snd) var (linearizeStmt next ρ) (renameIds ρ (freeVars next))
   linearizeStmt (IfC sort fst snd thenc elsec) ρ = ruleIfC sort (rename ρ fst) (renameOption ρ snd) (linearizeStmt thenc ρ) (linearizeStmt elsec ρ)
+  linearizeStmt (PrintI64 newline var next) ρ = rulePrintI64 newline (rename ρ var) (linearizeStmt next ρ) (renameIds ρ (freeVars next))
+  linearizeStmt (Exit var) ρ = ruleExit (rename ρ var)
 
   -- the clauses of a Switch, whose parameters come behind the context, or of a Create, where they come before it
   pub linearizeClauses : Clauses → (before : Bool) → Renaming → Linearize Clauses

@@ -9,7 +9,7 @@ use lib.ListN.{length}
 use Rattle.syntax.specs.Sets.{elem, distinct}
 use Rattle.syntax.specs.Context.{Context, ids}
 use Rattle.syntax.specs.declared.names.VarId.{VarId}
-use Rattle.model.specs.Syntax.{Stmt, Clauses, Substitute, Call, Let, Switch, Create, Invoke, Literal, Op, IfC, end, clause, Def, Prog}
+use Rattle.model.specs.Syntax.{Stmt, Clauses, Substitute, Call, Let, Switch, Create, Invoke, Literal, Op, IfC, PrintI64, Exit, end, clause, Def, Prog}
 use Rattle.model.specs.Sizes.{recordsDefs, depthDefs, count}
 use Rattle.model.specs.Lists.{every}
 use Rattle.model.specs.FreeVars.{optionalId}
@@ -35,6 +35,9 @@ unfoldable mutual
   asked (Literal lit var next) q b Δ = q Δ (Literal lit var next) && (b Δ (var .id ∷ []) && asked next q b (var .id ∷ Δ))
   asked (Op fst op snd var next) q b Δ = q Δ (Op fst op snd var next) && (b Δ (var .id ∷ []) && asked next q b (var .id ∷ Δ))
   asked (IfC sort fst snd thenc elsec) q b Δ = q Δ (IfC sort fst snd thenc elsec) && (asked thenc q b Δ && asked elsec q b Δ)
+  -- print.rs, exit.rs: no variable is bound
+  asked (PrintI64 newline var next) q b Δ = q Δ (PrintI64 newline var next) && asked next q b Δ
+  asked (Exit var) q b Δ = q Δ (Exit var)
 
   pub askedClauses : Clauses → OfStmt → OfBinders → List VarId → Bool
   askedClauses end q b Δ = true
@@ -67,6 +70,8 @@ plain Δ (Invoke var tag ty args) = true
 plain Δ (Literal lit var next) = true
 plain Δ (Op fst op snd var next) = true
 plain Δ (IfC sort fst snd thenc elsec) = true
+plain Δ (PrintI64 newline var next) = true
+plain Δ (Exit var) = true
 
 abbrev pub question6 : Prog → Bool
 question6 P = askedDefs (P .defs) plain anyBinders
@@ -99,6 +104,8 @@ uses (Invoke var tag ty args) = var .id ∷ ids args
 uses (Literal lit var next) = []
 uses (Op fst op snd var next) = fst .id ∷ snd .id ∷ []
 uses (IfC sort fst snd thenc elsec) = fst .id ∷ optionalId snd
+uses (PrintI64 newline var next) = var .id ∷ []
+uses (Exit var) = var .id ∷ []
 
 abbrev pub inScope : OfStmt
 inScope Δ s = every (λ (x : VarId). elem x Δ) (uses s)

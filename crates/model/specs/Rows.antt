@@ -1,7 +1,8 @@
 -- The rows of document 01, as rows of one table under one theorem: a to e of `syntax`, f to k, the lines below them, and the order of
--- draws that "The Rust" states.
+-- draws that "The Rust" states; and rows for print.rs and exit.rs (document 02, A.1).
 use Prim.Native.Nat.{ℕ}
 use mathlib.Core.Path.{_≡_, refl}
+use mathlib.Core.Bool.{true, false}
 use mathlib.Core.List.{List, [], _∷_, _++_, map}
 use mathlib.Core.Option.{Option, none, some}
 use Rattle.syntax.specs.Context.{Context}
@@ -16,7 +17,7 @@ use Rattle.syntax.specs.declared.types.Ty.the-variants.{I64, Decl}
 use Rattle.syntax.specs.declared.context.Chirality.the-variants.{Prd, Cns, Ext}
 use Rattle.syntax.specs.declared.context.ContextBinding.{ContextBinding}
 use Rattle.syntax.specs.declared.op.BinOp.the-variants.{Sum}
-use Rattle.model.specs.Syntax.{Stmt, Substitute, Call, Let, Switch, Create, Invoke, Op, end, clause}
+use Rattle.model.specs.Syntax.{Stmt, Substitute, Call, Let, Switch, Create, Invoke, Op, PrintI64, Exit, end, clause}
 use Rattle.model.specs.FreeVars.{freeVars}
 use Rattle.model.specs.Renaming.{noRenaming, renameUnless}
 use Rattle.model.specs.Rules.{bind, arrange, freshenUnless, freshVarUnless, moveBehind}
@@ -105,8 +106,28 @@ table =
     ∷ linearizing (e 1 ∷ []) (Create (v 2) T none (clause K [] (Call K (e 1 ∷ e 1 ∷ [])) end) (Call K (e 1 ∷ e 1 ∷ c 2 ∷ []))) 2
     (Substitute ((e 4, v 1) ∷ (e 1, v 1) ∷ []) (Create (v 2) T (some (e 1 ∷ [])) (clause K [] (Substitute ((e 1, v 1) ∷ (e 3, v 1) ∷ []) (Call K [])) end)
     (Substitute ((e 4, v 4) ∷ (e 5, v 4) ∷ (c 2, v 2) ∷ []) (Call K [])))) 5
+    -- PrintI64 retains its var beside what its next needs, in one filter: 1←1, 4←4; what it kept is the next's context
+    ∷ linearizing (e 1 ∷ e 2 ∷ e 3 ∷ e 4 ∷ []) (PrintI64 true (v 1) (Call K (e 1 ∷ e 4 ∷ []))) 4
+    (Substitute ((e 1, v 1) ∷ (e 4, v 4) ∷ []) (PrintI64 true (v 1) (Call K []))) 4
+    -- the same where its next does not use the var
+    ∷ linearizing (e 1 ∷ e 2 ∷ e 3 ∷ e 4 ∷ []) (PrintI64 false (v 1) (Call K (e 4 ∷ []))) 4
+    (Substitute ((e 1, v 1) ∷ (e 4, v 4) ∷ []) (PrintI64 false (v 1) (Substitute ((e 4, v 4) ∷ []) (Call K [])))) 4
+    -- .. and where the context is right there is no Substitute; the spelling is the use's own
+    ∷ linearizing (e 1 ∷ e 2 ∷ []) (PrintI64 false (v′ 1) (Call K (e 1 ∷ e 2 ∷ []))) 2 (PrintI64 false (v′ 1) (Call K [])) 2
+    -- Exit is left as it is, whatever the context holds
+    ∷ linearizing (e 1 ∷ p 2 ∷ c 3 ∷ []) (Exit (v 1)) 3 (Exit (v 1)) 3
+    ∷ linearizing (e 1 ∷ []) (Exit (v′ 1)) 1 (Exit (v′ 1)) 1
+    -- under a Create's renaming: 5←1, 1←1; the next has context [5 3] and uses 5
+    ∷ linearizing (e 1 ∷ e 2 ∷ []) (Create (v 3) T none (clause K (e 4 ∷ []) (Exit (v 1)) end) (PrintI64 true (v 1) (Exit (v′ 1)))) 4
+    (Substitute ((e 5, v 1) ∷ (e 1, v 1) ∷ []) (Create (v 3) T (some (e 1 ∷ [])) (clause K (e 4 ∷ []) (Exit (v 1)) end)
+    (Substitute ((e 5, v 5) ∷ []) (PrintI64 true (v 5) (Exit (v 5)))))) 5
+    -- a Create that inserts a Substitute renames to the context's spelling also where the ID stays; one that inserts none does not
+    ∷ linearizing (e 1 ∷ e 2 ∷ []) (Create (v 3) T none end (PrintI64 true (v′ 1) (Exit (v′ 1)))) 3
+    (Substitute ((e 1, v 1) ∷ []) (Create (v 3) T (some []) end (Substitute ((e 1, v 1) ∷ []) (PrintI64 true (v 1) (Exit (v 1)))))) 3
+    ∷ linearizing (e 1 ∷ []) (Create (v 3) T none end (PrintI64 true (v′ 1) (Exit (v′ 1)))) 3
+    (Create (v 3) T (some []) end (Substitute ((e 1, v 1) ∷ []) (PrintI64 true (v′ 1) (Exit (v′ 1))))) 3
     ∷ [])
 
 pub rows-hold : All Claim table
 unfolding fresh freshen retained fill filtered arrange freshenUnless renameUnless freshVarUnless moveBehind linearizeStmt freeVars
-rows-hold = refl & refl & refl & refl & refl & refl & refl & refl & refl & refl & refl & refl & refl & refl & refl & refl & refl & refl & done
+rows-hold = refl & refl & refl & refl & refl & refl & refl & refl & refl & refl & refl & refl & refl & refl & refl & refl & refl & refl & refl & refl & refl & refl & refl & refl & refl & refl & done

@@ -20,7 +20,7 @@ use Rattle.syntax.specs.declared.types.Ty.the-variants.{I64}
 use Rattle.syntax.specs.declared.context.ContextBinding.{ContextBinding}
 use Rattle.syntax.specs.declared.op.BinOp.{BinOp}
 use Rattle.syntax.specs.declared.ifc.IfSort.{IfSort}
-use Rattle.model.specs.Syntax.{Stmt, Clauses, Substitute, Call, Let, Switch, Create, Invoke, Literal, Op, IfC, clause}
+use Rattle.model.specs.Syntax.{Stmt, Clauses, Substitute, Call, Let, Switch, Create, Invoke, Literal, Op, IfC, PrintI64, Exit, clause}
 use Rattle.model.specs.Lists.{zip}
 use Rattle.model.specs.Renaming.{Renaming, renaming}
 
@@ -120,6 +120,17 @@ ruleIfC sort fst snd linearizeThen linearizeElse Γ m =
     let (thenc, m₁) = linearizeThen Γ m in
     let (elsec, m₂) = linearizeElse Γ m₁ in
     (IfC sort fst snd thenc elsec, m₂)
+
+-- print.rs
+abbrev pub rulePrintI64 : (newline : Bool) (var : Identifier) (linearizeNext : Linearize Stmt) (freeNext : List VarId) → Linearize Stmt
+rulePrintI64 newline var linearizeNext freeNext Γ m =
+    let new = filterBySet (var .id ∷ freeNext) Γ in
+    let (next, m₁) = linearizeNext new m in
+    (arrange (sameContext Γ new) new new (PrintI64 newline var next), m₁)
+
+-- mod.rs: exit statements need not be changed
+abbrev pub ruleExit : (var : Identifier) → Linearize Stmt
+ruleExit var Γ m = (Exit var, m)
 
 -- a clause and those after it: of a Switch, whose parameters come behind the context, or of a Create, where they come before it
 abbrev pub ruleClause : (xtor : Identifier) (context : Context) (before : Bool) (linearizeBody : Linearize Stmt) (linearizeRest : Linearize Clauses) → Linearize Clauses

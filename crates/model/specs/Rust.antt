@@ -13,11 +13,11 @@ use Rattle.syntax.specs.declared.types.Ty.{Ty}
 use Rattle.syntax.specs.declared.context.ContextBinding.{ContextBinding}
 use Rattle.syntax.specs.declared.op.BinOp.{BinOp}
 use Rattle.syntax.specs.declared.ifc.IfSort.{IfSort}
-use Rattle.model.specs.Syntax.{Stmt, Clauses, Substitute, Call, Let, Switch, Create, Invoke, Literal, Op, IfC, end, clause, Def}
+use Rattle.model.specs.Syntax.{Stmt, Clauses, Substitute, Call, Let, Switch, Create, Invoke, Literal, Op, IfC, PrintI64, Exit, end, clause, Def}
 use Rattle.model.specs.Sizes.{depth}
 use Rattle.model.specs.FreeVars.{freeVars, freeVarsClauses}
 use Rattle.model.specs.Renaming.{Renaming, rename, renameOption, renameContext, renameIds}
-use Rattle.model.specs.Rules.{Linearize, ruleCall, ruleLet, ruleSwitch, ruleCreate, ruleInvoke, ruleLiteral, ruleOp, ruleIfC, ruleClause}
+use Rattle.model.specs.Rules.{Linearize, ruleCall, ruleLet, ruleSwitch, ruleCreate, ruleInvoke, ruleLiteral, ruleOp, ruleIfC, rulePrintI64, ruleExit, ruleClause}
 
 -- a statement with its annotations (`free_vars_next`, `free_vars_clauses`)
 mutual
@@ -31,6 +31,8 @@ mutual
     Literalⁿ : (lit : ℤ) (var : Identifier) (next : Noted) (freeNext : List VarId) → Noted
     Opⁿ : (fst : Identifier) (op : BinOp) (snd : Identifier) (var : Identifier) (next : Noted) (freeNext : List VarId) → Noted
     IfCⁿ : (sort : IfSort) (fst : Identifier) (snd : Option Identifier) (thenc elsec : Noted) → Noted
+    PrintI64ⁿ : (newline : Bool) (var : Identifier) (next : Noted) (freeNext : List VarId) → Noted
+    Exitⁿ : (var : Identifier) → Noted
 
   pub data NotedClauses : Type 0 where
     endⁿ : NotedClauses
@@ -48,6 +50,8 @@ unfoldable mutual
   annotate (Literal lit var next) = Literalⁿ lit var (annotate next) (freeVars next)
   annotate (Op fst op snd var next) = Opⁿ fst op snd var (annotate next) (freeVars next)
   annotate (IfC sort fst snd thenc elsec) = IfCⁿ sort fst snd (annotate thenc) (annotate elsec)
+  annotate (PrintI64 newline var next) = PrintI64ⁿ newline var (annotate next) (freeVars next)
+  annotate (Exit var) = Exitⁿ var
 
   pub annotateClauses : Clauses → NotedClauses
   annotateClauses end = endⁿ
@@ -65,6 +69,8 @@ unfoldable mutual
   substSim (Literalⁿ lit var next freeNext) σ = Literalⁿ lit var (substSim next σ) (renameIds σ freeNext)
   substSim (Opⁿ fst op snd var next freeNext) σ = Opⁿ (rename σ fst) op (rename σ snd) var (substSim next σ) (renameIds σ freeNext)
   substSim (IfCⁿ sort fst snd thenc elsec) σ = IfCⁿ sort (rename σ fst) (renameOption σ snd) (substSim thenc σ) (substSim elsec σ)
+  substSim (PrintI64ⁿ newline var next freeNext) σ = PrintI64ⁿ newline (rename σ var) (substSim next σ) (renameIds σ freeNext)
+  substSim (Exitⁿ var) σ = Exitⁿ (rename σ var)
 
   pub substSimClauses : NotedClauses → Renaming → NotedClauses
   substSimClauses endⁿ σ = endⁿ
@@ -92,6 +98,8 @@ linearizeⁿ (suc n) (Invokeⁿ var tag ty args) = ruleInvoke var tag ty args
 linearizeⁿ (suc n) (Literalⁿ lit var next freeNext) = ruleLiteral lit var (linearizeⁿ n next) freeNext
 linearizeⁿ (suc n) (Opⁿ fst op snd var next freeNext) = ruleOp fst op snd var (linearizeⁿ n next) freeNext
 linearizeⁿ (suc n) (IfCⁿ sort fst snd thenc elsec) = ruleIfC sort fst snd (linearizeⁿ n thenc) (linearizeⁿ n elsec)
+linearizeⁿ (suc n) (PrintI64ⁿ newline var next freeNext) = rulePrintI64 newline var (linearizeⁿ n next) freeNext
+linearizeⁿ (suc n) (Exitⁿ var) = ruleExit var
 
 -- def.rs and program.rs: each body annotated, then linearized in the context of its parameters
 unfoldable pub linearizeDefsⁿ : List Def → ℕ → List Def × ℕ

@@ -4,7 +4,7 @@ use mathlib.Core.List.{List, [], _∷_}
 use mathlib.Core.Option.{Option, none, some}
 use lib.ListN.{length}
 use Rattle.syntax.specs.Context.{Context}
-use Rattle.model.specs.Syntax.{Stmt, Clauses, Substitute, Call, Let, Switch, Create, Invoke, Literal, Op, IfC, end, clause, Def}
+use Rattle.model.specs.Syntax.{Stmt, Clauses, Substitute, Call, Let, Switch, Create, Invoke, Literal, Op, IfC, PrintI64, Exit, end, clause, Def}
 
 -- document 01, "The image": a definition, then its body; a statement, then its clauses (each followed by its body), then its next
 unfoldable mutual
@@ -18,6 +18,8 @@ unfoldable mutual
   records (Literal lit var next) = suc (records next)
   records (Op fst op snd var next) = suc (records next)
   records (IfC sort fst snd thenc elsec) = suc (records thenc + records elsec)
+  records (PrintI64 newline var next) = suc (records next)
+  records (Exit var) = 1
 
   pub recordsClauses : Clauses → ℕ
   recordsClauses end = 0
@@ -39,6 +41,8 @@ unfoldable mutual
   depth (Literal lit var next) = suc (depth next)
   depth (Op fst op snd var next) = suc (depth next)
   depth (IfC sort fst snd thenc elsec) = suc (max (depth thenc) (depth elsec))
+  depth (PrintI64 newline var next) = suc (depth next)
+  depth (Exit var) = 1
 
   pub depthClauses : Clauses → ℕ
   depthClauses end = 0
@@ -67,6 +71,8 @@ count (Invoke var tag ty args) = length args
 count (Literal lit var next) = 0
 count (Op fst op snd var next) = 0
 count (IfC sort fst snd thenc elsec) = 0
+count (PrintI64 newline var next) = 0
+count (Exit var) = 0
 
 -- the largest count in the records of a statement and below it
 unfoldable mutual
@@ -80,6 +86,8 @@ unfoldable mutual
   widest (Literal lit var next) = widest next
   widest (Op fst op snd var next) = widest next
   widest (IfC sort fst snd thenc elsec) = max (widest thenc) (widest elsec)
+  widest (PrintI64 newline var next) = widest next
+  widest (Exit var) = 0
 
   pub widestClauses : Clauses → ℕ
   widestClauses end = 0

@@ -6,10 +6,10 @@ use mathlib.Core.Option.{Option, none, some}
 use lib.ListN.{length}
 use Rattle.syntax.specs.Context.{ids}
 use Rattle.syntax.specs.declared.names.Name.{Name}
-use Rattle.model.specs.Syntax.{Stmt, Substitute, Call, Let, Switch, Create, Invoke, Literal, Op, IfC, Def, Prog}
+use Rattle.model.specs.Syntax.{Stmt, Substitute, Call, Let, Switch, Create, Invoke, Literal, Op, IfC, PrintI64, Exit, Def, Prog}
 use Rattle.model.specs.Lists.{lookup, lookups}
 use Rattle.model.specs.Integers.{evalOp, holds}
-use Rattle.model.specs.Machine.{Value, int, cell, Entries, Cells, xtor, closure, State, at, ended, Literal′, Op′, IfC′, Let′, Create′, Switch′, Invoke′, Call′, Outside′, Outcome, shows, halts, orHalt, nth, pairUp, findDef, findClause, asInt, second, matched, Target, out, clo, invoked, Given, value, Start, begun, noStart}
+use Rattle.model.specs.Machine.{Value, int, cell, Entries, Cells, xtor, closure, State, at, ended, Literal′, Op′, IfC′, PrintI64′, Exit′, Let′, Create′, Switch′, Invoke′, Call′, Outside′, Outcome, shows, halts, orHalt, nth, pairUp, findDef, findClause, asInt, second, matched, Target, out, clo, invoked, Given, value, Start, begun, noStart}
 
 -- Invoke runs the clause in it with the parameters added; of an outside number shows it, the tag and argument values, and ends the run
 unfoldable pub sourceEnter : (end : State) (tag : Name) (args : List Value) → Cells → Target → Outcome
@@ -63,6 +63,15 @@ sourceWork P (IfC sort fst snd thenc elsec) ε K =
     orHalt (asInt a) λ x.
     orHalt (asInt b) λ y.
     shows (IfC′ (holds sort x y)) (at (cond (holds sort x y) thenc elsec) ε K)
+-- document 02, A.1: PrintI64 needs an integer, reads it and shows it with the newline byte
+sourceWork P (PrintI64 newline var next) ε K =
+    orHalt (lookup (var .id) ε) λ v.
+    orHalt (asInt v) λ z.
+    shows (PrintI64′ newline z) (at next ε K)
+-- document 02, A.1: Exit shows its value, of whatever sort, and ends the run, whatever else the environment holds
+sourceWork P (Exit var) ε K =
+    orHalt (lookup (var .id) ε) λ v.
+    shows (Exit′ v) (ended (Exit var) ε K)
 
 -- the source machine's step
 unfoldable pub sourceStep : Prog → State → Outcome

@@ -1,5 +1,6 @@
 -- Programs as trees (statements/*.rs, clause.rs, def.rs, program.rs), over the types that the code declares.
 use Prim.Native.Nat.{ℕ}
+use mathlib.Core.Bool.{Bool}
 use mathlib.Core.List.{List}
 use mathlib.Core.Option.{Option}
 use lib.IntN.{ℤ}
@@ -22,6 +23,8 @@ mutual
     Literal : (lit : ℤ) (var : Identifier) (next : Stmt) → Stmt
     Op : (fst : Identifier) (op : BinOp) (snd : Identifier) (var : Identifier) (next : Stmt) → Stmt
     IfC : (sort : IfSort) (fst : Identifier) (snd : Option Identifier) (thenc elsec : Stmt) → Stmt
+    PrintI64 : (newline : Bool) (var : Identifier) (next : Stmt) → Stmt
+    Exit : (var : Identifier) → Stmt
 
   pub data Clauses : Type 0 where
     end : Clauses

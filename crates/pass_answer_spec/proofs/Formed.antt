@@ -10,7 +10,7 @@ use Rattle.syntax.specs.Context.{Context, idOf, ids, sameContext}
 use Rattle.syntax.specs.Filter.{filterBySet}
 use Rattle.syntax.specs.declared.context.Chirality.the-variants.{Prd, Cns, Ext}
 use Rattle.syntax.specs.declared.types.Ty.the-variants.{I64}
-use Rattle.model.specs.Syntax.{Stmt, Clauses, Substitute, Call, Let, Switch, Create, Invoke, Literal, Op, IfC, end, clause, Def}
+use Rattle.model.specs.Syntax.{Stmt, Clauses, Substitute, Call, Let, Switch, Create, Invoke, Literal, Op, IfC, PrintI64, Exit, end, clause, Def}
 use Rattle.model.specs.FreeVars.{freeVars, freeVarsClauses}
 use Rattle.model.specs.Renaming.{Renaming, noRenaming, rename, renameIds, renameContext, renaming, renameUnless}
 use Rattle.model.specs.Rules.{bind, arrange, freshenUnless, freshVarUnless, moveBehind}
@@ -138,6 +138,13 @@ module _ (w : ℕ) where
               (linearizeStmt-formed thenc (all-left (RecordOk w) (flatten thenc) (flatten elsec) (f .1)) ρ r Γ h m (omega (arith, linearizeStmt-grows elsec ρ Γ m₁)) (omega arith))
               (linearizeStmt-formed elsec (all-right (RecordOk w) (flatten thenc) (flatten elsec) (f .1)) ρ r Γ h m₁ k (omega arith)),
         )
+    linearizeStmt-formed (PrintI64 newline var next) f ρ r Γ h m k n =
+        let s = (rename ρ var) .id ∷ renameIds ρ (freeVars next) in
+        let new = filterBySet s Γ in
+        let hn = filter-holds w s Γ h in
+        arrange-formed (sameContext Γ new) new new _ hn hn n
+        (λ n. ((tt, rename-holds w ρ r var (f .0 .1)), linearizeStmt-formed next (f .1) ρ r new hn m k n))
+    linearizeStmt-formed (Exit var) f ρ r Γ h m k n = (rename-holds w ρ r var (f .0), tt)
 
     pub linearizeClauses-formed : (cs : Clauses) → All (RecordOk w) (flattenClauses cs) → (before : Bool) (ρ : Renaming) → RenamingOk w ρ → (Γ : Context) → All (BindingOk w) Γ
         → (m : ℕ) → (linearizeClauses cs before ρ Γ m) .1 < 256 ^ w → widestClauses ((linearizeClauses cs before ρ Γ m) .0) ≤ 128

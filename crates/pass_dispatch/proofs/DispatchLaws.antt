@@ -7,28 +7,40 @@ use mathlib.Core.List.{List, [], _∷_}
 use native.Mathlib.Omega.{arith}
 use borrow.Author.Tests.{eqb-true, ne-eqb}
 use lib.Dec.{eqb}
-use lib.ListN.{getD}
+use lib.ListN.{length, getD}
 use Rattle.syntax.specs.declared.names.VarId.{VarId}
 use Rattle.image_directory.specs.declared.Frame.{Frame}
-use Rattle.image_spec.specs.Records.{Record, definition, substitute, call, let', switch, create, invoke, literal, op, ifc, clause'}
+use Rattle.image_spec.specs.Records.{Record, definition, substitute, call, let', switch, create, invoke, literal, op, ifc, clause', print, exit}
 use Rattle.image_spec.specs.Kinds.{kindOf}
 use Rattle.image_write_directory.specs.declared.progress.Progress.{Progress}
+use Rattle.image_places_spec.specs.Views.{binders}
 use Rattle.image_read_nodes.specs.Nodes.{recordAt}
+use Rattle.pass_records.proofs.MadeLaws.{made, partsOf}
 use Rattle.pass_records.proofs.ListPlaces.{at-made}
 use Rattle.pass_work_spec.specs.Work.{Work}
+use Rattle.pass_context.specs.declared.Held.{Held}
 use Rattle.pass_entries.proofs.MaskLaws.{marked-past}
 use Rattle.pass_step_spec.specs.Steps.{Step, stepOf}
 use Rattle.pass_step_spec.specs.Fronts.{wanted, rightOf, frontRecords, frontBytes, tailSize}
-use Rattle.pass_step.specs.Stepping.{Says, SourceAt, Steps, StepsAs, Leaves, LeavesAs, OpensAs}
+use Rattle.pass_step.specs.Stepping.{Says, SourceAt, Workable, Steps, StepsAs, Leaves, LeavesAs, OpensAs}
 use Rattle.pass_step.proofs.StepLaws.{source-as}
 use Rattle.pass_step.specs.declared.stepped.Stepped.{Stepped}
 use Rattle.pass_step.specs.declared.stepped.Opened.{Opened}
 
 -- ── what a kind asks for ──
 
--- one of three kinds, and neither of the first two
-pub last-of : {kind : ℕ} (a b k : ℕ) → (eqb kind a || (eqb kind b || eqb kind k)) ≡ true → (kind ≡ a → ⊥) → (kind ≡ b → ⊥) → kind ≡ k
-last-of {kind} a b k e x y = eqb-true kind k (sym (ap (λ (t : Bool). t || (eqb kind b || eqb kind k)) (ne-eqb kind a x) ∙ ap (λ (t : Bool). t || eqb kind k) (ne-eqb kind b y)) ∙ e)
+-- one of some kinds, and not the first
+pub or-later : {kind : ℕ} (a : ℕ) {later : Bool} → (eqb kind a || later) ≡ true → (kind ≡ a → ⊥) → later ≡ true
+or-later {kind} a {later} e x = sym (ap (λ (t : Bool). t || later) (ne-eqb kind a x)) ∙ e
+
+-- one of four kinds, and none of the first three
+pub last-of : {kind : ℕ} (a b c k : ℕ) → (eqb kind a || (eqb kind b || (eqb kind c || eqb kind k))) ≡ true → (kind ≡ a → ⊥) → (kind ≡ b → ⊥) → (kind ≡ c → ⊥) → kind ≡ k
+last-of {kind} a b c k e x y z = eqb-true kind k (or-later c (or-later b (or-later a e x) y) z)
+
+-- room for what the record binds is room for what a record of its kind binds
+pub workable-as : {g : Frame} {s : List ℕ} {i kind : ℕ} {held : Held} {n : ℕ} (k : ℕ) → kind ≡ k → SourceAt g s i kind → Workable held n (length (binders (recordAt g s i)))
+    → Workable held n (length (binders (made (recordAt g s i) (partsOf (recordAt g s i)) k)))
+workable-as {held = held} {n} k e a w = subst (λ (r : Record). Workable held n (length (binders r))) (at-made k (source-as k e a .at)) w
 
 -- ── which sets are looked at ──
 
@@ -36,9 +48,9 @@ last-of {kind} a b k e x y = eqb-true kind k (sym (ap (λ (t : Bool). t || (eqb 
 abbrev pub seesClauses : ℕ → Bool
 seesClauses k = getD (false ∷ false ∷ false ∷ false ∷ false ∷ true ∷ true ∷ []) k false
 
--- .. and at the set of its bodies? That of a Let, a Create, a Literal and an Op does.
+-- .. and at the set of its bodies? That of a Let, a Create, a Literal, an Op and a PrintI64 does.
 abbrev pub seesNext : ℕ → Bool
-seesNext k = getD (false ∷ false ∷ false ∷ false ∷ true ∷ false ∷ true ∷ false ∷ true ∷ true ∷ []) k false
+seesNext k = getD (false ∷ false ∷ false ∷ false ∷ true ∷ false ∷ true ∷ false ∷ true ∷ true ∷ false ∷ false ∷ true ∷ []) k false
 
 -- the set, or the empty one if it is not looked at
 abbrev seen : Bool → List VarId → List VarId
@@ -56,6 +68,8 @@ step-sees (literal z v) fc fn = refl
 step-sees (op f o j v) fc fn = refl
 step-sees (ifc c f j) fc fn = refl
 step-sees (clause' x Γ) fc fn = refl
+step-sees (print n v) fc fn = refl
+step-sees (exit v) fc fn = refl
 
 -- the empty mask says the empty set
 pub says-none : (W : Work) → Says 0 [] W

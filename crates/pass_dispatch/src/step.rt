@@ -4,21 +4,25 @@ use image_write_directory::progress::Progress;
 use pass_context::Held;
 use pass_statement_call::call;
 use pass_statement_create::create;
+use pass_statement_exit::exit;
 use pass_statement_ifc::ifc;
 use pass_statement_invoke::invoke;
 use pass_statement_let::let_;
 use pass_statement_literal::literal;
 use pass_statement_op::op;
+use pass_statement_print::print;
 use pass_statement_switch::switch;
 use pass_step::stepped::FreeVars;
 use pass_step::stepped::Opened;
 use pass_step::stepped::Stepped;
 ghost use Prim.Native.Nat.{_≤_};
+ghost use lib.ListN.{length};
+ghost use Rattle.image_places_spec.specs.Views.{binders};
 ghost use Rattle.image_read_nodes.specs.Nodes.{recordAt};
 ghost use Rattle.pass_entries.specs.Masks.{InPlaces};
 ghost use Rattle.pass_context.specs.Holding.{workOf};
 ghost use Rattle.pass_step.specs.Stepping.{RoomAt, SourceAt, Workable, OpensAs, StepsAs, LeavesAs};
-ghost use Rattle.pass_dispatch.specs.Choices.{Binds, Settles};
+ghost use Rattle.pass_dispatch.specs.Choices.{Proceeds, Settles};
 
 // What comes before the clauses of a Switch or a Create.
 pub fn open(
@@ -39,8 +43,8 @@ pub fn open(
     create::open(image, frame, i, free_vars, context, so_far)
 }
 
-// The step of a statement that binds, and has no clauses: Let, Literal or Op.
-pub fn bind(
+// The step of a statement with one body and no clauses: Let, Literal, Op or PrintI64. There is room for what it binds.
+pub fn proceed(
     image: &[u8],
     frame: Frame,
     i: usize,
@@ -52,7 +56,7 @@ pub fn bind(
     lengths: &mut [usize],
     so_far: Progress,
 ) -> Stepped
-    requires { ⌜ SourceAt frame (now image) i kind × (Binds kind × (InPlaces (workOf context) × (Workable context «in_scope» 1 × RoomAt «so_far»))) ⌝ }
+    requires { ⌜ SourceAt frame (now image) i kind × (Proceeds kind × (InPlaces (workOf context) × (Workable context «in_scope» (length (binders (recordAt frame (now image) i))) × RoomAt «so_far»))) ⌝ }
     ensures { λ r. ⌜ StepsAs (frame .id) (recordAt frame (now (image .entry)) i) («free_vars» .clauses) («free_vars» .next) (workOf context) «in_scope» (now (out .entry)) (now (out .exit)) (now (lengths .entry)) (now (lengths .exit)) «so_far» r ⌝ }
 {
     let next = free_vars.next;
@@ -79,7 +83,18 @@ pub fn bind(
             lengths,
             so_far,
         ),
-        _ => op::linearize(
+        9 => op::linearize(
+            image,
+            frame,
+            i,
+            next,
+            context,
+            in_scope,
+            out,
+            lengths,
+            so_far,
+        ),
+        _ => print::linearize(
             image,
             frame,
             i,
@@ -93,7 +108,7 @@ pub fn bind(
     }
 }
 
-// The step of a statement that binds nothing, and has no clauses: Call, Invoke or IfC. The context stays.
+// The step of a statement that leaves the context as it is, and has no clauses: Call, Invoke, IfC or Exit.
 pub fn settle(
     image: &[u8],
     frame: Frame,
@@ -112,6 +127,7 @@ pub fn settle(
     match kind {
         3 => call::linearize(image, frame, i, context, in_scope, out, lengths, so_far),
         7 => invoke::linearize(image, frame, i, context, in_scope, out, lengths, so_far),
-        _ => ifc::linearize(image, frame, i, context, in_scope, out, lengths, so_far),
+        10 => ifc::linearize(image, frame, i, context, in_scope, out, lengths, so_far),
+        _ => exit::linearize(image, frame, i, context, in_scope, out, lengths, so_far),
     }
 }

@@ -1,8 +1,9 @@
--- Where the parts of a record without a list stand in bytes where the record stands: a Switch, a Create, a Literal, an Op and an IfC.
+-- Where the parts of a record without a list stand in bytes where the record stands: a Switch, a Create, a Literal, an Op, an IfC, a PrintI64
+-- and an Exit.
 -- Assumes nothing.
 use Prim.Native.Nat.{ℕ, _+_, _≤_, _<_}
 use mathlib.Core.Path.{_≡_, refl, sym, ap, _∙_, subst}
-use mathlib.Core.Bool.{true, false≢true}
+use mathlib.Core.Bool.{Bool, true, false≢true}
 use mathlib.Core.List.{List, [], _∷_, append-nil}
 use mathlib.Core.Option.{Option, none, some}
 use native.Mathlib.Omega.{arith}
@@ -18,8 +19,8 @@ use Rattle.syntax.specs.declared.op.BinOp.{BinOp}
 use Rattle.syntax.specs.declared.ifc.IfSort.{IfSort}
 use Rattle.model.specs.Questions.{isNone}
 use Rattle.image_spec.specs.Parse.{got, numbered, orRefused, oneOf, mark, Marked}
-use Rattle.image_spec.specs.Fields.{operatorCode, sortCode, integerBytes, identifierBytes, typeBytes, IdentifierOk, TypeOk}
-use Rattle.image_spec.specs.Records.{Record, switch, create, literal, op, ifc, recordBytes, RecordOk}
+use Rattle.image_spec.specs.Fields.{operatorCode, sortCode, newlineCode, integerBytes, identifierBytes, typeBytes, IdentifierOk, TypeOk}
+use Rattle.image_spec.specs.Records.{Record, switch, create, literal, op, ifc, print, exit, recordBytes, RecordOk}
 use Rattle.image_spec.specs.Kinds.{kindOf, clausesOf, fixed, tailBytes}
 use Rattle.image_spec.proofs.ParseLaws.{Exact}
 use Rattle.image_spec.proofs.FieldLaws.{identifier-length, type-length}
@@ -27,7 +28,7 @@ use Rattle.image_spec.proofs.KindLaws.{tail-at, fixed-le}
 use Rattle.scope_spec.specs.Flat.{plainRecord}
 use Rattle.image_read_parts.specs.Standing.{Stands, ReadsAs, IsCode}
 use Rattle.image_read_parts.proofs.StandingLaws.{inner, stands-in, stands-room, byte-run, second-run}
-use Rattle.image_read_parts.proofs.PartPlaces.{byteOf, switch-var, switch-ty, create-var, create-ty, literal-integer, literal-var, op-fst, op-code, op-snd, op-var, ifc-code, ifc-fst}
+use Rattle.image_read_parts.proofs.PartPlaces.{byteOf, switch-var, switch-ty, create-var, create-ty, literal-integer, literal-var, op-fst, op-code, op-snd, op-var, ifc-code, ifc-fst, print-code, print-var, exit-var}
 use Rattle.image_read_parts.proofs.NamedPlaces.{identifier-room, byte-room}
 use Rattle.image_read_nodes.specs.Nodes.{firstOf, operandOf, targetOf, secondOf}
 use Rattle.pass_records.specs.Unpacked.{SecondAt}
@@ -207,6 +208,47 @@ module _ (w : ℕ) (s : List ℕ) (o : ℕ) (r : Record) where
             snd-at = tail-in (mark (identifierBytes w)) (Marked (IdentifierOk w)) j w (4 + w) (ifc c f j) refl (st .fits .1 .1) (omega arith) st;
             inside = identifier-room w s (o + 2) f d;
           }
+
+  -- ── PrintI64 and Exit ──
+
+  pub record PrintThere : Type 0 where
+    pub newline : Bool
+    pub var : Identifier
+    pub is : r ≡ print newline var
+    pub newline-at : getD s (o + 1) 0 ≡ newlineCode newline
+    pub var-at : Stands (identifierBytes w) (IdentifierOk w) s (o + 2) var
+    pub inside : o + 2 + (2 + w) ≤ length s
+
+  pub print-there : kindOf r ≡ 12 → Stands (recordBytes w) (RecordOk w) s o r → PrintThere
+  print-there k h = go (partsOf r .newline) (firstOf r) (made-of r 12 k)
+    where
+      go : (n : Bool) (v : Identifier) → r ≡ print n v → PrintThere
+      go n v e =
+          let st : Stands (recordBytes w) (RecordOk w) s o (print n v) = subst (Stands (recordBytes w) (RecordOk w) s o) e h in
+          let c = identifier-in w st (print-var w n v (st .fits)) in
+          record {
+            newline = n;
+            var = v;
+            is = e;
+            newline-at = byte-is (inner 1 refl (omega arith) st (print-code w n v (st .fits)));
+            var-at = c;
+            inside = identifier-room w s (o + 2) v c;
+          }
+
+  pub record ExitThere : Type 0 where
+    pub var : Identifier
+    pub is : r ≡ exit var
+    pub var-at : Stands (identifierBytes w) (IdentifierOk w) s (o + 1) var
+    pub inside : o + 1 + (2 + w) ≤ length s
+
+  pub exit-there : kindOf r ≡ 13 → Stands (recordBytes w) (RecordOk w) s o r → ExitThere
+  exit-there k h = go (firstOf r) (made-of r 13 k)
+    where
+      go : (v : Identifier) → r ≡ exit v → ExitThere
+      go v e =
+          let st : Stands (recordBytes w) (RecordOk w) s o (exit v) = subst (Stands (recordBytes w) (RecordOk w) s o) e h in
+          let c = identifier-in w st (exit-var w v (st .fits)) in
+          record { var = v; is = e; var-at = c; inside = identifier-room w s (o + 1) v c }
 
 -- ── an IfC's second operand, by its mark ──
 

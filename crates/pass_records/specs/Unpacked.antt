@@ -11,7 +11,7 @@ use Rattle.syntax.specs.declared.names.Identifier.{Identifier}
 use Rattle.syntax.specs.declared.context.TypingContext.{TypingContext}
 use Rattle.image_spec.specs.Parse.{mark, Marked}
 use Rattle.image_spec.specs.Fields.{identifierBytes, listBytes, IdentifierOk, ListOk}
-use Rattle.image_spec.specs.Records.{Record, call, let', switch, create, invoke, literal, op, ifc}
+use Rattle.image_spec.specs.Records.{Record, call, let', switch, create, invoke, literal, op, ifc, print, exit}
 use Rattle.image_spec.specs.Kinds.{kindOf, fixed}
 use Rattle.image_directory.specs.Slots.{Ready}
 use Rattle.image_directory.specs.declared.Frame.{Frame}
@@ -26,6 +26,8 @@ use Rattle.pass_records.specs.declared.CreateRecord.{CreateRecord}
 use Rattle.pass_records.specs.declared.LiteralRecord.{LiteralRecord}
 use Rattle.pass_records.specs.declared.OpRecord.{OpRecord}
 use Rattle.pass_records.specs.declared.IfCRecord.{IfCRecord}
+use Rattle.pass_records.specs.declared.PrintRecord.{PrintRecord}
+use Rattle.pass_records.specs.declared.ExitRecord.{ExitRecord}
 use Rattle.pass_records.specs.declared.Second.{Second}
 use Rattle.pass_records.specs.declared.Second.the-variants.{None, Some}
 use Rattle.pass_records.specs.declared.NameAndList.{NameAndList}
@@ -67,6 +69,14 @@ secondIs (Some x) = some x
 
 abbrev pub ifcOf : IfCRecord → Record
 ifcOf c = ifc (c .sort) (c .fst) (secondIs (c .snd))
+
+-- document 02, A.1: PrintI64 (newline byte, var)
+abbrev pub printOf : PrintRecord → Record
+printOf p = print (p .newline) (p .var)
+
+-- document 02, A.1: Exit (var)
+abbrev pub exitOf : ExitRecord → Record
+exitOf e = exit (e .var)
 
 -- the record is the one that a struct stands for, and the list in the struct has as many bindings as it says
 pub record Unpacked (r meant : Record) (list : TypingContext) : Type 0 where

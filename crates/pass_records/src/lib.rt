@@ -4,6 +4,7 @@ use image_fields::count;
 use image_read_parts::binding_at;
 use image_read_parts::identifier_at;
 use image_read_parts::integer_at;
+use image_read_parts::newline_of;
 use image_read_parts::offset;
 use image_read_parts::operator_of;
 use image_read_parts::sort_of;
@@ -20,7 +21,7 @@ ghost use Rattle.image_spec.specs.Fields.{identifierBytes, IdentifierOk};
 ghost use Rattle.scope_spec.specs.Flat.{plainRecord, smallRecord};
 ghost use Rattle.image_read_parts.specs.Standing.{ReadsAs};
 ghost use Rattle.image_read_nodes.specs.Nodes.{recordAt, At};
-ghost use Rattle.pass_records.specs.Unpacked.{callOf, letOf, switchOf, createOf, invokeOf, literalOf, opOf, secondIs, ifcOf, Unpacked, ListAt, HoldsAt, SecondAt, NamedAt, NamedIs};
+ghost use Rattle.pass_records.specs.Unpacked.{callOf, letOf, switchOf, createOf, invokeOf, literalOf, opOf, secondIs, ifcOf, printOf, exitOf, Unpacked, ListAt, HoldsAt, SecondAt, NamedAt, NamedIs};
 
 pub struct CallRecord {
     pub label: Identifier,
@@ -76,6 +77,15 @@ pub struct IfCRecord {
     pub sort: IfSort,
     pub fst: Identifier,
     pub snd: Second,
+}
+
+pub struct PrintRecord {
+    pub newline: bool,
+    pub var: Identifier,
+}
+
+pub struct ExitRecord {
+    pub var: Identifier,
 }
 
 // An identifier and a list: what a definition, a Call and a clause are.
@@ -232,4 +242,27 @@ pub fn ifc(image: &[u8], frame: Frame, i: usize) -> IfCRecord
     let fst = identifier_at(image, w, start + 2);
     let snd = second_at(image, w, start + (4 + w));
     IfCRecord { sort, fst, snd }
+}
+
+// The PrintI64 at index i.
+pub fn print(image: &[u8], frame: Frame, i: usize) -> PrintRecord
+    requires { ⌜ At frame (now image) i 12 ⌝ }
+    ensures { λ r. ⌜ recordAt frame (now (image .entry)) i ≡ printOf r ⌝ }
+{
+    let w = frame.id;
+    let start = offset(image, frame, i);
+    let newline = newline_of(image[start + 1]);
+    let var = identifier_at(image, w, start + 2);
+    PrintRecord { newline, var }
+}
+
+// The Exit at index i.
+pub fn exit(image: &[u8], frame: Frame, i: usize) -> ExitRecord
+    requires { ⌜ At frame (now image) i 13 ⌝ }
+    ensures { λ r. ⌜ recordAt frame (now (image .entry)) i ≡ exitOf r ⌝ }
+{
+    let w = frame.id;
+    let start = offset(image, frame, i);
+    let var = identifier_at(image, w, start + 1);
+    ExitRecord { var }
 }

@@ -19,11 +19,13 @@ use Rattle.syntax.specs.declared.context.TypingContext.{TypingContext}
 use Rattle.syntax.specs.declared.types.Ty.{Ty}
 use Rattle.syntax.specs.Sets.{elem}
 use Rattle.syntax.proofs.Permutations.{perm-sym}
-use Rattle.image_spec.specs.Kinds.{kindOf, fixed}
-use Rattle.image_spec.specs.Records.{Record, definition, substitute, call, let', switch, create, invoke, literal, op, ifc, clause', recordBytes}
+use Rattle.image_spec.specs.Kinds.{kindOf, clausesOf, fixed}
+use Rattle.image_spec.specs.Records.{Record, create, recordBytes}
 use Rattle.image_write_parts.specs.Puts.{Puts}
 use Rattle.image_write_directory.specs.Emitting.{Noted}
 use Rattle.image_write_directory.specs.declared.progress.Progress.{Progress}
+use Rattle.image_read_nodes.specs.Nodes.{firstOf}
+use Rattle.pass_records.proofs.MadeLaws.{partsOf, made-of}
 use Rattle.pass_work_spec.specs.Work.{Work, bindings, kept, movedBehind, own, respelledUnless}
 use Rattle.pass_work_spec.specs.declared.Entry.{Entry}
 use Rattle.pass_work_spec.proofs.Lists.{in-perm, filtered-same}
@@ -59,17 +61,7 @@ pub record IsCreate (r : Record) : Type 0 where
   pub is : r ≡ create var ty environment clauses
 
 pub is-create : (r : Record) → kindOf r ≡ 6 → IsCreate r
-is-create (definition x Γ) k = absurd (omega (arith, k))
-is-create (substitute ps) k = absurd (omega (arith, k))
-is-create (call x Γ) k = absurd (omega (arith, k))
-is-create (let' v t g Γ) k = absurd (omega (arith, k))
-is-create (switch v t n) k = absurd (omega (arith, k))
-is-create (create v t e n) k = record { var = v; ty = t; environment = e; clauses = n; is = refl }
-is-create (invoke v g t Γ) k = absurd (omega (arith, k))
-is-create (literal z v) k = absurd (omega (arith, k))
-is-create (op f o s v) k = absurd (omega (arith, k))
-is-create (ifc c f s) k = absurd (omega (arith, k))
-is-create (clause' x Γ) k = absurd (omega (arith, k))
+is-create r k = record { var = firstOf r; ty = partsOf r .ty; environment = partsOf r .environment; clauses = clausesOf r; is = made-of r 6 k }
 
 -- ── how many there are ──
 

@@ -1,8 +1,7 @@
--- The step of an Op: what the mask with its inputs says, and a var bound behind what is retained. Assumes nothing.
+-- The step of an Op: its inputs are retained, and a var is bound behind what is. Assumes nothing.
 use Prim.Native.Nat.{ℕ}
 use mathlib.Core.Path.{_≡_, ap, _∙_, subst}
-use mathlib.Core.List.{List, _∷_}
-use Rattle.syntax.specs.declared.names.VarId.{VarId}
+use mathlib.Core.List.{List}
 use Rattle.syntax.specs.declared.names.Identifier.{Identifier}
 use Rattle.syntax.specs.declared.context.Chirality.the-variants.{Ext}
 use Rattle.syntax.specs.declared.types.Ty.the-variants.{I64}
@@ -12,16 +11,11 @@ use Rattle.image_spec.specs.Records.{Record, op}
 use Rattle.image_write_directory.specs.declared.progress.Progress.{Progress}
 use Rattle.pass_work_spec.specs.Work.{Work, used}
 use Rattle.pass_entries.specs.Masks.{keptByMask, withPlaces, InPlaces}
-use Rattle.pass_entries.proofs.MaskLaws.{places-say}
 use Rattle.pass_step_spec.specs.Steps.{stepOp}
-use Rattle.pass_step.specs.Stepping.{Says, Steps, StepsAs}
+use Rattle.pass_step.specs.Stepping.{Steps, StepsAs}
 use Rattle.pass_step.specs.declared.stepped.Stepped.{Stepped}
 use Rattle.pass_step.proofs.StepLaws.{kept-says}
-use Rattle.pass_step.proofs.BindLaws.{bindsBehind}
-
--- with the places of two variables the mask says the set with these two
-pub says-with : (fst snd : VarId) {mask : ℕ} {s : List VarId} {W : Work} → InPlaces W → Says mask s W → Says (withPlaces fst snd W mask) (fst ∷ snd ∷ s) W
-says-with fst snd {mask} {s} p a = record { says = places-say fst snd mask s p (a .says) }
+use Rattle.pass_step.proofs.BindLaws.{bindsBehind, says-with}
 
 -- the inputs are written as they are called in the context, and what the mask with their places retains stands before the var
 pub op-steps : {w : ℕ} {record′ : Record} (fst : Identifier) (o : BinOp) (snd var : Identifier) {clauses mask more : ℕ} {W : Work} {n : ℕ} {out out′ lengths lengths′ : List ℕ} {p : Progress} {r : Stepped}

@@ -19,13 +19,13 @@ use Rattle.model.specs.Rules.{bind, freshenUnless, freshVarUnless}
 use Rattle.model.proofs.Widths.{unless-length}
 use Rattle.image_spec.specs.Parse.{each, mark}
 use Rattle.image_spec.specs.Fields.{identifierBytes, bindingBytes, listBytes, pairBytes}
-use Rattle.image_spec.specs.Records.{Record, definition, substitute, call, let', switch, create, invoke, literal, op, ifc, clause', recordBytes}
+use Rattle.image_spec.specs.Records.{Record, definition, substitute, call, let', switch, create, invoke, literal, op, ifc, clause', print, exit, recordBytes}
 use Rattle.image_spec.specs.Kinds.{kindOf, fixed, tailBytes}
 use Rattle.image_spec.proofs.FieldLaws.{identifier-length, binding-length}
 use Rattle.image_spec.proofs.KindLaws.{tail-at, fixed-le}
 use Rattle.pass_work_spec.specs.declared.Entry.{Entry}
 use Rattle.pass_work_spec.specs.Work.{Work, bindings, used, usedOption, usedBinding, usedAll, kept}
-use Rattle.pass_step_spec.specs.Steps.{arranged, environment, stepOf, stepCall, stepLet, stepSwitch, stepCreate, stepInvoke, stepLiteral, stepOp, stepIfC, stepOther}
+use Rattle.pass_step_spec.specs.Steps.{arranged, environment, stepOf, stepCall, stepLet, stepSwitch, stepCreate, stepInvoke, stepLiteral, stepOp, stepIfC, stepPrintI64, stepExit, stepOther}
 use Rattle.pass_step_spec.specs.Fronts.{wanted, rightOf, frontRecords, listSize, pairsSize, optionSize, tailSize, frontBytes}
 
 -- ── bytes of records ──
@@ -77,7 +77,7 @@ unfolding arranged
 self-front W r = rw (sameContext-self (bindings W))
 
 pub front-form : (r : Record) (fc fn : List VarId) (W : Work) (n m : ℕ) → Front r fc fn W (stepOf r fc fn W n m .front)
-unfolding stepCall stepLet stepSwitch stepCreate stepInvoke stepLiteral stepOp stepIfC stepOther rightOf wanted tailSize
+unfolding stepCall stepLet stepSwitch stepCreate stepInvoke stepLiteral stepOp stepIfC stepPrintI64 stepExit stepOther rightOf wanted tailSize
 front-form (definition x Γ) fc fn W n m = record { targets = bindings W; own = definition x Γ; form = self-front W _; count = refl; kind = refl; tail = λ w. list-length w Γ }
 front-form (substitute ps) fc fn W n m = record { targets = bindings W; own = substitute ps; form = self-front W _; count = refl; kind = refl; tail = λ w. pairs-length w ps }
 front-form (call label args) fc fn W n m = record { targets = _; own = _; form = refl; count = unless-length _ (usedAll W args) [] m; kind = refl; tail = λ w. list-length w [] }
@@ -137,6 +137,8 @@ front-form (literal lit var) fc fn W n m = record { targets = bindings (kept fn 
 front-form (op fst o snd var) fc fn W n m = record { targets = bindings (kept (fst .id ∷ snd .id ∷ fn) W); own = op (used W fst) o (used W snd) var; form = refl; count = refl; kind = refl; tail = λ w. refl }
 front-form (ifc sort fst snd) fc fn W n m = record { targets = bindings W; own = ifc sort (used W fst) (usedOption W snd); form = self-front W _; count = refl; kind = refl; tail = λ w. option-length w (usedOption W snd) ∙ same-option w W snd }
 front-form (clause' x Γ) fc fn W n m = record { targets = bindings W; own = clause' x Γ; form = self-front W _; count = refl; kind = refl; tail = λ w. list-length w Γ }
+front-form (print newline var) fc fn W n m = record { targets = bindings (kept (var .id ∷ fn) W); own = print newline (used W var); form = refl; count = refl; kind = refl; tail = λ w. refl }
+front-form (exit var) fc fn W n m = record { targets = bindings W; own = exit (used W var); form = self-front W _; count = refl; kind = refl; tail = λ w. refl }
 
 -- ── how much it is ──
 

@@ -7,12 +7,12 @@ use lib.ListN.{length}
 use Rattle.syntax.specs.Sets.{elem}
 use Rattle.syntax.specs.declared.names.VarId.{VarId}
 use Rattle.syntax.proofs.Permutations.{perm-sym}
-use Rattle.image_spec.specs.Records.{Record, definition, substitute, call, let', switch, create, invoke, literal, op, ifc, clause'}
+use Rattle.image_spec.specs.Records.{Record, definition, substitute, call, let', switch, create, invoke, literal, op, ifc, clause', print, exit}
 use Rattle.pass_work_spec.specs.declared.Entry.{Entry}
 use Rattle.pass_work_spec.specs.Work.{Work, kept, movedBehind}
 use Rattle.pass_work_spec.proofs.Lists.{In, in-perm, filtered-same}
 use Rattle.pass_work_spec.proofs.Entries.{movedBehind-perm}
-use Rattle.pass_step_spec.specs.Steps.{environment, stepOf, stepLet, stepSwitch, stepCreate, stepLiteral, stepOp, clauseContext}
+use Rattle.pass_step_spec.specs.Steps.{environment, stepOf, stepLet, stepSwitch, stepCreate, stepLiteral, stepOp, stepPrintI64, clauseContext}
 use Rattle.pass_step_spec.specs.Fronts.{wanted, rightOf, frontRecords, tailSize, frontBytes}
 
 -- the sources of the context that are in one set are in the other
@@ -47,9 +47,11 @@ module _ {fc fc′ fn fn′ : List VarId} {W : Work} (c : SameSet fc fc′ W) (d
   context-same (op fst o snd var) = refl
   context-same (ifc sort fst snd) = refl
   context-same (clause' x Γ) = refl
+  context-same (print newline var) = refl
+  context-same (exit var) = refl
 
   pub step-same : (r : Record) (n m : ℕ) → stepOf r fc fn W n m ≡ stepOf r fc′ fn′ W n m
-  unfolding stepLet stepSwitch stepCreate stepLiteral stepOp
+  unfolding stepLet stepSwitch stepCreate stepLiteral stepOp stepPrintI64
   step-same (definition x Γ) n m = refl
   step-same (substitute ps) n m = refl
   step-same (call label args) n m = refl
@@ -61,6 +63,8 @@ module _ {fc fc′ fn fn′ : List VarId} {W : Work} (c : SameSet fc fc′ W) (d
   step-same (op fst o snd var) n m = rw (kept-same (same-more (fst .id) (same-more (snd .id) d)))
   step-same (ifc sort fst snd) n m = refl
   step-same (clause' x Γ) n m = refl
+  step-same (print newline var) n m = rw (kept-same (same-more (var .id) d))
+  step-same (exit var) n m = refl
 
   wanted-same : (r : Record) → wanted r fc fn W ≡ wanted r fc′ fn′ W
   unfolding wanted
@@ -75,6 +79,8 @@ module _ {fc fc′ fn fn′ : List VarId} {W : Work} (c : SameSet fc fc′ W) (d
   wanted-same (op fst o snd var) = rw (kept-same (same-more (fst .id) (same-more (snd .id) d)))
   wanted-same (ifc sort fst snd) = refl
   wanted-same (clause' x Γ) = refl
+  wanted-same (print newline var) = rw (kept-same (same-more (var .id) d))
+  wanted-same (exit var) = refl
 
   -- so of what is to be written, before the clauses are linearized
   pub right-same : (r : Record) → rightOf r fc fn W ≡ rightOf r fc′ fn′ W
@@ -98,6 +104,8 @@ module _ {fc fc′ fn fn′ : List VarId} {W : Work} (c : SameSet fc fc′ W) (d
   tail-same w (op fst o snd var) = refl
   tail-same w (ifc sort fst snd) = refl
   tail-same w (clause' x Γ) = refl
+  tail-same w (print newline var) = refl
+  tail-same w (exit var) = refl
 
   pub bytes-same : (w : ℕ) (r : Record) → frontBytes w r fc fn W ≡ frontBytes w r fc′ fn′ W
   unfolding frontBytes

@@ -16,14 +16,14 @@ use lib.ListN.{length, length-append, length-map}
 use Rattle.syntax.specs.Context.{Context, idOf, ids}
 use Rattle.syntax.specs.declared.names.VarId.{VarId}
 use Rattle.syntax.specs.declared.names.Identifier.{Identifier}
-use Rattle.model.specs.Syntax.{Stmt, Substitute, Call, Let, Switch, Create, Invoke, Literal, Op, IfC, Clauses, end, clause, Def, Prog}
+use Rattle.model.specs.Syntax.{Stmt, Substitute, Call, Let, Switch, Create, Invoke, Literal, Op, IfC, PrintI64, Exit, Clauses, end, clause, Def, Prog}
 use Rattle.model.specs.Sizes.{recordsDefs, depthDefs, count}
 use Rattle.model.specs.Questions.{OfStmt, OfBinders, asked, askedDefs, anyBinders, plain, small, smallBinders, question6, question7}
 use Rattle.model.proofs.Questions.{Asked, AskedClauses, answered, three}
 use Rattle.model.proofs.Widths.{small-says, leb-says}
 use Rattle.image_spec.specs.Parse.{each, All}
 use Rattle.image_spec.specs.Fields.{maxCount, listBytes}
-use Rattle.image_spec.specs.Records.{Record, definition, substitute, call, let', switch, create, invoke, literal, op, ifc, clause', recordBytes}
+use Rattle.image_spec.specs.Records.{Record, definition, substitute, call, let', switch, create, invoke, literal, op, ifc, clause', print, exit, recordBytes}
 use Rattle.image_spec.specs.Kinds.{kindOf, fixed, tailBytes}
 use Rattle.image_spec.specs.Shape.{flatten, flattenClauses, flattenDefs}
 use Rattle.image_places_spec.specs.Views.{recordOf, clausesIn, bodiesOf, binders}
@@ -115,6 +115,8 @@ module _ (e : Record → List ℕ) (K : ℕ) where
       all-sized (Literal lit var next) Δ p a = sized-stmt (Literal lit var next) Δ tt (a .0) (no-clauses Δ) (all-sized next (var .id ∷ Δ) (p .2) (a .2), tt)
       all-sized (Op fst o snd var next) Δ p a = sized-stmt (Op fst o snd var next) Δ tt (a .0) (no-clauses Δ) (all-sized next (var .id ∷ Δ) (p .2) (a .2), tt)
       all-sized (IfC sort fst snd thenc elsec) Δ p a = sized-stmt (IfC sort fst snd thenc elsec) Δ tt (a .0) (no-clauses Δ) (all-sized thenc Δ (p .1) (a .1), (all-sized elsec Δ (p .2) (a .2), tt))
+      all-sized (PrintI64 newline var next) Δ p a = sized-stmt (PrintI64 newline var next) Δ tt (a .0) (no-clauses Δ) (all-sized next Δ (p .1) (a .1), tt)
+      all-sized (Exit var) Δ p a = sized-stmt (Exit var) Δ tt a (no-clauses Δ) tt
 
       all-sizedClauses : (cs : Clauses) (Δ : List VarId) → AskedClauses cs plain anyBinders Δ → AskedClauses cs q b Δ → SizedClauses cs Δ
       all-sizedClauses end Δ p a = no-clauses Δ
@@ -208,6 +210,8 @@ module _ (w : ℕ) (v : w ≤ 8) where
     own-most (Literal lit var next) h = omega arith
     own-most (Op fst o snd var next) h = omega arith
     own-most (IfC sort fst snd thenc elsec) h = omega (arith, option-most snd)
+    own-most (PrintI64 newline var next) h = omega arith
+    own-most (Exit var) h = omega arith
 
     front-most : (t : Stmt) → count t ≤ 32 → frontBytes w (recordOf t) fc fn W ≤ 8192
     unfolding frontBytes
@@ -226,6 +230,8 @@ module _ (w : ℕ) (v : w ≤ 8) where
   fixed-least (op f o s v) = omega arith
   fixed-least (ifc c f s) = omega arith
   fixed-least (clause' x Γ) = omega arith
+  fixed-least (print n v) = omega arith
+  fixed-least (exit v) = omega arith
 
   front-least : (r : Record) (fc fn : List VarId) (W : Work) → 1 ≤ frontBytes w r fc fn W
   unfolding frontBytes

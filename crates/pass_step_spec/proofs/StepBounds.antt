@@ -9,14 +9,14 @@ use Rattle.syntax.specs.Context.{ids, sameContext}
 use Rattle.syntax.specs.declared.names.VarId.{VarId}
 use Rattle.syntax.specs.declared.context.Chirality.the-variants.{Prd, Cns, Ext}
 use Rattle.syntax.specs.declared.types.Ty.the-variants.{I64}
-use Rattle.model.specs.Syntax.{Stmt, Substitute, Call, Let, Switch, Create, Invoke, Literal, Op, IfC, Def}
+use Rattle.model.specs.Syntax.{Stmt, Substitute, Call, Let, Switch, Create, Invoke, Literal, Op, IfC, PrintI64, Exit, Def}
 use Rattle.model.specs.Sizes.{count}
 use Rattle.model.specs.FreeVars.{freeVars}
 use Rattle.model.specs.Rules.{bind, freshenUnless}
 use Rattle.model.proofs.Grows.{freshenUnless-grows, freshVarUnless-grows}
 use Rattle.image_spec.specs.Parse.{All}
 use Rattle.image_spec.specs.Fields.{maxCount}
-use Rattle.image_spec.specs.Records.{Record, definition, substitute, call, let', switch, create, invoke, literal, op, ifc, clause'}
+use Rattle.image_spec.specs.Records.{Record, definition, substitute, call, let', switch, create, invoke, literal, op, ifc, clause', print, exit}
 use Rattle.image_places_spec.specs.Views.{recordOf, clausesIn, bodiesOf, binders}
 use Rattle.scope_spec.proofs.FreeViews.{Plain}
 use Rattle.pass_work_spec.specs.declared.Entry.{Entry}
@@ -24,7 +24,7 @@ use Rattle.pass_work_spec.specs.Work.{Work, bindings, own, used, usedBinding, u
 use Rattle.pass_work_spec.specs.Placed.{Fits, AllFit, AllFitClauses}
 use Rattle.pass_work_spec.proofs.Lengths.{kept-fewer, env-fewer, unless-fewer}
 use Rattle.pass_work_spec.proofs.Bounds.{work-rises}
-use Rattle.pass_step_spec.specs.Steps.{environment, stepOf, stepCall, stepLet, stepSwitch, stepCreate, stepInvoke, stepLiteral, stepOp, stepIfC, stepOther, clauseContext, paramsFirst, workBodies}
+use Rattle.pass_step_spec.specs.Steps.{environment, stepOf, stepCall, stepLet, stepSwitch, stepCreate, stepInvoke, stepLiteral, stepOp, stepIfC, stepPrintI64, stepExit, stepOther, clauseContext, paramsFirst, workBodies}
 use Rattle.pass_step_spec.specs.Fronts.{wanted}
 use Rattle.pass_step_spec.proofs.WorkViews.{freeInClauses, freeInBodies, defDone}
 
@@ -52,6 +52,10 @@ wanted-short (Op fst o snd var next) fc fn W h k =
     let s = fst .id ∷ snd .id ∷ fn in
     omega (arith, length-map (kept s W) (λ (e : Entry). e .binding), kept-fewer s W)
 wanted-short (IfC sort fst snd thenc elsec) fc fn W h k = omega (arith, length-map W (λ (e : Entry). e .binding))
+wanted-short (PrintI64 newline var next) fc fn W h k =
+    let s = var .id ∷ fn in
+    omega (arith, length-map (kept s W) (λ (e : Entry). e .binding), kept-fewer s W)
+wanted-short (Exit var) fc fn W h k = omega (arith, length-map W (λ (e : Entry). e .binding))
 
 -- the contexts for the clauses and for the bodies are no longer than the context and what the record binds
 pub clauses-fewer : (r : Record) (fc fn : List VarId) (W : Work) → length (clauseContext r fc fn W) ≤ length W
@@ -66,9 +70,11 @@ clauses-fewer (literal lit var) fc fn W = omega arith
 clauses-fewer (op fst o snd var) fc fn W = omega arith
 clauses-fewer (ifc sort fst snd) fc fn W = omega arith
 clauses-fewer (clause' x Γ) fc fn W = omega arith
+clauses-fewer (print newline var) fc fn W = omega arith
+clauses-fewer (exit var) fc fn W = omega arith
 
 pub bodies-longer : (r : Record) (fc fn : List VarId) (W : Work) (n m : ℕ) → length (stepOf r fc fn W n m .context) ≤ length (binders r) + length W
-unfolding stepCall stepLet stepSwitch stepCreate stepInvoke stepLiteral stepOp stepIfC stepOther
+unfolding stepCall stepLet stepSwitch stepCreate stepInvoke stepLiteral stepOp stepIfC stepPrintI64 stepExit stepOther
 bodies-longer (definition x Γ) fc fn W n m = omega arith
 bodies-longer (substitute ps) fc fn W n m = omega arith
 bodies-longer (call label args) fc fn W n m = omega arith
@@ -86,11 +92,13 @@ bodies-longer (op fst o snd var) fc fn W n m =
     omega (arith, length-append (kept s W) (own n (bind var Ext I64) ∷ []), kept-fewer s W)
 bodies-longer (ifc sort fst snd) fc fn W n m = omega arith
 bodies-longer (clause' x Γ) fc fn W n m = omega arith
+bodies-longer (print newline var) fc fn W n m = omega (arith, kept-fewer (var .id ∷ fn) W)
+bodies-longer (exit var) fc fn W n m = omega arith
 
 -- ── max_id ──
 
 pub step-rises : (r : Record) (fc fn : List VarId) (W : Work) (n m : ℕ) → m ≤ stepOf r fc fn W n m .maxId
-unfolding stepCall stepLet stepSwitch stepCreate stepInvoke stepLiteral stepOp stepIfC stepOther
+unfolding stepCall stepLet stepSwitch stepCreate stepInvoke stepLiteral stepOp stepIfC stepPrintI64 stepExit stepOther
 step-rises (definition x Γ) fc fn W n m = le-refl m
 step-rises (substitute ps) fc fn W n m = le-refl m
 step-rises (call label args) fc fn W n m = freshenUnless-grows _ _ _ m
@@ -102,6 +110,8 @@ step-rises (literal lit var) fc fn W n m = le-refl m
 step-rises (op fst o snd var) fc fn W n m = le-refl m
 step-rises (ifc sort fst snd) fc fn W n m = le-refl m
 step-rises (clause' x Γ) fc fn W n m = le-refl m
+step-rises (print newline var) fc fn W n m = le-refl m
+step-rises (exit var) fc fn W n m = le-refl m
 
 pub bodies-rise : (ts : List Stmt) (W : Work) (n m : ℕ) → m ≤ workBodies ts W n m .1
 unfolding workBodies
@@ -122,7 +132,7 @@ pub record FitView (t : Stmt) (Δ : List VarId) (W : Work) (n : ℕ) : Type 0 wh
   pub bodies : (m : ℕ) → (let s = stepOf (recordOf t) (freeInClauses t) (freeInBodies t) W n m in All (λ (b : Stmt). AllFit b (Δ ++ binders (recordOf t)) (s .context) (s .inScope)) (bodiesOf t))
 
 pub fit-view : (t : Stmt) → Plain t → (Δ : List VarId) (W : Work) (n : ℕ) → AllFit t Δ W n → FitView t Δ W n
-unfolding AllFit environment stepCall stepLet stepSwitch stepCreate stepInvoke stepLiteral stepOp stepIfC
+unfolding AllFit environment stepCall stepLet stepSwitch stepCreate stepInvoke stepLiteral stepOp stepIfC stepPrintI64 stepExit
 fit-view (Substitute ps next) p Δ W n a = absurd p
 fit-view (Call label args) p Δ W n a = record { here = a; clauses = a; bodies = λ m. tt }
 fit-view (Let var ty tag args next) p Δ W n a = record { here = a .0; clauses = a .0; bodies = λ m. rw (append-nil (freeVars next)) (a .1, tt) }
@@ -132,3 +142,5 @@ fit-view (Invoke var tag ty args) p Δ W n a = record { here = a; clauses = a; b
 fit-view (Literal lit var next) p Δ W n a = record { here = a .0; clauses = a .0; bodies = λ m. rw (append-nil (freeVars next)) (a .1, tt) }
 fit-view (Op fst o snd var next) p Δ W n a = record { here = a .0; clauses = a .0; bodies = λ m. rw (append-nil (freeVars next)) (a .1, tt) }
 fit-view (IfC sort fst snd thenc elsec) p Δ W n a = record { here = a .0; clauses = a .0; bodies = λ m. rw (append-nil Δ) (a .1, (a .2, tt)) }
+fit-view (PrintI64 newline var next) p Δ W n a = record { here = a .0; clauses = a .0; bodies = λ m. rw (append-nil (freeVars next), append-nil Δ) (a .1, tt) }
+fit-view (Exit var) p Δ W n a = record { here = a; clauses = a; bodies = λ m. tt }

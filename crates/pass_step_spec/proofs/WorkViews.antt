@@ -8,7 +8,7 @@ use lib.ListN.{length}
 use Rattle.syntax.specs.Context.{Context, vars}
 use Rattle.syntax.specs.declared.names.VarId.{VarId}
 use Rattle.syntax.specs.declared.names.Identifier.{Identifier}
-use Rattle.model.specs.Syntax.{Stmt, Substitute, Call, Let, Switch, Create, Invoke, Literal, Op, IfC, Clauses, end, clause, Def}
+use Rattle.model.specs.Syntax.{Stmt, Substitute, Call, Let, Switch, Create, Invoke, Literal, Op, IfC, PrintI64, Exit, Clauses, end, clause, Def}
 use Rattle.model.specs.Sizes.{countClauses}
 use Rattle.model.specs.FreeVars.{freeVars, freeVarsClauses}
 use Rattle.model.specs.Lists.{zip}
@@ -19,8 +19,8 @@ use Rattle.image_spec.specs.Shape.{flatten, flattenClauses, flattenDefs}
 use Rattle.image_places_spec.specs.Views.{recordOf, clausesIn, bodiesOf}
 use Rattle.scope_spec.specs.FreeRows.{freeBodies}
 use Rattle.scope_spec.proofs.FreeViews.{Plain}
-use Rattle.pass_work_spec.specs.Work.{Work, owns, kept, movedBehind, workStmt, workClauses, workDefs, workCall, workLet, workSwitch, workCreate, workInvoke, workLiteral, workOp, workIfC, workClause}
-use Rattle.pass_step_spec.specs.Steps.{Step, arranged, environment, stepOf, stepCall, stepLet, stepSwitch, stepCreate, stepInvoke, stepLiteral, stepOp, stepIfC, clauseContext, paramsFirst, workBodies}
+use Rattle.pass_work_spec.specs.Work.{Work, owns, kept, movedBehind, workStmt, workClauses, workDefs, workCall, workLet, workSwitch, workCreate, workInvoke, workLiteral, workOp, workIfC, workPrintI64, workExit, workClause}
+use Rattle.pass_step_spec.specs.Steps.{Step, arranged, environment, stepOf, stepCall, stepLet, stepSwitch, stepCreate, stepInvoke, stepLiteral, stepOp, stepIfC, stepPrintI64, stepExit, clauseContext, paramsFirst, workBodies}
 
 -- ── a statement ──
 
@@ -60,7 +60,7 @@ module _ (t : Stmt) (W : Work) (n m : ℕ) where
     pub max : workStmt t W n m .1 ≡ bodiesDone .1
 
 pub work-view : (t : Stmt) → Plain t → (W : Work) (n m : ℕ) → WorkView t W n m
-unfolding workStmt workBodies workCall workLet workSwitch workCreate workInvoke workLiteral workOp workIfC environment stepCall stepLet stepSwitch stepCreate stepInvoke stepLiteral stepOp stepIfC flatten
+unfolding workStmt workBodies workCall workLet workSwitch workCreate workInvoke workLiteral workOp workIfC workPrintI64 workExit environment stepCall stepLet stepSwitch stepCreate stepInvoke stepLiteral stepOp stepIfC stepPrintI64 stepExit flatten
 work-view (Substitute ps next) p W n m = absurd p
 work-view (Call label args) p W n m = record { flat = arrange-flat _ _ _ (Call label []) _ [] refl; max = refl }
 work-view (Let var ty tag args next) p W n m = record { flat = rw (append-nil (freeVars next), append-nil) (arrange-flat _ _ _ _ _ _ refl); max = rw (append-nil (freeVars next)) }
@@ -70,6 +70,8 @@ work-view (Invoke var tag ty args) p W n m = record { flat = arrange-flat _ _ _ 
 work-view (Literal lit var next) p W n m = record { flat = rw (append-nil (freeVars next), append-nil) (arrange-flat _ _ _ _ _ _ refl); max = rw (append-nil (freeVars next)) }
 work-view (Op fst op snd var next) p W n m = record { flat = rw (append-nil (freeVars next), append-nil) (arrange-flat _ _ _ _ _ _ refl); max = rw (append-nil (freeVars next)) }
 work-view (IfC sort fst snd thenc elsec) p W n m = record { flat = rw append-nil; max = refl }
+work-view (PrintI64 newline var next) p W n m = record { flat = rw (append-nil (freeVars next), append-nil) (arrange-flat _ _ _ _ _ _ refl); max = rw (append-nil (freeVars next)) }
+work-view (Exit var) p W n m = record { flat = refl; max = refl }
 
 -- ── bodies, a clause, a definition ──
 

@@ -11,7 +11,7 @@ use Rattle.syntax.specs.declared.names.Identifier.{Identifier}
 use Rattle.syntax.specs.declared.context.Chirality.the-variants.{Prd, Cns}
 use Rattle.model.specs.Rules.{bind}
 use Rattle.image_spec.specs.Kinds.{kindOf, fixed}
-use Rattle.image_spec.specs.Records.{Record, definition, substitute, call, let', switch, create, invoke, literal, op, ifc, clause'}
+use Rattle.image_spec.specs.Records.{Record, definition, substitute, call, let', switch, create, invoke, literal, op, ifc, clause', print, exit}
 use Rattle.pass_work_spec.specs.Work.{Work, bindings, used, usedAll, kept}
 use Rattle.pass_step_spec.specs.Steps.{environment}
 
@@ -28,6 +28,8 @@ wanted (literal lit var) fc fn W = bindings (kept fn W)
 wanted (op fst o snd var) fc fn W = bindings (kept (fst .id ∷ snd .id ∷ fn) W)
 wanted (ifc sort fst snd) fc fn W = bindings W
 wanted (clause' x Γ) fc fn W = bindings W
+wanted (print newline var) fc fn W = bindings (kept (var .id ∷ fn) W)
+wanted (exit var) fc fn W = bindings W
 
 -- does the context not differ from the wanted list?
 unfoldable pub rightOf : Record → (freeClauses freeNext : List VarId) → Work → Bool
@@ -66,6 +68,8 @@ module _ (w : ℕ) where
   tailSize (op fst o snd var) fc fn W = 0
   tailSize (ifc sort fst snd) fc fn W = optionSize snd
   tailSize (clause' x Γ) fc fn W = listSize (length Γ)
+  tailSize (print newline var) fc fn W = 0
+  tailSize (exit var) fc fn W = 0
 
   -- the bytes of the Substitute, if there is one, and of the record
   unfoldable pub frontBytes : Record → (freeClauses freeNext : List VarId) → Work → ℕ

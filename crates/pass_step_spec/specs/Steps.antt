@@ -22,7 +22,7 @@ use Rattle.syntax.specs.declared.ifc.IfSort.{IfSort}
 use Rattle.model.specs.Syntax.{Stmt}
 use Rattle.model.specs.Lists.{zip}
 use Rattle.model.specs.Rules.{bind, freshenUnless, freshVarUnless}
-use Rattle.image_spec.specs.Records.{Record, definition, substitute, call, let', switch, create, invoke, literal, op, ifc, clause'}
+use Rattle.image_spec.specs.Records.{Record, definition, substitute, call, let', switch, create, invoke, literal, op, ifc, clause', print, exit}
 use Rattle.pass_work_spec.specs.Work.{Work, bindings, own, used, usedOption, usedAll, kept, movedBehind, respelledUnless, workStmt}
 
 -- document 01, "The Rust": a Substitute comes exactly where the context differs from the wanted list
@@ -135,6 +135,21 @@ stepOp fst o snd var freeNext W n m =
 unfoldable pub stepIfC : (sort : IfSort) (fst : Identifier) (snd : Option Identifier) → Work → (n m : ℕ) → Step
 stepIfC sort fst snd W n m = record { front = ifc sort (used W fst) (usedOption W snd) ∷ []; context = W; inScope = n; maxId = m }
 
+-- print.rs
+unfoldable pub stepPrintI64 : (newline : Bool) (var : Identifier) (freeNext : List VarId) → Work → (n m : ℕ) → Step
+stepPrintI64 newline var freeNext W n m =
+    let new = kept (var .id ∷ freeNext) W in
+    record {
+      front = arranged (sameContext (bindings W) (bindings new)) (bindings new) (bindings new) ++ (print newline (used W var) ∷ []);
+      context = new;
+      inScope = n;
+      maxId = m;
+    }
+
+-- mod.rs: exit statements need not be changed
+unfoldable pub stepExit : (var : Identifier) → Work → (n m : ℕ) → Step
+stepExit var W n m = record { front = exit (used W var) ∷ []; context = W; inScope = n; maxId = m }
+
 -- any other record is written as it is
 unfoldable pub stepOther : Record → Work → (n m : ℕ) → Step
 stepOther r W n m = record { front = r ∷ []; context = W; inScope = n; maxId = m }
@@ -153,6 +168,8 @@ stepOf (literal lit var) fc fn = stepLiteral lit var fn
 stepOf (op fst o snd var) fc fn = stepOp fst o snd var fn
 stepOf (ifc sort fst snd) fc fn = stepIfC sort fst snd
 stepOf (clause' x Γ) fc fn = stepOther (clause' x Γ)
+stepOf (print newline var) fc fn = stepPrintI64 newline var fn
+stepOf (exit var) fc fn = stepExit var
 
 -- the context that the clauses of a record are linearized in
 abbrev pub clauseContext : Record → (freeClauses freeNext : List VarId) → Work → Work
@@ -167,6 +184,8 @@ clauseContext (literal lit var) fc fn W = W
 clauseContext (op fst o snd var) fc fn W = W
 clauseContext (ifc sort fst snd) fc fn W = W
 clauseContext (clause' x Γ) fc fn W = W
+clauseContext (print newline var) fc fn W = W
+clauseContext (exit var) fc fn W = W
 
 -- do the parameters of its clauses come before the context? A Create's do.
 abbrev pub paramsFirst : Record → Bool
@@ -181,6 +200,8 @@ paramsFirst (literal lit var) = false
 paramsFirst (op fst o snd var) = false
 paramsFirst (ifc sort fst snd) = false
 paramsFirst (clause' x Γ) = false
+paramsFirst (print newline var) = false
+paramsFirst (exit var) = false
 
 -- each body in turn in the same context, the max_id passed on
 unfoldable pub workBodies : List Stmt → Work → (n m : ℕ) → List Stmt × ℕ

@@ -6,7 +6,8 @@ use mathlib.Core.List.{List, [], _∷_}
 use native.Mathlib.Omega.{arith}
 use lib.ListN.{length}
 use Rattle.syntax.specs.declared.names.VarId.{VarId}
-use Rattle.image_spec.specs.Records.{Record, definition, substitute, call, let', switch, create, invoke, literal, op, ifc, clause'}
+use Rattle.image_spec.specs.Records.{Record, definition, substitute, call, let', switch, create, invoke, literal, op, ifc, clause', print, exit}
+use Rattle.image_spec.specs.Kinds.{kindOf}
 use Rattle.image_directory.specs.declared.Frame.{Frame}
 use Rattle.image_write_directory.specs.declared.progress.Progress.{Progress}
 use Rattle.image_places_spec.specs.Views.{binders}
@@ -15,7 +16,7 @@ use Rattle.pass_records.proofs.ListPlaces.{at-made}
 use Rattle.pass_work_spec.specs.Work.{Work}
 use Rattle.pass_context.specs.Holding.{workOf}
 use Rattle.pass_context.specs.declared.Held.{Held}
-use Rattle.pass_step_spec.specs.Steps.{Step, stepOf, stepOther, stepCall, stepSwitch, stepInvoke, stepIfC}
+use Rattle.pass_step_spec.specs.Steps.{Step, stepOf, stepOther, stepCall, stepSwitch, stepInvoke, stepIfC, stepExit}
 use Rattle.pass_step_spec.specs.Fronts.{wanted, rightOf}
 use Rattle.pass_step.specs.Stepping.{Says, StepsAs, LeavesAs, OpenedAs}
 use Rattle.pass_step.specs.declared.stepped.Stepped.{Stepped}
@@ -29,31 +30,33 @@ record Stays (x : Step) (W : Work) (n : ℕ) : Type 0 where
 something-binds : {x : VarId} → (x ∷ []) ≡ [] → ⊥
 something-binds e = omega (arith, ap length e)
 
--- where nothing is bound the bodies have the context as it is
-none-bound : (r : Record) (fc fn : List VarId) (W : Work) (n m : ℕ) → binders r ≡ [] → Stays (stepOf r fc fn W n m) W n
-unfolding stepOther stepCall stepSwitch stepInvoke stepIfC
-none-bound (definition x Γ) fc fn W n m e = record { context = refl; inScope = refl }
-none-bound (substitute ps) fc fn W n m e = record { context = refl; inScope = refl }
-none-bound (call label args) fc fn W n m e = record { context = refl; inScope = refl }
-none-bound (let' var ty tag args) fc fn W n m e = absurd (something-binds e)
-none-bound (switch var ty clauses) fc fn W n m e = record { context = refl; inScope = refl }
-none-bound (create var ty env clauses) fc fn W n m e = absurd (something-binds e)
-none-bound (invoke var tag ty args) fc fn W n m e = record { context = refl; inScope = refl }
-none-bound (literal lit var) fc fn W n m e = absurd (something-binds e)
-none-bound (op fst o snd var) fc fn W n m e = absurd (something-binds e)
-none-bound (ifc sort fst snd) fc fn W n m e = record { context = refl; inScope = refl }
-none-bound (clause' x Γ) fc fn W n m e = record { context = refl; inScope = refl }
+-- where nothing is bound the bodies have the context as it is, but for a PrintI64, which drops what its next does not need
+none-bound : (r : Record) (fc fn : List VarId) (W : Work) (n m : ℕ) → binders r ≡ [] → (kindOf r ≡ 12 → ⊥) → Stays (stepOf r fc fn W n m) W n
+unfolding stepOther stepCall stepSwitch stepInvoke stepIfC stepExit
+none-bound (definition x Γ) fc fn W n m e o = record { context = refl; inScope = refl }
+none-bound (substitute ps) fc fn W n m e o = record { context = refl; inScope = refl }
+none-bound (call label args) fc fn W n m e o = record { context = refl; inScope = refl }
+none-bound (let' var ty tag args) fc fn W n m e o = absurd (something-binds e)
+none-bound (switch var ty clauses) fc fn W n m e o = record { context = refl; inScope = refl }
+none-bound (create var ty env clauses) fc fn W n m e o = absurd (something-binds e)
+none-bound (invoke var tag ty args) fc fn W n m e o = record { context = refl; inScope = refl }
+none-bound (literal lit var) fc fn W n m e o = absurd (something-binds e)
+none-bound (op fst operator snd var) fc fn W n m e o = absurd (something-binds e)
+none-bound (ifc sort fst snd) fc fn W n m e o = record { context = refl; inScope = refl }
+none-bound (clause' x Γ) fc fn W n m e o = record { context = refl; inScope = refl }
+none-bound (print newline var) fc fn W n m e o = absurd (o refl)
+none-bound (exit var) fc fn W n m e o = record { context = refl; inScope = refl }
 
 -- the same step, with the context that there was
 abbrev pub stayed : Held → ℕ → Progress → Stepped
 stayed held n q = record { context = held; «in_scope» = n; progress = q }
 
-pub leaves-stay : {w : ℕ} {r : Record} {clauses next n : ℕ} {out out′ lengths lengths′ : List ℕ} {p q : Progress} (held : Held) → held .len ≡ length (workOf held) → binders r ≡ []
+pub leaves-stay : {w : ℕ} {r : Record} {clauses next n : ℕ} {out out′ lengths lengths′ : List ℕ} {p q : Progress} (held : Held) → held .len ≡ length (workOf held) → binders r ≡ [] → (kindOf r ≡ 12 → ⊥)
     → LeavesAs w r clauses next (workOf held) n out out′ lengths lengths′ p q → StepsAs w r clauses next (workOf held) n out out′ lengths lengths′ p (stayed held n q)
-leaves-stay {r = r} {n = n} {p = p} held c e h = record {
+leaves-stay {r = r} {n = n} {p = p} held c e o h = record {
   steps = λ fc fn x y.
       let l = h .leaves fc fn x y in
-      let z = none-bound r fc fn (workOf held) n (p .«max_id») e in
+      let z = none-bound r fc fn (workOf held) n (p .«max_id») e o in
       record { emits = l .emits; context = record { count = c ∙ ap length (sym (z .context)); list = sym (z .context) }; inScope = sym (z .inScope); maxId = l .maxId };
 }
 

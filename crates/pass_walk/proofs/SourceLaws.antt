@@ -2,7 +2,7 @@
 -- binds (`binders-fit`), and masks that say what is free (`row-says`). Assumes nothing.
 use Prim.Native.Nat.{ℕ, _+_, _≤_, _<_}
 use mathlib.Core.Path.{_≡_, refl, ap, _∙_}
-use mathlib.Core.Bool.{Bool, true, false, _&&_, _||_, false≢true, true≢false}
+use mathlib.Core.Bool.{Bool, true, false, _&&_, false≢true, true≢false}
 use mathlib.Core.List.{List, [], _++_}
 use native.Mathlib.Omega.{arith}
 use lib.Dec.{leb, eqb}
@@ -10,9 +10,9 @@ use lib.ListN.{length, getD, length-append, List·getD-append}
 use Rattle.syntax.specs.Sets.{elem}
 use Rattle.syntax.specs.declared.names.VarId.{VarId}
 use Rattle.syntax.proofs.Bools.{both-true}
-use Rattle.model.specs.Syntax.{Stmt, Substitute, Call, Let, Switch, Create, Invoke, Literal, Op, IfC, end}
+use Rattle.model.specs.Syntax.{Stmt, Substitute, Call, Let, Switch, Create, Invoke, Literal, Op, IfC, PrintI64, Exit, end}
 use Rattle.model.proofs.Widths.{leb-says}
-use Rattle.image_spec.specs.Records.{Record, definition, substitute, call, let', switch, create, invoke, literal, op, ifc, clause'}
+use Rattle.image_spec.specs.Records.{Record, definition, substitute, call, let', switch, create, invoke, literal, op, ifc, clause', print, exit}
 use Rattle.image_spec.specs.Kinds.{kindOf, bodies}
 use Rattle.image_directory.specs.Slots.{recordsIn}
 use Rattle.image_directory.specs.declared.Frame.{Frame}
@@ -30,7 +30,7 @@ use Rattle.pass_work_spec.proofs.Rooms.{here-fits}
 use Rattle.pass_entries.specs.Masks.{marked}
 use Rattle.pass_step_spec.specs.Steps.{paramsFirst}
 use Rattle.pass_step.specs.Stepping.{Says, SourceAt}
-use Rattle.pass_dispatch.specs.Choices.{Binds, Settles}
+use Rattle.pass_dispatch.specs.Choices.{proceeds, Proceeds, Settles}
 use Rattle.pass_walk.specs.Walking.{Sources}
 
 pub source-at : {g : Frame} {s : List ℕ} {i kind : ℕ} → Sources g s → At g s i kind → SourceAt g s i kind
@@ -51,6 +51,8 @@ plain-source (Invoke var tag ty args) e = tt
 plain-source (Literal lit var next) e = tt
 plain-source (Op fst o snd var next) e = tt
 plain-source (IfC sort fst snd thenc elsec) e = tt
+plain-source (PrintI64 newline var next) e = tt
+plain-source (Exit var) e = tt
 
 -- a Switch or a Create
 pub has-clauses : (k : ℕ) → (leb 5 k && leb k 6) ≡ true → (5 ≤ k) × (k ≤ 6)
@@ -66,39 +68,41 @@ no-clauses (Invoke var tag ty args) e = refl
 no-clauses (Literal lit var next) e = refl
 no-clauses (Op fst o snd var next) e = refl
 no-clauses (IfC sort fst snd thenc elsec) e = refl
+no-clauses (PrintI64 newline var next) e = refl
+no-clauses (Exit var) e = refl
 
--- a Let, a Literal or an Op binds one variable, for its one body
-pub record Binding (r : Record) : Type 0 where
-  pub one : length (binders r) ≡ 1
-  pub body : bodies (kindOf r) ≡ 1
+-- a Let, a Literal, an Op or a PrintI64 has one body
+pub one-body-of : (t : Stmt) → Proceeds (kindOf (recordOf t)) → bodies (kindOf (recordOf t)) ≡ 1
+one-body-of (Substitute ps next) e = refl
+one-body-of (Call label args) e = absurd (false≢true e)
+one-body-of (Let var ty tag args next) e = refl
+one-body-of (Switch var ty cs) e = absurd (false≢true e)
+one-body-of (Create var ty env cs next) e = refl
+one-body-of (Invoke var tag ty args) e = absurd (false≢true e)
+one-body-of (Literal lit var next) e = refl
+one-body-of (Op fst o snd var next) e = refl
+one-body-of (IfC sort fst snd thenc elsec) e = absurd (false≢true e)
+one-body-of (PrintI64 newline var next) e = refl
+one-body-of (Exit var) e = absurd (false≢true e)
 
-pub binding : (t : Stmt) → Binds (kindOf (recordOf t)) → Binding (recordOf t)
-binding (Substitute ps next) e = absurd (false≢true e)
-binding (Call label args) e = absurd (false≢true e)
-binding (Let var ty tag args next) e = record { one = refl; body = refl }
-binding (Switch var ty cs) e = absurd (false≢true e)
-binding (Create var ty env cs next) e = absurd (false≢true e)
-binding (Invoke var tag ty args) e = absurd (false≢true e)
-binding (Literal lit var next) e = record { one = refl; body = refl }
-binding (Op fst o snd var next) e = record { one = refl; body = refl }
-binding (IfC sort fst snd thenc elsec) e = absurd (false≢true e)
-
--- any other without clauses binds nothing: a Call, an Invoke or an IfC
+-- any other without clauses binds nothing, and leaves the context: a Call, an Invoke, an IfC or an Exit
 pub record Settling (r : Record) : Type 0 where
   pub settles : Settles (kindOf r)
   pub none : binders r ≡ []
+  pub other : kindOf r ≡ 12 → ⊥
 
-pub settling : (t : Stmt) → Plain t → (leb 5 (kindOf (recordOf t)) && leb (kindOf (recordOf t)) 6) ≡ false
-    → (eqb (kindOf (recordOf t)) 4 || (eqb (kindOf (recordOf t)) 8 || eqb (kindOf (recordOf t)) 9)) ≡ false → Settling (recordOf t)
+pub settling : (t : Stmt) → Plain t → (leb 5 (kindOf (recordOf t)) && leb (kindOf (recordOf t)) 6) ≡ false → proceeds (kindOf (recordOf t)) ≡ false → Settling (recordOf t)
 settling (Substitute ps next) p c b = absurd p
-settling (Call label args) p c b = record { settles = refl; none = refl }
+settling (Call label args) p c b = record { settles = refl; none = refl; other = λ q. omega arith }
 settling (Let var ty tag args next) p c b = absurd (true≢false b)
 settling (Switch var ty cs) p c b = absurd (true≢false c)
 settling (Create var ty env cs next) p c b = absurd (true≢false c)
-settling (Invoke var tag ty args) p c b = record { settles = refl; none = refl }
+settling (Invoke var tag ty args) p c b = record { settles = refl; none = refl; other = λ q. omega arith }
 settling (Literal lit var next) p c b = absurd (true≢false b)
 settling (Op fst o snd var next) p c b = absurd (true≢false b)
-settling (IfC sort fst snd thenc elsec) p c b = record { settles = refl; none = refl }
+settling (IfC sort fst snd thenc elsec) p c b = record { settles = refl; none = refl; other = λ q. omega arith }
+settling (PrintI64 newline var next) p c b = absurd (true≢false b)
+settling (Exit var) p c b = record { settles = refl; none = refl; other = λ q. omega arith }
 
 pub params-first : (r : Record) → eqb (kindOf r) 6 ≡ paramsFirst r
 params-first (definition x Γ) = refl
@@ -112,6 +116,8 @@ params-first (literal lit var) = refl
 params-first (op fst o snd var) = refl
 params-first (ifc sort fst snd) = refl
 params-first (clause' x Γ) = refl
+params-first (print newline var) = refl
+params-first (exit var) = refl
 
 -- ── room ──
 
@@ -127,6 +133,8 @@ binders-fit (Invoke var tag ty args) Δ W n p a = omega (arith, a .room)
 binders-fit (Literal lit var next) Δ W n p a = here-fits next _ _ (n + 1) (a .1) .room
 binders-fit (Op fst o snd var next) Δ W n p a = here-fits next _ _ (n + 1) (a .1) .room
 binders-fit (IfC sort fst snd thenc elsec) Δ W n p a = omega (arith, a .0 .room)
+binders-fit (PrintI64 newline var next) Δ W n p a = omega (arith, a .0 .room)
+binders-fit (Exit var) Δ W n p a = omega (arith, a .room)
 
 -- ── masks ──
 

@@ -2,16 +2,16 @@
 -- below it. Assumes nothing.
 use Prim.Native.Nat.{ℕ, _+_, _-_, _*_, _≤_, _<_}
 use mathlib.Core.Path.{_≡_, sym, ap, _∙_, subst}
-use mathlib.Core.Bool.{true, false, _&&_, _||_}
+use mathlib.Core.Bool.{true, false, _&&_}
 use mathlib.Core.List.{List, [], _∷_, _++_, append-nil}
 use native.Mathlib.Omega.{arith}
-use lib.Dec.{leb, eqb}
+use lib.Dec.{leb}
 use lib.ListN.{length, getD, length-drop}
 use lib.Seq.{getD-drop}
 use Rattle.model.specs.Syntax.{Stmt, Clauses, end}
 use Rattle.image_spec.specs.Parse.{each}
 use Rattle.image_spec.specs.Records.{Record}
-use Rattle.image_spec.specs.Kinds.{kindOf}
+use Rattle.image_spec.specs.Kinds.{kindOf, bodies}
 use Rattle.image_spec.specs.Shape.{flatten, flattenClauses}
 use Rattle.image_directory.specs.Slots.{Ready, recordsIn}
 use Rattle.image_directory.specs.declared.Frame.{Frame}
@@ -39,10 +39,10 @@ use Rattle.pass_step_spec.proofs.WorkViews.{freeInClauses, freeInBodies, clause
 use Rattle.pass_step_spec.proofs.StepBounds.{FitView, fit-view, step-rises, bodies-rise}
 use Rattle.pass_work_spec.proofs.Bounds.{work-risesClauses}
 use Rattle.pass_step.specs.Stepping.{Says, RoomAt, Workable}
-use Rattle.pass_dispatch.specs.Choices.{Binds}
+use Rattle.pass_dispatch.specs.Choices.{proceeds, Proceeds}
 use Rattle.pass_walk.specs.Walking.{RoomTo, StmtAhead}
 use Rattle.pass_walk.proofs.RoomLaws.{room-here}
-use Rattle.pass_walk.proofs.SourceLaws.{plain-source, no-clauses, Binding, binding, Settling, settling, binders-fit, row-says}
+use Rattle.pass_walk.proofs.SourceLaws.{plain-source, no-clauses, one-body-of, Settling, settling, binders-fit, row-says}
 
 -- ── rows ──
 
@@ -93,15 +93,15 @@ module _ {g : Frame} {s rows : List ℕ} {d i : ℕ} {held : Held} {n : ℕ} {p 
   pub straight : {k : ℕ} → kindOf (recordAt g s i) ≡ k → (leb 5 k && leb k 6) ≡ false → clausesIn here ≡ end
   straight e x = no-clauses here (ap (λ (z : ℕ). leb 5 z && leb z 6) (sym (ap kindOf isRecord) ∙ e) ∙ x)
 
-  -- a binder
-  pub binding-here : {k : ℕ} → kindOf (recordAt g s i) ≡ k → Binds k → Binding (recordAt g s i)
-  binding-here e x = subst Binding (sym isRecord) (binding here (subst Binds (sym e ∙ ap kindOf isRecord) x))
+  -- it goes on with one body
+  pub one-body-here : {k : ℕ} → kindOf (recordAt g s i) ≡ k → Proceeds k → bodies (kindOf (recordAt g s i)) ≡ 1
+  one-body-here e x = ap (λ (r : Record). bodies (kindOf r)) isRecord ∙ one-body-of here (subst Proceeds (sym e ∙ ap kindOf isRecord) x)
 
-  -- neither clauses nor a binder
-  pub settling-here : {k : ℕ} → kindOf (recordAt g s i) ≡ k → (leb 5 k && leb k 6) ≡ false → (eqb k 4 || (eqb k 8 || eqb k 9)) ≡ false → Settling (recordAt g s i)
+  -- neither that nor clauses
+  pub settling-here : {k : ℕ} → kindOf (recordAt g s i) ≡ k → (leb 5 k && leb k 6) ≡ false → proceeds k ≡ false → Settling (recordAt g s i)
   settling-here e x y =
       let k = sym (ap kindOf isRecord) ∙ e in
-      subst Settling (sym isRecord) (settling here plain-here (ap (λ (z : ℕ). leb 5 z && leb z 6) k ∙ x) (ap (λ (z : ℕ). eqb z 4 || (eqb z 8 || eqb z 9)) k ∙ y))
+      subst Settling (sym isRecord) (settling here plain-here (ap (λ (z : ℕ). leb 5 z && leb z 6) k ∙ x) (ap proceeds k ∙ y))
 
   pub view : WorkView here W n (p .«max_id»)
   view = work-view here plain-here W n (p .«max_id»)

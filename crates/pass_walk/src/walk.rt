@@ -6,8 +6,8 @@ use image_read_nodes::parts_of;
 use image_write_directory::progress::Progress;
 use pass_clause::clause::enter;
 use pass_context::Held;
-use pass_dispatch::step::bind;
 use pass_dispatch::step::open;
+use pass_dispatch::step::proceed;
 use pass_dispatch::step::settle;
 use pass_statement_create::create;
 use pass_statement_switch::switch;
@@ -15,9 +15,9 @@ use pass_step::fresh::with_max_id;
 use pass_step::stepped::FreeVars;
 use syntax::names::VarId;
 ghost use mathlib.Core.Path.{_≡_};
-ghost use mathlib.Core.Bool.{_&&_, _||_};
+ghost use mathlib.Core.Bool.{_&&_};
 ghost use Prim.Native.Nat.{_+_};
-ghost use lib.Dec.{leb, eqb};
+ghost use lib.Dec.{leb};
 ghost use lib.ListN.{length};
 ghost use Rattle.image_spec.specs.Parse.{each};
 ghost use Rattle.image_spec.specs.Shape.{flatten, flattenClauses};
@@ -26,6 +26,7 @@ ghost use Rattle.image_places_spec.specs.Places.{stmtAt, clausesAt, bodiesAt};
 ghost use Rattle.pass_work_spec.specs.Work.{workStmt, workClauses};
 ghost use Rattle.pass_step_spec.specs.Steps.{workBodies};
 ghost use Rattle.pass_context.specs.Holding.{workOf};
+ghost use Rattle.pass_dispatch.specs.Choices.{proceeds};
 ghost use Rattle.pass_walk.specs.Walking.{StmtAhead, ClausesAhead, BodiesAhead, LinearizedTo};
 
 // Where the walk has come to, and how far the output has.
@@ -43,8 +44,8 @@ fn has_clauses(kind: u8) -> bool
     false
 }
 
-fn binds(kind: u8) -> bool
-    ensures { λ r. ⌜ r ≡ (eqb kind 4 || (eqb kind 8 || eqb kind 9)) ⌝ }
+fn proceeds(kind: u8) -> bool
+    ensures { λ r. ⌜ r ≡ «proceeds» kind ⌝ }
 {
     if kind == 4 {
         return true;
@@ -52,7 +53,10 @@ fn binds(kind: u8) -> bool
     if kind == 8 {
         return true;
     }
-    kind == 9
+    if kind == 9 {
+        return true;
+    }
+    kind == 12
 }
 
 // The statement at index i, of depth at most `depth`.
@@ -144,8 +148,8 @@ pub fn statement(
             progress,
         };
     }
-    if binds(kind) {
-        let stepped = bind(
+    if proceeds(kind) {
+        let stepped = proceed(
             image,
             frame,
             i,

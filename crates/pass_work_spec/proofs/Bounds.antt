@@ -14,7 +14,7 @@ use Rattle.syntax.specs.declared.context.Chirality.the-variants.{Prd, Cns, Ext}
 use Rattle.syntax.specs.declared.types.Ty.the-variants.{I64}
 use Rattle.syntax.specs.declared.context.ContextBinding.{ContextBinding}
 use Rattle.syntax.proofs.Drawing.{fresh-near, freshen-near}
-use Rattle.model.specs.Syntax.{Stmt, Clauses, Substitute, Call, Let, Switch, Create, Invoke, Literal, Op, IfC, end, clause, Def, Prog}
+use Rattle.model.specs.Syntax.{Stmt, Clauses, Substitute, Call, Let, Switch, Create, Invoke, Literal, Op, IfC, PrintI64, Exit, end, clause, Def, Prog}
 use Rattle.model.specs.Sizes.{records, recordsClauses, recordsDefs, depthDefs}
 use Rattle.model.specs.FreeVars.{freeVars, freeVarsClauses}
 use Rattle.model.specs.Rules.{bind, freshenUnless, freshVar, freshVarUnless}
@@ -23,13 +23,13 @@ use Rattle.model.proofs.Questions.{Asked, AskedClauses, answered, answeredClaus
 use Rattle.model.proofs.Widths.{small-says, leb-says}
 use Rattle.model.proofs.Grows.{freshenUnless-grows, freshVarUnless-grows}
 use Rattle.pass_work_spec.specs.declared.Entry.{Entry}
-use Rattle.pass_work_spec.specs.Work.{Work, bindings, own, owns, used, usedBinding, usedAll, kept, movedBehind, respelledUnless, workStmt, workClauses, workDefs, workCall, workLet, workSwitch, workCreate, workInvoke, workLiteral, workOp, workIfC, workClause}
+use Rattle.pass_work_spec.specs.Work.{Work, bindings, own, owns, used, usedBinding, usedAll, kept, movedBehind, respelledUnless, workStmt, workClauses, workDefs, workCall, workLet, workSwitch, workCreate, workInvoke, workLiteral, workOp, workIfC, workPrintI64, workExit, workClause}
 use Rattle.pass_work_spec.proofs.Lengths.{kept-fewer, env-fewer, unless-fewer, owns-length, longer, joined-length}
 
 -- ── it never falls ──
 
 mutual
-  unfolding workStmt workCall workLet workSwitch workCreate workInvoke workLiteral workOp workIfC workClause
+  unfolding workStmt workCall workLet workSwitch workCreate workInvoke workLiteral workOp workIfC workPrintI64 workExit workClause
 
   pub work-rises : (t : Stmt) (W : Work) (n m : ℕ) → m ≤ (workStmt t W n m) .1
   work-rises (Substitute ps next) W n m = le-refl m
@@ -41,6 +41,8 @@ mutual
   work-rises (Literal lit var next) W n m = work-rises next _ _ m
   work-rises (Op fst op snd var next) W n m = work-rises next _ _ m
   work-rises (IfC sort fst snd thenc elsec) W n m = le-trans (work-rises thenc W n m) (work-rises elsec W n _)
+  work-rises (PrintI64 newline var next) W n m = work-rises next _ _ m
+  work-rises (Exit var) W n m = le-refl m
 
   pub work-risesClauses : (cs : Clauses) (before : Bool) (W : Work) (n m : ℕ) → m ≤ (workClauses cs before W n m) .1
   work-risesClauses end before W n m = le-refl m
@@ -64,7 +66,7 @@ var-near false b C m = go (elem (idOf b) C)
     go false = omega arith
 
 mutual
-  unfolding workStmt workCall workLet workSwitch workCreate workInvoke workLiteral workOp workIfC workClause records Asked
+  unfolding workStmt workCall workLet workSwitch workCreate workInvoke workLiteral workOp workIfC workPrintI64 workExit workClause records Asked
 
   asked-grows : (t : Stmt) (Δ : List VarId) → Asked t small smallBinders Δ → (W : Work) (n m : ℕ) → length W ≤ length Δ → (workStmt t W n m) .1 ≤ m + 128 * records t
   asked-grows (Substitute ps next) Δ a W n m h = omega arith
@@ -111,6 +113,11 @@ mutual
       let ih₁ = asked-grows thenc Δ (a .1) W n m h in
       let ih₂ = asked-grows elsec Δ (a .2) W n ((workStmt thenc W n m) .1) h in
       omega arith
+  asked-grows (PrintI64 newline var next) Δ a W n m h =
+      let z = var .id ∷ freeVars next in
+      let ih = asked-grows next Δ (a .1) (kept z W) n m (le-trans (kept-fewer z W) h) in
+      omega arith
+  asked-grows (Exit var) Δ a W n m h = omega arith
 
   asked-growsClauses : (cs : Clauses) (Δ : List VarId) → AskedClauses cs small smallBinders Δ → (before : Bool) (W : Work) (n m : ℕ) → length W ≤ length Δ → (workClauses cs before W n m) .1 ≤ m + 128 * recordsClauses cs
   asked-growsClauses end Δ a before W n m h = omega arith

@@ -11,7 +11,7 @@ use Rattle.syntax.specs.Context.{Context, idOf, ids}
 use Rattle.syntax.specs.declared.names.VarId.{VarId}
 use Rattle.syntax.specs.declared.context.Chirality.the-variants.{Prd, Cns, Ext}
 use Rattle.syntax.specs.declared.types.Ty.the-variants.{I64}
-use Rattle.model.specs.Syntax.{Stmt, Clauses, Substitute, Call, Let, Switch, Create, Invoke, Literal, Op, IfC, end, clause, Def, Prog}
+use Rattle.model.specs.Syntax.{Stmt, Clauses, Substitute, Call, Let, Switch, Create, Invoke, Literal, Op, IfC, PrintI64, Exit, end, clause, Def, Prog}
 use Rattle.model.specs.Sizes.{recordsDefs, depthDefs}
 use Rattle.model.specs.FreeVars.{freeVars, freeVarsClauses}
 use Rattle.model.specs.Rules.{bind}
@@ -35,6 +35,8 @@ here-fits (Invoke var tag ty args) Δ W n f = f
 here-fits (Literal lit var next) Δ W n f = f .0
 here-fits (Op fst op snd var next) Δ W n f = f .0
 here-fits (IfC sort fst snd thenc elsec) Δ W n f = f .0
+here-fits (PrintI64 newline var next) Δ W n f = f .0
+here-fits (Exit var) Δ W n f = f
 
 pub clauses-fit : (cs : Clauses) (before : Bool) (Δ : List VarId) (W : Work) (n : ℕ) → AllFitClauses cs before Δ W n → Fits Δ W n
 unfolding AllFit
@@ -77,6 +79,8 @@ mutual
   all-fit (Op fst op snd var next) {n = n} a c p =
       (fits-here (Op fst op snd var next) (a .0) c p, all-fit next (a .2) (one-more (var .id) c) (placed-behind (placed-kept p (fst .id ∷ snd .id ∷ freeVars next)) n (c .here) (bind var Ext I64)))
   all-fit (IfC sort fst snd thenc elsec) a c p = (fits-here (IfC sort fst snd thenc elsec) (a .0) c p, all-fit thenc (a .1) c p, all-fit elsec (a .2) c p)
+  all-fit (PrintI64 newline var next) a c p = (fits-here (PrintI64 newline var next) (a .0) c p, all-fit next (a .1) c (placed-kept p (var .id ∷ freeVars next)))
+  all-fit (Exit var) a c p = fits-here (Exit var) a c p
 
   -- the clauses of t
   all-fitClauses : (cs : Clauses) (before : Bool) (t : Stmt) {Δ E : List VarId} {W : Work} {n : ℕ} → small E t ≡ true → AskedClauses cs small smallBinders E → Counted Δ E n → Placed Δ W → AllFitClauses cs before Δ W n

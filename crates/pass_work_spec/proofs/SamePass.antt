@@ -14,7 +14,7 @@ use Rattle.syntax.specs.declared.names.VarId.{VarId}
 use Rattle.syntax.specs.declared.context.Chirality.the-variants.{Prd, Cns, Ext}
 use Rattle.syntax.specs.declared.types.Ty.the-variants.{I64}
 use Rattle.syntax.proofs.Members.{∈-left, ∈-right, without-∈}
-use Rattle.model.specs.Syntax.{Stmt, Clauses, Substitute, Call, Let, Switch, Create, Invoke, Literal, Op, IfC, end, clause, Def, Prog}
+use Rattle.model.specs.Syntax.{Stmt, Clauses, Substitute, Call, Let, Switch, Create, Invoke, Literal, Op, IfC, PrintI64, Exit, end, clause, Def, Prog}
 use Rattle.model.specs.FreeVars.{freeVars, freeVarsClauses, optionalId}
 use Rattle.model.specs.Renaming.{Renaming, noRenaming, rename, renameIds, renameOption, renameContext, renaming, renameUnless}
 use Rattle.model.specs.Rules.{bind, freshenUnless, moveBehind}
@@ -30,7 +30,7 @@ use Rattle.pass_work_spec.specs.declared.Entry.{Entry}
 use Rattle.pass_work_spec.specs.Work.{Work, bindings, owns, kept, movedBehind, respelledUnless, workStmt, workClauses, workDefs}
 use Rattle.pass_work_spec.proofs.Entries.{HasEntry, Reads, used-renamed, usedOption-renamed, usedAll-renamed, movedBehind-bindings, owns-bindings}
 use Rattle.pass_work_spec.proofs.Standing.{Standing, later, fewer, kept-is, part, moved, fresh, respelled-is, below-read, behind, behind-is, joined, joined-is, next-stands, next-is}
-use Rattle.pass_work_spec.proofs.SameRules.{same-Call, same-Let, same-Switch, same-Create, same-Invoke, same-Literal, same-Op, same-IfC, same-Clause}
+use Rattle.pass_work_spec.proofs.SameRules.{same-Call, same-Let, same-Switch, same-Create, same-Invoke, same-Literal, same-Op, same-IfC, same-PrintI64, same-Exit, same-Clause}
 
 mutual
   unfolding workStmt linearizeStmt freeVars Scoped
@@ -130,6 +130,16 @@ mutual
       (usedOption-renamed (s .stand) snd (λ x h. s .has x (inr (∈-left x (optionalId snd) both h))))
       (work-scoped thenc (sc .2) (fewer s (λ x h. inr (∈-right x (optionalId snd) both (∈-left x (freeVars thenc) (freeVars elsec) h)))) n)
       (work-scoped elsec (sc .3) (later (fewer s (λ x h. inr (∈-right x (optionalId snd) both (∈-right x (freeVars thenc) (freeVars elsec) h)))) (linearizeStmt-grows thenc ρ (bindings W) m)) n)
+  work-scoped (PrintI64 newline var next) {ρ = ρ} {W} {m} sc s n =
+      let fv = freeVars next in
+      let z = var .id ∷ fv in
+      let reads : Reads ρ W z = λ x h. inl (s .has x h) in
+      let e : bindings (kept z W) ≡ filterBySet ((rename ρ var) .id ∷ renameIds ρ fv) (bindings W) = kept-is s z reads ∙ ap (λ (x : VarId). filterBySet (x ∷ renameIds ρ fv) (bindings W)) (sym (rename-id ρ var)) in
+      same-PrintI64 W n m newline var (rename ρ var) (workStmt next) (linearizeStmt next ρ) fv (renameIds ρ fv)
+      (used-renamed (s .stand) var (s .has (var .id) (inl refl)))
+      e
+      (work-scoped next (sc .1) (part s z reads (λ x h. inr h) (λ x h. inr h)) n ∙ ap (λ (Γ : Context). linearizeStmt next ρ Γ m) e)
+  work-scoped (Exit var) {ρ = ρ} {W} {m} sc s n = same-Exit W n m var (rename ρ var) (used-renamed (s .stand) var (s .has (var .id) (inl refl)))
 
   pub work-scopedClauses : (cs : Clauses) (before : Bool) {M : ℕ} {Δ : List VarId} {ρ : Renaming} {W : Work} {m : ℕ} → ScopedClauses cs M Δ → Standing M Δ ρ (freeVarsClauses cs) W m → (n : ℕ) → workClauses cs before W n m ≡ linearizeClauses cs before ρ (bindings W) m
   work-scopedClauses end before sc s n = refl

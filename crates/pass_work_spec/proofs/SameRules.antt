@@ -18,8 +18,8 @@ use Rattle.syntax.specs.declared.op.BinOp.{BinOp}
 use Rattle.syntax.specs.declared.ifc.IfSort.{IfSort}
 use Rattle.model.specs.Syntax.{Stmt, Clauses}
 use Rattle.model.specs.Renaming.{Renaming, renaming}
-use Rattle.model.specs.Rules.{Linearize, bind, freshenUnless, moveBehind, ruleCall, ruleLet, ruleSwitch, ruleCreate, ruleInvoke, ruleLiteral, ruleOp, ruleIfC, ruleClause}
-use Rattle.pass_work_spec.specs.Work.{Work, bindings, own, owns, used, usedOption, usedAll, kept, movedBehind, respelledUnless, Working, workCall, workLet, workSwitch, workCreate, workInvoke, workLiteral, workOp, workIfC, workClause}
+use Rattle.model.specs.Rules.{Linearize, bind, freshenUnless, moveBehind, ruleCall, ruleLet, ruleSwitch, ruleCreate, ruleInvoke, ruleLiteral, ruleOp, ruleIfC, rulePrintI64, ruleExit, ruleClause}
+use Rattle.pass_work_spec.specs.Work.{Work, bindings, own, owns, used, usedOption, usedAll, kept, movedBehind, respelledUnless, Working, workCall, workLet, workSwitch, workCreate, workInvoke, workLiteral, workOp, workIfC, workPrintI64, workExit, workClause}
 
 module _ (W : Work) (n m : ℕ) where
   pub same-Call : (label : Identifier) (args args₀ : Context) → usedAll W args ≡ args₀ → workCall label args W n m ≡ ruleCall label args₀ (bindings W) m
@@ -83,6 +83,20 @@ module _ (W : Work) (n m : ℕ) where
       → workIfC sort fst snd f₁ f₂ W n m ≡ ruleIfC sort fst₀ snd₀ g₁ g₂ (bindings W) m
   unfolding workIfC
   same-IfC sort fst fst₀ snd snd₀ f₁ f₂ g₁ g₂ d e h i = rw (d, e, h, i)
+
+  pub same-PrintI64 : (newline : Bool) (var var₀ : Identifier) (f : Working Stmt) (g : Linearize Stmt) (s s₀ : List VarId)
+      → used W var ≡ var₀
+      → (let z = var .id ∷ s in
+      let new = filterBySet (var₀ .id ∷ s₀) (bindings W) in
+      (bindings (kept z W) ≡ new)
+      → (f (kept z W) n m ≡ g new m)
+      → workPrintI64 newline var f s W n m ≡ rulePrintI64 newline var₀ g s₀ (bindings W) m)
+  unfolding workPrintI64
+  same-PrintI64 newline var var₀ f g s s₀ d e h = rw (d, e, h)
+
+  pub same-Exit : (var var₀ : Identifier) → used W var ≡ var₀ → workExit var W n m ≡ ruleExit var₀ (bindings W) m
+  unfolding workExit
+  same-Exit var var₀ d = rw d
 
   pub same-Clause : (xtor : Identifier) (context : Context) (before : Bool) (f : Working Stmt) (g : Linearize Stmt) (k : Working Clauses) (l : Linearize Clauses)
       → (let Γ = cond before (context ++ bindings W) (bindings W ++ context) in

@@ -9,7 +9,7 @@ use Rattle.syntax.specs.Context.{Context, ids}
 use Rattle.syntax.specs.declared.names.VarId.{VarId}
 use Rattle.syntax.specs.declared.context.Chirality.the-variants.{Prd, Cns, Ext}
 use Rattle.syntax.specs.declared.types.Ty.the-variants.{I64}
-use Rattle.model.specs.Syntax.{Stmt, Clauses, Substitute, Call, Let, Switch, Create, Invoke, Literal, Op, IfC, end, clause, Def}
+use Rattle.model.specs.Syntax.{Stmt, Clauses, Substitute, Call, Let, Switch, Create, Invoke, Literal, Op, IfC, PrintI64, Exit, end, clause, Def}
 use Rattle.model.specs.FreeVars.{freeVars, freeVarsClauses}
 use Rattle.model.specs.Rules.{bind}
 use Rattle.pass_work_spec.specs.declared.Entry.{Entry}
@@ -47,6 +47,8 @@ unfoldable mutual
   AllFit (Literal lit var next) Δ W n = Fits Δ W n × AllFit next (Δ ++ (var .id ∷ [])) (kept (freeVars next) W ++ (own n (bind var Ext I64) ∷ [])) (n + 1)
   AllFit (Op fst op snd var next) Δ W n = Fits Δ W n × AllFit next (Δ ++ (var .id ∷ [])) (kept (fst .id ∷ snd .id ∷ freeVars next) W ++ (own n (bind var Ext I64) ∷ [])) (n + 1)
   AllFit (IfC sort fst snd thenc elsec) Δ W n = Fits Δ W n × AllFit thenc Δ W n × AllFit elsec Δ W n
+  AllFit (PrintI64 newline var next) Δ W n = Fits Δ W n × AllFit next Δ (kept (var .id ∷ freeVars next) W) n
+  AllFit (Exit var) Δ W n = Fits Δ W n
 
   pub AllFitClauses : Clauses → (before : Bool) → (Δ : List VarId) → Work → (n : ℕ) → Type 0
   AllFitClauses end before Δ W n = Fits Δ W n

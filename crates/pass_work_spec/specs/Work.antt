@@ -22,7 +22,7 @@ use Rattle.syntax.specs.declared.types.Ty.the-variants.{I64}
 use Rattle.syntax.specs.declared.context.ContextBinding.{ContextBinding}
 use Rattle.syntax.specs.declared.op.BinOp.{BinOp}
 use Rattle.syntax.specs.declared.ifc.IfSort.{IfSort}
-use Rattle.model.specs.Syntax.{Stmt, Clauses, Substitute, Call, Let, Switch, Create, Invoke, Literal, Op, IfC, end, clause, Def}
+use Rattle.model.specs.Syntax.{Stmt, Clauses, Substitute, Call, Let, Switch, Create, Invoke, Literal, Op, IfC, PrintI64, Exit, end, clause, Def}
 use Rattle.model.specs.FreeVars.{freeVars, freeVarsClauses}
 use Rattle.model.specs.Rules.{bind, arrange, freshenUnless, freshVarUnless}
 use Rattle.pass_work_spec.specs.declared.Entry.{Entry}
@@ -165,6 +165,17 @@ workIfC sort fst snd linearizeThen linearizeElse W n m =
     let (elsec, m₂) = linearizeElse W n m₁ in
     (IfC sort (used W fst) (usedOption W snd) thenc elsec, m₂)
 
+-- print.rs
+unfoldable pub workPrintI64 : (newline : Bool) (var : Identifier) (linearizeNext : Working Stmt) (freeNext : List VarId) → Working Stmt
+workPrintI64 newline var linearizeNext freeNext W n m =
+    let new = kept (var .id ∷ freeNext) W in
+    let (next, m₁) = linearizeNext new n m in
+    (arrange (sameContext (bindings W) (bindings new)) (bindings new) (bindings new) (PrintI64 newline (used W var) next), m₁)
+
+-- mod.rs: exit statements need not be changed
+unfoldable pub workExit : (var : Identifier) → Working Stmt
+workExit var W n m = (Exit (used W var), m)
+
 -- a clause and those after it: of a Switch, whose parameters come behind the context, or of a Create, where they come before it
 unfoldable pub workClause : (xtor : Identifier) (context : Context) (before : Bool) (linearizeBody : Working Stmt) (linearizeRest : Working Clauses) → Working Clauses
 workClause xtor context before linearizeBody linearizeRest W n m =
@@ -187,6 +198,8 @@ unfoldable mutual
   workStmt (Literal lit var next) = workLiteral lit var (workStmt next) (freeVars next)
   workStmt (Op fst op snd var next) = workOp fst op snd var (workStmt next) (freeVars next)
   workStmt (IfC sort fst snd thenc elsec) = workIfC sort fst snd (workStmt thenc) (workStmt elsec)
+  workStmt (PrintI64 newline var next) = workPrintI64 newline var (workStmt next) (freeVars next)
+  workStmt (Exit var) = workExit var
 
   -- the clauses of a Switch, whose parameters come behind the context, or of a Create, where they come before it
   pub workClauses : Clauses → (before : Bool) → Working Clauses

@@ -116,35 +116,22 @@ pub fn use_node(
         return use_first(image, frame, i, Kind::SWITCH, scope, n, u);
     }
     if kind == Kind::INVOKE {
-        return use_list(
-            image,
-            frame,
-            i,
-            Kind::INVOKE,
-            scope,
-            n,
-            use_first(image, frame, i, Kind::INVOKE, scope, n, u),
-        );
+        let first = use_first(image, frame, i, Kind::INVOKE, scope, n, u);
+        return use_list(image, frame, i, Kind::INVOKE, scope, n, first);
     }
     if kind == Kind::OP {
-        return use_operand(
-            image,
-            frame,
-            i,
-            scope,
-            n,
-            use_first(image, frame, i, Kind::OP, scope, n, u),
-        );
+        let first = use_first(image, frame, i, Kind::OP, scope, n, u);
+        return use_operand(image, frame, i, scope, n, first);
     }
     if kind == Kind::IFC {
-        return use_second(
-            image,
-            frame,
-            i,
-            scope,
-            n,
-            use_first(image, frame, i, Kind::IFC, scope, n, u),
-        );
+        let first = use_first(image, frame, i, Kind::IFC, scope, n, u);
+        return use_second(image, frame, i, scope, n, first);
+    }
+    if kind == Kind::PRINT {
+        return use_first(image, frame, i, Kind::PRINT, scope, n, u);
+    }
+    if kind == Kind::EXIT {
+        return use_first(image, frame, i, Kind::EXIT, scope, n, u);
     }
     u
 }

@@ -10,7 +10,7 @@ use lib.Dec.{leb, eqb}
 use lib.ListN.{length, drop, getD, length-drop}
 use lib.Seq.{drop-cons}
 use Rattle.syntax.proofs.Bools.{both-true}
-use Rattle.image_spec.specs.Records.{Record, definition, substitute, call, let', switch, create, invoke, literal, op, ifc, clause'}
+use Rattle.image_spec.specs.Records.{Record, definition, substitute, call, let', switch, create, invoke, literal, op, ifc, clause', print, exit}
 use Rattle.image_spec.specs.Kinds.{kindOf, clausesOf, tailBytes}
 use Rattle.image_read_parts.specs.Standing.{headOf}
 use Rattle.scope_spec.specs.Flat.{allRecords, plainRecord, smallRecord}
@@ -31,6 +31,8 @@ plain-is w (literal z v) = refl
 plain-is w (op f o s v) = refl
 plain-is w (ifc c f x) = refl
 plain-is w (clause' x Γ) = refl
+plain-is w (print n v) = refl
+plain-is w (exit v) = refl
 
 pub environment-is : (w : ℕ) (r : Record) → kindOf r ≡ 6 → smallEnvironment r ≡ cond (eqb (getD (tailBytes w r) 0 0) 0) true (leb (getD (tailBytes w r) 1 0) 32)
 environment-is w (definition x Γ) a = absurd (omega arith)
@@ -45,10 +47,13 @@ environment-is w (literal z v) a = absurd (omega arith)
 environment-is w (op f o s v) a = absurd (omega arith)
 environment-is w (ifc c f x) a = absurd (omega arith)
 environment-is w (clause' x Γ) a = absurd (omega arith)
+environment-is w (print n v) a = absurd (omega arith)
+environment-is w (exit v) a = absurd (omega arith)
 
 pub small-is : (w : ℕ) (r : Record)
     → smallRecord r ≡ cond (eqb (kindOf r) 8) true (cond (eqb (kindOf r) 9) true (cond (eqb (kindOf r) 10) true
-    (cond (eqb (kindOf r) 6) (smallEnvironment r && leb (clausesOf r) 32) (leb (getD (tailBytes w r) 0 0) 32))))
+    (cond (eqb (kindOf r) 12) true (cond (eqb (kindOf r) 13) true
+    (cond (eqb (kindOf r) 6) (smallEnvironment r && leb (clausesOf r) 32) (leb (getD (tailBytes w r) 0 0) 32))))))
 small-is w (definition x Γ) = refl
 small-is w (substitute ps) = refl
 small-is w (call x Γ) = refl
@@ -60,6 +65,8 @@ small-is w (literal z v) = refl
 small-is w (op f o s v) = refl
 small-is w (ifc c f x) = refl
 small-is w (clause' x Γ) = refl
+small-is w (print n v) = refl
+small-is w (exit v) = refl
 
 -- ── over all records ──
 

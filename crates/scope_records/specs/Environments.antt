@@ -2,7 +2,7 @@
 use mathlib.Core.Bool.{Bool, true}
 use lib.Dec.{leb}
 use Rattle.model.specs.Sizes.{countEnvironment}
-use Rattle.image_spec.specs.Records.{Record, definition, substitute, call, let', switch, create, invoke, literal, op, ifc, clause'}
+use Rattle.image_spec.specs.Records.{Record, definition, substitute, call, let', switch, create, invoke, literal, op, ifc, clause', print, exit}
 
 -- has a Create's environment at most 32 bindings, if there is one?
 abbrev pub smallEnvironment : Record → Bool
@@ -17,3 +17,5 @@ smallEnvironment (literal z v) = true
 smallEnvironment (op f o s v) = true
 smallEnvironment (ifc c f s) = true
 smallEnvironment (clause' x Γ) = true
+smallEnvironment (print n v) = true
+smallEnvironment (exit v) = true

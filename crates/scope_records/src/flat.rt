@@ -86,6 +86,12 @@ fn small_record(image: &[u8], frame: Frame, i: usize) -> bool
     if kind == Kind::IFC {
         return true;
     }
+    if kind == Kind::PRINT {
+        return true;
+    }
+    if kind == Kind::EXIT {
+        return true;
+    }
     if kind == Kind::CREATE {
         return small_create(image, frame, i);
     }

@@ -9,7 +9,7 @@ use lib.Dec.{leb}
 use lib.ListN.{length, length-map}
 use Rattle.syntax.specs.Context.{Context, idOf, ids}
 use Rattle.syntax.specs.declared.names.VarId.{VarId}
-use Rattle.model.specs.Syntax.{Stmt, Substitute, Call, Let, Switch, Create, Invoke, Literal, Op, IfC, Clauses, end, clause, Def, Prog}
+use Rattle.model.specs.Syntax.{Stmt, Substitute, Call, Let, Switch, Create, Invoke, Literal, Op, IfC, PrintI64, Exit, Clauses, end, clause, Def, Prog}
 use Rattle.model.specs.Sizes.{countClauses, countEnvironment}
 use Rattle.model.specs.Questions.{asked, askedClauses, askedDefs, anyBinders, plain, small, smallBinders, question6, isNone}
 use Rattle.image_spec.specs.Records.{Record}
@@ -37,6 +37,8 @@ mutual
   plain-stmt (Literal lit var next) Δ = plain-stmt next (var .id ∷ Δ)
   plain-stmt (Op fst op snd var next) Δ = plain-stmt next (var .id ∷ Δ)
   plain-stmt (IfC sort fst snd thenc elsec) Δ = ap₂ (λ (a b : Bool). a && b) (plain-stmt thenc Δ) (plain-stmt elsec Δ) ∙ sym (allRecords-++ plainRecord (flatten thenc) (flatten elsec))
+  plain-stmt (PrintI64 newline var next) Δ = plain-stmt next Δ
+  plain-stmt (Exit var) Δ = refl
 
   plain-clauses : (cs : Clauses) (Δ : List VarId) → askedClauses cs plain anyBinders Δ ≡ allRecords plainRecord (flattenClauses cs)
   plain-clauses end Δ = refl
@@ -108,6 +110,8 @@ mutual
   small-stmt (IfC sort fst snd thenc elsec) Δ =
       below true (leb (length Δ) 64) (allRecords smallRecord (flatten thenc ++ flatten elsec)) (asked thenc inRoom anyBinders Δ && asked elsec inRoom anyBinders Δ)
       (two (flatten thenc) (flatten elsec) (asked thenc inRoom anyBinders Δ) (asked elsec inRoom anyBinders Δ) (small-stmt thenc Δ) (small-stmt elsec Δ))
+  small-stmt (PrintI64 newline var next) Δ = below true (leb (length Δ) 64) (allRecords smallRecord (flatten next)) (asked next inRoom anyBinders Δ) (small-stmt next Δ)
+  small-stmt (Exit var) Δ = leaf true (leb (length Δ) 64)
 
   small-clauses : (cs : Clauses) (Δ : List VarId) → askedClauses cs small smallBinders Δ ≡ allRecords smallRecord (flattenClauses cs) && askedClauses cs inRoom anyBinders Δ
   small-clauses end Δ = refl

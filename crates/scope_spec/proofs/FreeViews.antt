@@ -13,7 +13,7 @@ use Rattle.syntax.specs.Context.{ids}
 use Rattle.syntax.specs.declared.names.VarId.{VarId}
 use Rattle.syntax.proofs.Bools.{Answers}
 use Rattle.syntax.proofs.Members.{elem?, ∈-left, ∈-right, ∈-split, ∈-without, without-∈}
-use Rattle.model.specs.Syntax.{Stmt, Substitute, Call, Let, Switch, Create, Invoke, Literal, Op, IfC, Clauses, end, clause}
+use Rattle.model.specs.Syntax.{Stmt, Substitute, Call, Let, Switch, Create, Invoke, Literal, Op, IfC, PrintI64, Exit, Clauses, end, clause}
 use Rattle.model.specs.FreeVars.{freeVars, freeVarsClauses, optionalId}
 use Rattle.image_places_spec.specs.Views.{recordOf, clausesIn, bodiesOf, binders, usesOf}
 use Rattle.image_spec.specs.Shape.{flatten, flattenClauses}
@@ -69,6 +69,8 @@ Plain (Invoke var tag ty args) = Unit {0}
 Plain (Literal lit var next) = Unit {0}
 Plain (Op fst op snd var next) = Unit {0}
 Plain (IfC sort fst snd thenc elsec) = Unit {0}
+Plain (PrintI64 newline var next) = Unit {0}
+Plain (Exit var) = Unit {0}
 
 pub free-view : (t : Stmt) → Plain t → SameBut (binders (recordOf t)) (freeVars t) (inView t)
 unfolding freeVars
@@ -81,6 +83,8 @@ free-view (Invoke var tag ty args) p = same-nil [] (var .id ∷ ids args)
 free-view (Literal lit var next) p = rw append-nil (next-bound [] (freeVars next) (var .id ∷ []))
 free-view (Op fst op snd var next) p = rw append-nil (next-bound (fst .id ∷ snd .id ∷ []) (freeVars next) (var .id ∷ []))
 free-view (IfC sort fst snd thenc elsec) p = rw append-nil (same-list [] ((fst .id ∷ optionalId snd) ++ (freeVars thenc ++ freeVars elsec)))
+free-view (PrintI64 newline var next) p = rw append-nil (same-list [] (var .id ∷ freeVars next))
+free-view (Exit var) p = same-nil [] (var .id ∷ [])
 
 -- ── masks ──
 
@@ -129,6 +133,8 @@ rows-view (Invoke var tag ty args) Δ = sym (append-nil (rowOf (Invoke var tag t
 rows-view (Literal lit var next) Δ = rw append-nil refl
 rows-view (Op fst op snd var next) Δ = rw append-nil refl
 rows-view (IfC sort fst snd thenc elsec) Δ = rw (append-nil Δ, append-nil (rowsStmt elsec Δ)) refl
+rows-view (PrintI64 newline var next) Δ = rw (append-nil Δ, append-nil (rowsStmt next Δ)) refl
+rows-view (Exit var) Δ = sym (append-nil (rowOf (Exit var) Δ))
 
 -- two numbers for each record
 mutual
@@ -146,6 +152,8 @@ mutual
   rows-length (Op fst op snd var next) Δ = omega (arith, rows-length next (Δ ++ (var .id ∷ [])))
   rows-length (IfC sort fst snd thenc elsec) Δ =
       omega (arith, length-append (rowsStmt thenc Δ) (rowsStmt elsec Δ), length-append (flatten thenc) (flatten elsec), rows-length thenc Δ, rows-length elsec Δ)
+  rows-length (PrintI64 newline var next) Δ = omega (arith, rows-length next Δ)
+  rows-length (Exit var) Δ = refl
 
   pub rows-clauses-length : (cs : Clauses) (Δ : List VarId) → length (rowsClauses cs Δ) ≡ 2 * length (flattenClauses cs)
   rows-clauses-length end Δ = refl

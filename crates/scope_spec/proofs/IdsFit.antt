@@ -9,12 +9,12 @@ use Rattle.syntax.specs.Sets.{_∈_}
 use Rattle.syntax.specs.Context.{Context, idOf, ids}
 use Rattle.syntax.specs.declared.names.VarId.{VarId}
 use Rattle.syntax.proofs.Members.{∈-split}
-use Rattle.model.specs.Syntax.{Stmt, Substitute, Call, Let, Switch, Create, Invoke, Literal, Op, IfC, Clauses, end, clause}
+use Rattle.model.specs.Syntax.{Stmt, Substitute, Call, Let, Switch, Create, Invoke, Literal, Op, IfC, PrintI64, Exit, Clauses, end, clause}
 use Rattle.model.specs.Sizes.{countClauses}
 use Rattle.model.specs.FreeVars.{optionalId}
 use Rattle.image_spec.specs.Parse.{All}
 use Rattle.image_spec.specs.Fields.{BindingOk}
-use Rattle.image_spec.specs.Records.{Record, definition, substitute, call, let', switch, create, invoke, literal, op, ifc, clause', RecordOk}
+use Rattle.image_spec.specs.Records.{Record, definition, substitute, call, let', switch, create, invoke, literal, op, ifc, clause', print, exit, RecordOk}
 use Rattle.image_spec.specs.Shape.{flatten, flattenClauses}
 use Rattle.image_spec.proofs.ListLaws.{all-left, all-right}
 use Rattle.image_places_spec.specs.Views.{usesOf}
@@ -60,6 +60,8 @@ module _ (w : ℕ) where
   uses-fit (ifc c f none) h = one-fits (f .id) [] (h .1 .0 .1) none-fit
   uses-fit (ifc c f (some x)) h = one-fits (f .id) (x .id ∷ []) (h .1 .0 .1) (one-fits (x .id) [] (h .1 .1 .1) none-fit)
   uses-fit (clause' x Γ) h = none-fit
+  uses-fit (print n v) h = one-fits (v .id) [] (h .1 .1) none-fit
+  uses-fit (exit v) h = one-fits (v .id) [] (h .1) none-fit
 
   mutual
     unfolding allUses flatten
@@ -77,6 +79,8 @@ module _ (w : ℕ) where
     stmt-fits (IfC sort fst snd thenc elsec) h =
         both-fit (fst .id ∷ optionalId snd) (allUses thenc ++ allUses elsec) (uses-fit (ifc sort fst snd) (h .0))
         (both-fit (allUses thenc) (allUses elsec) (stmt-fits thenc (all-left (RecordOk w) (flatten thenc) (flatten elsec) (h .1))) (stmt-fits elsec (all-right (RecordOk w) (flatten thenc) (flatten elsec) (h .1))))
+    stmt-fits (PrintI64 newline var next) h = both-fit (var .id ∷ []) (allUses next) (uses-fit (print newline var) (h .0)) (stmt-fits next (h .1))
+    stmt-fits (Exit var) h = uses-fit (exit var) (h .0)
 
     clauses-fit : (cs : Clauses) → All (RecordOk w) (flattenClauses cs) → Fits (allUsesClauses cs)
     clauses-fit end h = none-fit

@@ -11,7 +11,7 @@ use Rattle.syntax.specs.Context.{Context, ids}
 use Rattle.syntax.specs.declared.names.VarId.{VarId}
 use Rattle.syntax.specs.declared.names.Identifier.{Identifier}
 use Rattle.syntax.proofs.Bools.{both-true}
-use Rattle.model.specs.Syntax.{Stmt, Substitute, Call, Let, Switch, Create, Invoke, Literal, Op, IfC, Clauses, end, clause, Def, Prog}
+use Rattle.model.specs.Syntax.{Stmt, Substitute, Call, Let, Switch, Create, Invoke, Literal, Op, IfC, PrintI64, Exit, Clauses, end, clause, Def, Prog}
 use Rattle.model.specs.Sizes.{recordsDefs, depthDefs}
 use Rattle.model.specs.Questions.{OfStmt, OfBinders, asked, askedClauses, askedDefs, question7}
 use Rattle.image_spec.specs.Parse.{each, All}
@@ -40,6 +40,8 @@ asked-parts (Op fst o snd var next) q b Δ h = (refl, (both-true (b Δ (var .id 
 asked-parts (IfC sort fst snd thenc elsec) q b Δ h =
     let r = both-true (asked thenc q b Δ) _ (both-true (q Δ (IfC sort fst snd thenc elsec)) _ h .1) in
     (refl, (r .0, (r .1, tt)))
+asked-parts (PrintI64 newline var next) q b Δ h = (refl, (both-true (q Δ (PrintI64 newline var next)) _ h .1, tt))
+asked-parts (Exit var) q b Δ h = (refl, tt)
 
 -- the statement at place j: whatever A gives of the questions q and b, they were asked of it
 pub record Inside (d : ℕ) (rs : List Record) (j : ℕ) (A : OfStmt → OfBinders → Type 0) : Type 0 where

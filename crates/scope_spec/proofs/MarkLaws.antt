@@ -15,7 +15,7 @@ use Rattle.syntax.specs.Context.{ids}
 use Rattle.syntax.specs.declared.names.VarId.{VarId}
 use Rattle.syntax.proofs.Bools.{Answers, both-true}
 use Rattle.syntax.proofs.Members.{number-eq, same?, elem?, ∈-left, ∈-right, ∈-split, ∈-without, without-∈}
-use Rattle.model.specs.Syntax.{Stmt, Substitute, Call, Let, Switch, Create, Invoke, Literal, Op, IfC, Clauses, end, clause}
+use Rattle.model.specs.Syntax.{Stmt, Substitute, Call, Let, Switch, Create, Invoke, Literal, Op, IfC, PrintI64, Exit, Clauses, end, clause}
 use Rattle.model.specs.Questions.{isNone, plain, asked, askedClauses, anyBinders}
 use Rattle.model.specs.FreeVars.{freeVars, freeVarsClauses, ascending, optionalId}
 use Rattle.model.proofs.Annotations.{Ascending, ascending-ascends, in-ascending, ascending-in}
@@ -137,6 +137,8 @@ unfoldable mutual
   allUses (Literal lit var next) = allUses next
   allUses (Op fst op snd var next) = fst .id ∷ snd .id ∷ allUses next
   allUses (IfC sort fst snd thenc elsec) = (fst .id ∷ optionalId snd) ++ (allUses thenc ++ allUses elsec)
+  allUses (PrintI64 newline var next) = var .id ∷ allUses next
+  allUses (Exit var) = var .id ∷ []
 
   pub allUsesClauses : Clauses → List VarId
   allUsesClauses end = []
@@ -189,6 +191,11 @@ mutual
       let b = marks-stmt thenc B (markAll B xs row) Δ (q .0) (rw (a .size) (fit-left (allUses thenc) (allUses elsec) (length row) g)) in
       let c = marks-stmt elsec B (markStmt thenc B (markAll B xs row)) Δ (q .1) (rw (b .size, a .size) (fit-right (allUses thenc) (allUses elsec) (length row) g)) in
       marks-then a (marks-then b c)
+  marks-stmt (PrintI64 newline var next) B row Δ p h =
+      let xs = var .id ∷ [] in
+      let a = marks-all B xs row (fit-left xs (allUses next) (length row) h) in
+      marks-then a (marks-stmt next B (markAll B xs row) Δ p (rw (a .size) (fit-right xs (allUses next) (length row) h)))
+  marks-stmt (Exit var) B row Δ p h = marks-all B (var .id ∷ []) row h
 
   pub marks-clauses : (cs : Clauses) (B : List VarId) (row : List ℕ) (Δ : List VarId) → askedClauses cs plain anyBinders Δ ≡ true → FitRow (allUsesClauses cs) (length row) → Marks B (freeVarsClauses cs) row (markClauses cs B row)
   marks-clauses end B row Δ p h = marks-none B row

@@ -4,7 +4,7 @@ use Prim.Native.Nat.{ℕ}
 use mathlib.Core.Path.{_≡_, refl}
 use mathlib.Core.List.{List, _++_, append-nil}
 use Rattle.syntax.specs.declared.names.VarId.{VarId}
-use Rattle.model.specs.Syntax.{Stmt, Substitute, Call, Let, Switch, Create, Invoke, Literal, Op, IfC}
+use Rattle.model.specs.Syntax.{Stmt, Substitute, Call, Let, Switch, Create, Invoke, Literal, Op, IfC, PrintI64, Exit}
 use Rattle.image_places_spec.specs.Views.{recordOf, clausesIn, bodiesOf, binders, usesOf}
 use Rattle.scope_spec.specs.Marking.{markAll, markStmt, markClauses, markBodies}
 
@@ -20,3 +20,5 @@ mark-view (Invoke var tag ty args) B row = refl
 mark-view (Literal lit var next) B row = refl
 mark-view (Op fst op snd var next) B row = refl
 mark-view (IfC sort fst snd thenc elsec) B row = rw append-nil
+mark-view (PrintI64 newline var next) B row = rw append-nil
+mark-view (Exit var) B row = refl

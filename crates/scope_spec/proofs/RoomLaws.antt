@@ -11,7 +11,7 @@ use Rattle.syntax.specs.Context.{Context, ids}
 use Rattle.syntax.specs.declared.names.VarId.{VarId}
 use Rattle.syntax.specs.declared.names.Identifier.{Identifier}
 use Rattle.syntax.proofs.Bools.{both-true}
-use Rattle.model.specs.Syntax.{Stmt, Substitute, Call, Let, Switch, Create, Invoke, Literal, Op, IfC, Clauses, clause}
+use Rattle.model.specs.Syntax.{Stmt, Substitute, Call, Let, Switch, Create, Invoke, Literal, Op, IfC, PrintI64, Exit, Clauses, clause}
 use Rattle.model.specs.Questions.{asked, anyBinders}
 use Rattle.image_spec.specs.Parse.{All}
 use Rattle.image_places_spec.specs.Views.{recordOf, clausesIn, bodiesOf, binders}
@@ -31,6 +31,8 @@ module _ (B : List VarId) where
   room-here (Literal lit var next) r = omega (arith, r .longer, leb-true (length (r .scope)) 64 (both-true (leb (length (r .scope)) 64) _ (r .room) .0))
   room-here (Op fst op snd var next) r = omega (arith, r .longer, leb-true (length (r .scope)) 64 (both-true (leb (length (r .scope)) 64) _ (r .room) .0))
   room-here (IfC sort fst snd thenc elsec) r = omega (arith, r .longer, leb-true (length (r .scope)) 64 (both-true (leb (length (r .scope)) 64) _ (r .room) .0))
+  room-here (PrintI64 newline var next) r = omega (arith, r .longer, leb-true (length (r .scope)) 64 (both-true (leb (length (r .scope)) 64) _ (r .room) .0))
+  room-here (Exit var) r = omega (arith, r .longer, leb-true (length (r .scope)) 64 (r .room))
 
   pub room-clauses : (t : Stmt) → RoomFor B t → RoomForClauses B (clausesIn t)
   room-clauses t r = record { scope = r .scope; longer = r .longer; room = asked-parts t inRoom anyBinders (r .scope) (r .room) .0 }
@@ -64,3 +66,5 @@ room-binders B (Invoke var tag ty args) r = rw append-nil (room-here B (Invoke v
 room-binders B (Literal lit var next) r = room-here (B ++ (var .id ∷ [])) next (room-bodies B (Literal lit var next) r .0)
 room-binders B (Op fst o snd var next) r = room-here (B ++ (var .id ∷ [])) next (room-bodies B (Op fst o snd var next) r .0)
 room-binders B (IfC sort fst snd thenc elsec) r = room-here (B ++ []) thenc (room-bodies B (IfC sort fst snd thenc elsec) r .0)
+room-binders B (PrintI64 newline var next) r = room-here (B ++ []) next (room-bodies B (PrintI64 newline var next) r .0)
+room-binders B (Exit var) r = rw append-nil (room-here B (Exit var) r)

@@ -15,7 +15,7 @@ use Rattle.syntax.specs.Context.{ids}
 use Rattle.syntax.specs.declared.names.VarId.{VarId}
 use Rattle.syntax.proofs.Bools.{Answers}
 use Rattle.syntax.proofs.Members.{same?}
-use Rattle.model.specs.Syntax.{Stmt, Substitute, Call, Let, Switch, Create, Invoke, Literal, Op, IfC, Clauses, end, clause, Def}
+use Rattle.model.specs.Syntax.{Stmt, Substitute, Call, Let, Switch, Create, Invoke, Literal, Op, IfC, PrintI64, Exit, Clauses, end, clause, Def}
 use Rattle.model.specs.Lists.{every}
 use Rattle.model.specs.Questions.{asked, askedClauses, askedDefs, anyStmt, anyBinders, new, uses, inScope, upTo}
 use Rattle.scope_spec.specs.Rooms.{inRoom}
@@ -104,6 +104,8 @@ mutual
   walkStmt-stays (Literal lit var next) M Δ v e = walkStmt-stays next M _ _ (enterAll-stays M (var .id ∷ []) (record { scope = Δ; verdict = v }) e)
   walkStmt-stays (Op fst op snd var next) M Δ v e = walkStmt-stays next M _ _ (enterAll-stays M (var .id ∷ []) (record { scope = Δ; verdict = useAll Δ (fst .id ∷ snd .id ∷ []) v }) e)
   walkStmt-stays (IfC sort fst snd thenc elsec) M Δ v e = walkStmt-stays elsec M Δ _ (walkStmt-stays thenc M Δ _ (useAll-stays Δ (uses (IfC sort fst snd thenc elsec)) v ∙ e))
+  walkStmt-stays (PrintI64 newline var next) M Δ v e = walkStmt-stays next M Δ _ (useAll-stays Δ (var .id ∷ []) v ∙ e)
+  walkStmt-stays (Exit var) M Δ v e = useAll-stays Δ (var .id ∷ []) v ∙ e
 
   pub walkClauses-stays : (cs : Clauses) (M : ℕ) (Δ : List VarId) (v : Verdict) → v .room ≡ false → (walkClauses cs M Δ v) .room ≡ false
   walkClauses-stays end M Δ v e = e
@@ -276,6 +278,8 @@ asked-over (Invoke var tag ty args) Δ h = rw (lt-leb (length Δ) 64 h)
 asked-over (Literal lit var next) Δ h = rw (lt-leb (length Δ) 64 h)
 asked-over (Op fst op snd var next) Δ h = rw (lt-leb (length Δ) 64 h)
 asked-over (IfC sort fst snd thenc elsec) Δ h = rw (lt-leb (length Δ) 64 h)
+asked-over (PrintI64 newline var next) Δ h = rw (lt-leb (length Δ) 64 h)
+asked-over (Exit var) Δ h = rw (lt-leb (length Δ) 64 h)
 
 mutual
   unfolding asked walkStmt
@@ -310,6 +314,9 @@ mutual
       (finds-then (finds-uses s (uses (IfC sort fst snd thenc elsec)) v)
       (λ e. finds-then (finds-stmt thenc M Δ Δ′ _ s h) (λ q. finds-stmt elsec M Δ Δ′ _ s h) (λ q. walkStmt-stays elsec M Δ′ _ q))
       (λ e. walkStmt-stays elsec M Δ′ _ (walkStmt-stays thenc M Δ′ _ e)))
+  finds-stmt (PrintI64 newline var next) M Δ Δ′ v s h =
+      rw (le-leb (length Δ) 64 h) (finds-then (finds-uses s (var .id ∷ []) v) (λ e. finds-stmt next M Δ Δ′ _ s h) (λ e. walkStmt-stays next M Δ′ _ e))
+  finds-stmt (Exit var) M Δ Δ′ v s h = rw (le-leb (length Δ) 64 h) (finds-uses s (var .id ∷ []) v)
 
   pub finds-clauses : (cs : Clauses) (M : ℕ) (Δ Δ′ : List VarId) (v : Verdict) → SameScope Δ Δ′ → length Δ ≤ 64
       → Finds v (walkClauses cs M Δ′ v) (askedClauses cs inRoom anyBinders Δ) (askedClauses cs anyStmt new Δ) (askedClauses cs inScope anyBinders Δ) (askedClauses cs anyStmt (upTo M) Δ)

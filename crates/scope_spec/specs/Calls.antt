@@ -17,7 +17,7 @@ use Rattle.image_spec.specs.declared.Answer.{Answer}
 use Rattle.image_spec.specs.declared.Answer.the-variants.{Accepted, Refused}
 use Rattle.image_spec.specs.Parse.{each, field}
 use Rattle.image_spec.specs.Layout.{layout1}
-use Rattle.image_spec.specs.Records.{Record, definition, substitute, call, let', switch, create, invoke, literal, op, ifc, clause'}
+use Rattle.image_spec.specs.Records.{Record, definition, substitute, call, let', switch, create, invoke, literal, op, ifc, clause', print, exit}
 use Rattle.image_spec.specs.Shape.{flattenDefs, maxDepth}
 use Rattle.image_spec.specs.Answers.{Report, Reports, report}
 use Rattle.image_spec.specs.Reading.{Reading, refuse, accept, ifYes, reading, answerOf}
@@ -75,7 +75,7 @@ abbrev pub replyBuffer : Reply → List ℕ → List ℕ
 replyBuffer (refuses q) out = afterRefusal q out
 replyBuffer (writes bytes m) out = sets out 0 bytes
 
--- document 01, question 13: below N and one with an annotation (Let, Switch, Create, Literal, Op)
+-- document 01, question 13: below N and one with an annotation (Let, Switch, Create, Literal, Op; document 02, A.1: PrintI64 carrying an annotation)
 abbrev pub hasAnnotation : Record → Bool
 hasAnnotation (definition x Γ) = false
 hasAnnotation (substitute ps) = false
@@ -88,6 +88,8 @@ hasAnnotation (literal z v) = true
 hasAnnotation (op f o s v) = true
 hasAnnotation (ifc c f s) = false
 hasAnnotation (clause' x Γ) = false
+hasAnnotation (print n v) = true
+hasAnnotation (exit v) = false
 
 abbrev pub firstHas : List Record → Bool
 firstHas [] = false

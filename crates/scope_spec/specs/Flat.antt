@@ -6,7 +6,7 @@ use lib.Dec.{leb}
 use lib.ListN.{length}
 use Rattle.model.specs.Questions.{isNone}
 use Rattle.model.specs.Sizes.{countEnvironment}
-use Rattle.image_spec.specs.Records.{Record, definition, substitute, call, let', switch, create, invoke, literal, op, ifc, clause'}
+use Rattle.image_spec.specs.Records.{Record, definition, substitute, call, let', switch, create, invoke, literal, op, ifc, clause', print, exit}
 
 -- does every record pass?
 abbrev pub allRecords : (Record → Bool) → List Record → Bool
@@ -26,6 +26,8 @@ plainRecord (literal z v) = true
 plainRecord (op f o s v) = true
 plainRecord (ifc c f s) = true
 plainRecord (clause' x Γ) = true
+plainRecord (print n v) = true
+plainRecord (exit v) = true
 
 -- document 01, question 7: counts 32
 abbrev pub smallRecord : Record → Bool
@@ -40,3 +42,5 @@ smallRecord (literal z v) = true
 smallRecord (op f o s v) = true
 smallRecord (ifc c f s) = true
 smallRecord (clause' x Γ) = leb (length Γ) 32
+smallRecord (print n v) = true
+smallRecord (exit v) = true

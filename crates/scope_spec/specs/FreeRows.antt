@@ -6,7 +6,7 @@ use mathlib.Core.List.{List, [], _∷_, _++_}
 use Rattle.syntax.specs.Sets.{elem}
 use Rattle.syntax.specs.Context.{ids}
 use Rattle.syntax.specs.declared.names.VarId.{VarId}
-use Rattle.model.specs.Syntax.{Stmt, Substitute, Call, Let, Switch, Create, Invoke, Literal, Op, IfC, Clauses, end, clause, Def}
+use Rattle.model.specs.Syntax.{Stmt, Substitute, Call, Let, Switch, Create, Invoke, Literal, Op, IfC, PrintI64, Exit, Clauses, end, clause, Def}
 use Rattle.model.specs.FreeVars.{freeVars, freeVarsClauses}
 use Rattle.image_places_spec.specs.Views.{recordOf, clausesIn, bodiesOf, binders}
 
@@ -44,6 +44,8 @@ unfoldable mutual
   rowsStmt (Literal lit var next) Δ = rowOf (Literal lit var next) Δ ++ rowsStmt next (Δ ++ (var .id ∷ []))
   rowsStmt (Op fst op snd var next) Δ = rowOf (Op fst op snd var next) Δ ++ rowsStmt next (Δ ++ (var .id ∷ []))
   rowsStmt (IfC sort fst snd thenc elsec) Δ = rowOf (IfC sort fst snd thenc elsec) Δ ++ (rowsStmt thenc Δ ++ rowsStmt elsec Δ)
+  rowsStmt (PrintI64 newline var next) Δ = rowOf (PrintI64 newline var next) Δ ++ rowsStmt next Δ
+  rowsStmt (Exit var) Δ = rowOf (Exit var) Δ
 
   pub rowsClauses : Clauses → (scope : List VarId) → List ℕ
   rowsClauses end Δ = []

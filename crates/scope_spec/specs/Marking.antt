@@ -8,7 +8,7 @@ use lib.ListN.{set}
 use Rattle.syntax.specs.Sets.{elem}
 use Rattle.syntax.specs.Context.{ids}
 use Rattle.syntax.specs.declared.names.VarId.{VarId}
-use Rattle.model.specs.Syntax.{Stmt, Substitute, Call, Let, Switch, Create, Invoke, Literal, Op, IfC, Clauses, end, clause}
+use Rattle.model.specs.Syntax.{Stmt, Substitute, Call, Let, Switch, Create, Invoke, Literal, Op, IfC, PrintI64, Exit, Clauses, end, clause}
 use Rattle.model.specs.Questions.{uses}
 
 -- the row with what is used, and not bound, marked
@@ -30,6 +30,8 @@ unfoldable mutual
   markStmt (Literal lit var next) B row = markStmt next (B ++ (var .id ∷ [])) row
   markStmt (Op fst op snd var next) B row = markStmt next (B ++ (var .id ∷ [])) (markAll B (fst .id ∷ snd .id ∷ []) row)
   markStmt (IfC sort fst snd thenc elsec) B row = markStmt elsec B (markStmt thenc B (markAll B (uses (IfC sort fst snd thenc elsec)) row))
+  markStmt (PrintI64 newline var next) B row = markStmt next B (markAll B (var .id ∷ []) row)
+  markStmt (Exit var) B row = markAll B (var .id ∷ []) row
 
   pub markClauses : Clauses → (bound : List VarId) → List ℕ → List ℕ
   markClauses end B row = row

@@ -8,7 +8,7 @@ use lib.ListN.{length}
 use Rattle.syntax.specs.Sets.{elem}
 use Rattle.syntax.specs.Context.{ids}
 use Rattle.syntax.specs.declared.names.VarId.{VarId}
-use Rattle.model.specs.Syntax.{Stmt, Substitute, Call, Let, Switch, Create, Invoke, Literal, Op, IfC, Clauses, end, clause, Def}
+use Rattle.model.specs.Syntax.{Stmt, Substitute, Call, Let, Switch, Create, Invoke, Literal, Op, IfC, PrintI64, Exit, Clauses, end, clause, Def}
 use Rattle.model.specs.Questions.{uses}
 use Rattle.scope_spec.specs.declared.Verdict.{Verdict}
 
@@ -70,6 +70,8 @@ unfoldable mutual
   walkStmt (Literal lit var next) M = λ Δ v. under M (var .id ∷ []) (walkStmt next M) Δ v
   walkStmt (Op fst op snd var next) M = λ Δ v. under M (var .id ∷ []) (walkStmt next M) Δ (useAll Δ (fst .id ∷ snd .id ∷ []) v)
   walkStmt (IfC sort fst snd thenc elsec) M = λ Δ v. walkStmt elsec M Δ (walkStmt thenc M Δ (useAll Δ (uses (IfC sort fst snd thenc elsec)) v))
+  walkStmt (PrintI64 newline var next) M = λ Δ v. walkStmt next M Δ (useAll Δ (var .id ∷ []) v)
+  walkStmt (Exit var) M = λ Δ v. useAll Δ (var .id ∷ []) v
 
   pub walkClauses : Clauses → (M : ℕ) → Walking
   walkClauses end M = λ Δ v. v

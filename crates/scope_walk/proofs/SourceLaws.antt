@@ -11,7 +11,7 @@ use Rattle.syntax.specs.declared.names.VarId.{VarId}
 use Rattle.syntax.specs.declared.names.Identifier.{Identifier}
 use Rattle.syntax.proofs.Bools.{both-true}
 use Rattle.syntax.proofs.Members.{elem-true, ∈-left, ∈-right, ∈-split}
-use Rattle.model.specs.Syntax.{Stmt, Substitute, Call, Let, Switch, Create, Invoke, Literal, Op, IfC, Clauses, clause, Def}
+use Rattle.model.specs.Syntax.{Stmt, Substitute, Call, Let, Switch, Create, Invoke, Literal, Op, IfC, PrintI64, Exit, Clauses, clause, Def}
 use Rattle.model.specs.Lists.{every}
 use Rattle.model.specs.Questions.{asked, askedClauses, anyStmt, anyBinders, plain, new}
 use Rattle.image_spec.specs.Parse.{All}
@@ -35,6 +35,8 @@ plain-here (Invoke var tag ty args) Δ h = tt
 plain-here (Literal lit var next) Δ h = tt
 plain-here (Op fst op snd var next) Δ h = tt
 plain-here (IfC sort fst snd thenc elsec) Δ h = tt
+plain-here (PrintI64 newline var next) Δ h = tt
+plain-here (Exit var) Δ h = tt
 
 every-new : (Δ xs : List VarId) → every (λ (x : VarId). not (elem x Δ)) xs ≡ true → (x : VarId) → x ∈ Δ → x ∈ xs → ⊥
 every-new Δ [] e x h k = k
@@ -56,6 +58,8 @@ new-here (Invoke var tag ty args) Δ h x a b = b
 new-here (Literal lit var next) Δ h x a b = new-apart Δ (var .id ∷ []) (both-true (new Δ (var .id ∷ [])) _ h .0) x a b
 new-here (Op fst op snd var next) Δ h x a b = new-apart Δ (var .id ∷ []) (both-true (new Δ (var .id ∷ [])) _ h .0) x a b
 new-here (IfC sort fst snd thenc elsec) Δ h x a b = b
+new-here (PrintI64 newline var next) Δ h x a b = b
+new-here (Exit var) Δ h x a b = b
 
 -- ── what its parts are told ──
 

@@ -3,7 +3,7 @@ use Prim.Native.Nat.{ℕ}
 use mathlib.Core.Path.{_≡_, refl}
 use mathlib.Core.List.{List}
 use Rattle.syntax.specs.declared.names.VarId.{VarId}
-use Rattle.model.specs.Syntax.{Stmt, Substitute, Call, Let, Switch, Create, Invoke, Literal, Op, IfC, Clauses}
+use Rattle.model.specs.Syntax.{Stmt, Substitute, Call, Let, Switch, Create, Invoke, Literal, Op, IfC, PrintI64, Exit, Clauses}
 use Rattle.image_spec.specs.Records.{Record}
 use Rattle.image_places_spec.specs.Views.{recordOf, clausesIn, bodiesOf, binders, usesOf}
 use Rattle.scope_spec.specs.declared.Verdict.{Verdict}
@@ -28,3 +28,5 @@ walk-view (Invoke var tag ty args) M Δ v = refl
 walk-view (Literal lit var next) M Δ v = refl
 walk-view (Op fst op snd var next) M Δ v = refl
 walk-view (IfC sort fst snd thenc elsec) M Δ v = refl
+walk-view (PrintI64 newline var next) M Δ v = refl
+walk-view (Exit var) M Δ v = refl

@@ -2,7 +2,7 @@ use borrow.Author.Needs.{needs}
 use mathlib.Core.Path.{sym}
 use denote.Ref.{now}
 use Rattle.image_fields.specs.declared.Found.the-variants.{At}
-use Rattle.image_kinds.proofs.RecordStops.{stop1, stop2, stop3, stop4, stop5, stop6, stop7, stop8, stop9, stop10, stop11, content-other}
+use Rattle.image_kinds.proofs.RecordStops.{stop1, stop2, stop3, stop4, stop5, stop6, stop7, stop8, stop9, stop10, stop11, stop12, stop13, content-other}
 use Rattle.image_kinds.proofs.form.skip_content.Statement.{statement}
 use Rattle.image_kinds.proofs.form.skip_content.Tie as tie
 
@@ -99,6 +99,15 @@ skip-identifier-requires-14 c κs = search needs
 skip-list-requires-5 : tie.Need-skip-list-requires-5
 skip-list-requires-5 c κs = search needs
 
+skip-code-requires-5 : tie.Need-skip-code-requires-5
+skip-code-requires-5 c κs = search needs
+
+skip-identifier-requires-15 : tie.Need-skip-identifier-requires-15
+skip-identifier-requires-15 c κs = search needs
+
+skip-identifier-requires-16 : tie.Need-skip-identifier-requires-16
+skip-identifier-requires-16 c κs = search needs
+
 returns : tie.Need-returns
 returns c = let a = c .before .before .before .before .args in cc (stop1 (a .w) (now (a .bytes)) (At 1), c .before .before .match .keys1)
 
@@ -133,7 +142,13 @@ returns-11 : tie.Need-returns-11
 returns-11 c = let a = c .before .before .before .before .args in cc (stop11 (a .w) (now (a .bytes)) (At 1), c .before .before .match .keys11)
 
 returns-12 : tie.Need-returns-12
-returns-12 c = let a = c .before .before .args in sym (content-other (a .w) (a .k) (now (a .bytes)) (At 1) (c .match .rest .0 .0 .0 .0 .0 .0 .0 .0 .0 .0 .1) (c .match .rest .0 .0 .0 .0 .0 .0 .0 .0 .0 .1) (c .match .rest .0 .0 .0 .0 .0 .0 .0 .0 .1) (c .match .rest .0 .0 .0 .0 .0 .0 .0 .1) (c .match .rest .0 .0 .0 .0 .0 .0 .1) (c .match .rest .0 .0 .0 .0 .0 .1) (c .match .rest .0 .0 .0 .0 .1) (c .match .rest .0 .0 .0 .1) (c .match .rest .0 .0 .1) (c .match .rest .0 .1) (c .match .rest .1))
+returns-12 c = let a = c .before .before .before .before .args in cc (stop12 (a .w) (now (a .bytes)) (At 1), c .before .before .match .keys12)
+
+returns-13 : tie.Need-returns-13
+returns-13 c = let a = c .before .before .before .args in cc (stop13 (a .w) (now (a .bytes)) (At 1), c .before .match .keys13)
+
+returns-14 : tie.Need-returns-14
+returns-14 c = let a = c .before .before .args in sym (content-other (a .w) (a .k) (now (a .bytes)) (At 1) (c .match .rest .0 .0 .0 .0 .0 .0 .0 .0 .0 .0 .0 .0 .1) (c .match .rest .0 .0 .0 .0 .0 .0 .0 .0 .0 .0 .0 .1) (c .match .rest .0 .0 .0 .0 .0 .0 .0 .0 .0 .0 .1) (c .match .rest .0 .0 .0 .0 .0 .0 .0 .0 .0 .1) (c .match .rest .0 .0 .0 .0 .0 .0 .0 .0 .1) (c .match .rest .0 .0 .0 .0 .0 .0 .0 .1) (c .match .rest .0 .0 .0 .0 .0 .0 .1) (c .match .rest .0 .0 .0 .0 .0 .1) (c .match .rest .0 .0 .0 .0 .1) (c .match .rest .0 .0 .0 .1) (c .match .rest .0 .0 .1) (c .match .rest .0 .1) (c .match .rest .1))
 
 pub skip-content-spec : {M : Type 1} → statement M
 skip-content-spec =
@@ -170,6 +185,9 @@ skip-content-spec =
     skip-second-requires
     skip-identifier-requires-14
     skip-list-requires-5
+    skip-code-requires-5
+    skip-identifier-requires-15
+    skip-identifier-requires-16
     returns
     returns-2
     returns-3
@@ -181,4 +199,6 @@ skip-content-spec =
     returns-9
     returns-10
     returns-11
-    returns-12)
+    returns-12
+    returns-13
+    returns-14)

@@ -25,7 +25,7 @@ second c =
     let a = c .before .before .before .before .before .args in
     let r = recordAt (a .frame) (now (a .image)) (a .i) in
     let h = c .before .before .before .before .before .pre .0 in
-    let b = tail-byte (a .frame .id) 10 r 0 _ (h .kind) (c .before .before .fixed .ensures ∙ omega arith) (tail-some (a .frame .id) r (λ q. omega (arith, h .kind)) (λ q. omega (arith, h .kind))) (c .before .byte .ensures) in
+    let b = tail-byte (a .frame .id) 10 r 0 _ (h .kind) (c .before .before .fixed .ensures ∙ omega arith) (tail-some (a .frame .id) r (λ q. omega (arith, h .kind)) (λ q. omega (arith, h .kind)) (λ q. omega (arith, h .kind)) (λ q. omega (arith, h .kind))) (c .before .byte .ensures) in
     second-some (a .frame .id) r (h .kind) (record-ok (a .frame) (now (a .image)) (a .i) 10 h) (λ q. c .if1 .left (b ∙ q))
 
 there : (c : tie.Else1) → Stands (identifierBytes (c .before .before .before .before .before .args .frame .id)) (IdentifierOk (c .before .before .before .before .before .args .frame .id)) (recordBytes (c .before .before .before .before .before .args .frame .id) (recordAt (c .before .before .before .before .before .args .frame) (now (c .before .before .before .before .before .args .image)) (c .before .before .before .before .before .args .i)))
@@ -42,14 +42,14 @@ byte-requires c κs =
     let a = c .before .before .before .args in
     let r = recordAt (a .frame) (now (a .image)) (a .i) in
     let h = c .before .before .before .pre .0 in
-    (h .ready, (h .inside, tail-room (a .frame) (now (a .image)) (a .i) 10 0 _ h (c .fixed .ensures ∙ omega arith) (tail-some (a .frame .id) r (λ q. omega (arith, h .kind)) (λ q. omega (arith, h .kind)))))
+    (h .ready, (h .inside, tail-room (a .frame) (now (a .image)) (a .i) 10 0 _ h (c .fixed .ensures ∙ omega arith) (tail-some (a .frame .id) r (λ q. omega (arith, h .kind)) (λ q. omega (arith, h .kind)) (λ q. omega (arith, h .kind)) (λ q. omega (arith, h .kind)))))
 
 returns : tie.Need-returns
 returns c =
     let a = c .before .before .before .before .before .args in
     let r = recordAt (a .frame) (now (a .image)) (a .i) in
     let h = c .before .before .before .before .before .pre .0 in
-    let b = tail-byte (a .frame .id) 10 r 0 _ (h .kind) (c .before .before .fixed .ensures ∙ omega arith) (tail-some (a .frame .id) r (λ q. omega (arith, h .kind)) (λ q. omega (arith, h .kind))) (c .before .byte .ensures) in
+    let b = tail-byte (a .frame .id) 10 r 0 _ (h .kind) (c .before .before .fixed .ensures ∙ omega arith) (tail-some (a .frame .id) r (λ q. omega (arith, h .kind)) (λ q. omega (arith, h .kind)) (λ q. omega (arith, h .kind)) (λ q. omega (arith, h .kind))) (c .before .byte .ensures) in
     sym (used-none (scopeIn (a .n) (now (a .scope))) (a .u)) ∙ sym (ap (λ (xs : List VarId). usedAll (scopeIn (a .n) (now (a .scope))) xs (a .u)) (second-none (a .frame .id) r (h .kind) (sym b ∙ c .if1 .taken)))
 
 add-identifier : tie.Need-add-identifier

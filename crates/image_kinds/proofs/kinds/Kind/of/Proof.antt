@@ -15,7 +15,7 @@ row p i b = record { plain = p; ids = i; bodies = b }
 
 -- the table, as the source has it
 abbrev rows : List Kind
-rows = row 0 0 0 ∷ row 3 1 1 ∷ row 1 0 1 ∷ row 3 1 0 ∷ row 8 3 1 ∷ row 6 2 0 ∷ row 6 2 1 ∷ row 8 3 0 ∷ row 11 1 1 ∷ row 8 3 1 ∷ row 4 1 2 ∷ row 3 1 1 ∷ []
+rows = row 0 0 0 ∷ row 3 1 1 ∷ row 1 0 1 ∷ row 3 1 0 ∷ row 8 3 1 ∷ row 6 2 0 ∷ row 6 2 1 ∷ row 8 3 0 ∷ row 11 1 1 ∷ row 8 3 1 ∷ row 4 1 2 ∷ row 3 1 1 ∷ row 4 1 1 ∷ row 3 1 0 ∷ []
 
 right : (i k : ℕ) → i ≡ k → IsKind (getD rows i (row 0 0 0)) k
 right i k e = record {

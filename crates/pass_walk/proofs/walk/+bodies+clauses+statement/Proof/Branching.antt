@@ -176,6 +176,6 @@ statement-returns-2 t c =
     let b = begun h f (opened .«open» .ensures) in
     let z = walked .clauses .ensures in
     let a = switch-at (branches (opened .before)) (switch .if2 .left) (source-at (h .sources) (f .at)) in
-    let l = leaves-stay (s .args .context) (h .count) (ap binders (at-made 5 (a .at))) (leaves-as 5 refl a (switched .linearize2 .ensures)) in
+    let l = leaves-stay (s .args .context) (h .count) (ap binders (at-made 5 (a .at))) (λ q. omega (arith, q, a .at .kind)) (leaves-as 5 refl a (switched .linearize2 .ensures)) in
     let r = reached-opened h b z (switch .before .with-max-id .ensures) (l .steps _ _ (say-clauses h) (say-next h)) (c .with-max-id3 .ensures) in
     statement-ended h (below h f (z .nextIs)) r (no-bodies (f .bodies ∙ ap bodies (a .at .kind)) _ _ _)

@@ -26,10 +26,10 @@ use Rattle.pass_statement_create.proofs.create.linearize.Reads as create-linear
 use Rattle.pass_statement_switch.proofs.switch.linearize.Reads as switch-linearize-reads
 use Rattle.image_read_nodes.proofs.parts_of.Reads as parts-of-reads
 use Rattle.pass_clause.proofs.clause.enter.Reads as enter-reads
-use Rattle.pass_dispatch.proofs.step.bind.Reads as bind-reads
+use Rattle.pass_dispatch.proofs.step.proceed.Reads as proceed-reads
 use Rattle.pass_dispatch.proofs.step.open.Reads as open-reads
 use Rattle.pass_dispatch.proofs.step.settle.Reads as settle-reads
-use Rattle.pass_walk.proofs.walk.binds.Reads as binds-reads
+use Rattle.pass_walk.proofs.walk.proceeds.Reads as proceeds-reads
 use Rattle.pass_walk.proofs.walk.has_clauses.Reads as has-clauses-reads
 use Rattle.pass_step.proofs.fresh.with_max_id.Reads as with-max-id-reads
 
@@ -73,7 +73,7 @@ abbrev pub clauses-claims : ℕ → clauses-lts.Claims
 clauses-claims t = (enter-reads.Asked, enter-reads.Learnt, statement-below t, statement′.Post)
 
 abbrev pub statement-claims : ℕ → statement-lts.Claims
-statement-claims t = (parts-of-reads.Asked, parts-of-reads.Learnt, has-clauses-reads.Asked, has-clauses-reads.Learnt, open-reads.Asked, open-reads.Learnt, clauses-below t, clauses.Post, with-max-id-reads.Asked, with-max-id-reads.Learnt, create-linearize-reads.Asked, create-linearize-reads.Learnt, statement-below t, statement′.Post, switch-linearize-reads.Asked, switch-linearize-reads.Learnt, binds-reads.Asked, binds-reads.Learnt, bind-reads.Asked, bind-reads.Learnt, settle-reads.Asked, settle-reads.Learnt, bodies-below t, bodies.Post)
+statement-claims t = (parts-of-reads.Asked, parts-of-reads.Learnt, has-clauses-reads.Asked, has-clauses-reads.Learnt, open-reads.Asked, open-reads.Learnt, clauses-below t, clauses.Post, with-max-id-reads.Asked, with-max-id-reads.Learnt, create-linearize-reads.Asked, create-linearize-reads.Learnt, statement-below t, statement′.Post, switch-linearize-reads.Asked, switch-linearize-reads.Learnt, proceeds-reads.Asked, proceeds-reads.Learnt, proceed-reads.Asked, proceed-reads.Learnt, settle-reads.Asked, settle-reads.Learnt, bodies-below t, bodies.Post)
 
 -- ── the loops ──
 

@@ -59,21 +59,21 @@ module _ {t : ℕ} where
   abbrev pub to-switched : At statement-lts.After-with-max-id3 t → At statement-lts.After-linearize2 t
   to-switched c = c .before .before .before .before .before
 
-  -- ── without clauses: whether it binds ──
+  -- ── without clauses: whether it goes on with one body ──
 
-  abbrev pub straight-parts : At statement-lts.After-binds t → At statement-lts.After-parts-of t
+  abbrev pub straight-parts : At statement-lts.After-proceeds t → At statement-lts.After-parts-of t
   straight-parts c = to-parts (c .before .before)
 
-  -- ── one that binds: its step, and its next ──
+  -- ── one that does: its step, and its next ──
 
-  abbrev pub to-binding : At statement-lts.After-bind t → At statement-lts.Then3 t
-  to-binding c = c .before .before .before
+  abbrev pub to-proceeding : At statement-lts.After-proceed t → At statement-lts.Then3 t
+  to-proceeding c = c .before .before .before
 
-  abbrev pub binding-parts : At statement-lts.Then3 t → At statement-lts.After-parts-of t
-  binding-parts c = straight-parts (c .before)
+  abbrev pub proceeding-parts : At statement-lts.Then3 t → At statement-lts.After-parts-of t
+  proceeding-parts c = straight-parts (c .before)
 
-  abbrev pub to-bound : At statement-lts.After-slice-known12 t → At statement-lts.After-bind t
-  to-bound c = c .before .before .before .before
+  abbrev pub to-stepped : At statement-lts.After-slice-known12 t → At statement-lts.After-proceed t
+  to-stepped c = c .before .before .before .before
 
   abbrev pub to-body : At statement-lts.After-slice-known14 t → At statement-lts.After-statement2 t
   to-body c = c .before .before .before .before

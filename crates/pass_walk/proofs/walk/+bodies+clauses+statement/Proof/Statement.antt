@@ -1,21 +1,21 @@
 -- A statement meets its contract: its parts and its row, and without clauses its step and then its one body, its bodies or none. Assumes nothing.
 use Prim.Native.Nat.{ℕ}
-use mathlib.Core.Path.{_≡_, sym, ap, _∙_, subst}
-use mathlib.Core.Bool.{false, _&&_, _||_}
+use mathlib.Core.Path.{_≡_, refl, sym, ap, _∙_, subst}
+use mathlib.Core.Bool.{false, _&&_}
 use native.Mathlib.Omega.{arith}
 use borrow.Author.Needs.{needs}
-use lib.Dec.{leb, eqb}
+use lib.Dec.{leb}
 use lib.ListN.{length}
-use Rattle.pass_dispatch.specs.Choices.{Binds, Settles}
+use Rattle.pass_dispatch.specs.Choices.{proceeds, Proceeds, Settles}
 use Rattle.pass_walk.proofs.SourceLaws.{source-at}
 use Rattle.pass_walk.proofs.LeaveLaws.{leaves-stay}
-use Rattle.pass_walk.proofs.StatementLaws.{no-bodies, parts-ready, deep, below, straight, binding-here, settling-here, room-open, workable-for, in-places, row-inside, say-clauses, say-next}
+use Rattle.pass_walk.proofs.StatementLaws.{no-bodies, parts-ready, deep, below, straight, one-body-here, settling-here, room-open, workable-for, in-places, row-inside, say-clauses, say-next}
 use Rattle.pass_walk.proofs.WalkSteps.{next-straight, reached-straight, bodies-ahead, statement-done, statement-ended}
 use Rattle.pass_walk.proofs.LoopSteps.{one-body, one-body-done}
 use Rattle.pass_walk.proofs.walk.statement.Reads as statement′
 use Rattle.pass_walk.proofs.walk.+bodies+clauses+statement.Lts-statement as statement-lts
 use Rattle.pass_walk.proofs.walk.+bodies+clauses+statement.Proof.Common.{statement-at, statement-claims}
-use Rattle.pass_walk.proofs.walk.+bodies+clauses+statement.Proof.Places.{At, to-start, straight-parts, to-binding, binding-parts, to-bound, to-body, to-settling, settling-parts, to-settled, to-bodies, bodies-settled}
+use Rattle.pass_walk.proofs.walk.+bodies+clauses+statement.Proof.Places.{At, to-start, straight-parts, to-proceeding, proceeding-parts, to-stepped, to-body, to-settling, settling-parts, to-settled, to-bodies, bodies-settled}
 
 -- ── what the two tests say of its kind ──
 
@@ -23,14 +23,14 @@ module _ {t : ℕ} where
   abbrev kind : At statement-lts.After-parts-of t → ℕ
   kind c = c .parts-of .result .kind
 
-  no-clauses : (c : At statement-lts.After-binds t) → (leb 5 (kind (straight-parts c)) && leb (kind (straight-parts c)) 6) ≡ false
+  no-clauses : (c : At statement-lts.After-proceeds t) → (leb 5 (kind (straight-parts c)) && leb (kind (straight-parts c)) 6) ≡ false
   no-clauses c = sym (c .before .before .has-clauses .ensures) ∙ c .before .if1 .left
 
-  binder : (c : At statement-lts.Then3 t) → Binds (kind (binding-parts c))
-  binder c = sym (c .before .binds .ensures) ∙ c .if3 .taken
+  goes-on : (c : At statement-lts.Then3 t) → Proceeds (kind (proceeding-parts c))
+  goes-on c = sym (c .before .proceeds .ensures) ∙ c .if3 .taken
 
-  no-binder : (c : At statement-lts.Else3 t) → (eqb (kind (settling-parts c)) 4 || (eqb (kind (settling-parts c)) 8 || eqb (kind (settling-parts c)) 9)) ≡ false
-  no-binder c = sym (c .before .binds .ensures) ∙ c .if3 .left
+  settled-there : (c : At statement-lts.Else3 t) → proceeds (kind (settling-parts c)) ≡ false
+  settled-there c = sym (c .before .proceeds .ensures) ∙ c .if3 .left
 
 -- ── what is called for ──
 
@@ -66,66 +66,65 @@ pub statement-has-clauses-requires : (t : ℕ) → statement-lts.Need-has-clause
 statement-has-clauses-requires t c κs =
     tt
 
-pub statement-binds-requires : (t : ℕ) → statement-lts.Need-binds-requires (statement-claims t) (statement-at t) statement′.Post
-statement-binds-requires t c κs =
+pub statement-proceeds-requires : (t : ℕ) → statement-lts.Need-proceeds-requires (statement-claims t) (statement-at t) statement′.Post
+statement-proceeds-requires t c κs =
     tt
 
-pub statement-bind-requires : (t : ℕ) → statement-lts.Need-bind-requires (statement-claims t) (statement-at t) statement′.Post
-statement-bind-requires t c κs =
-    let binding = c .before .before in
-    let parts = binding-parts binding in
+pub statement-proceed-requires : (t : ℕ) → statement-lts.Need-proceed-requires (statement-claims t) (statement-at t) statement′.Post
+statement-proceed-requires t c κs =
+    let proceeding = c .before .before in
+    let parts = proceeding-parts proceeding in
     let h = to-start parts .pre .1 in
     let f = parts .parts-of .ensures in
-    let x = binding-here h (f .at .kind) (binder binding) in
-    (source-at (h .sources) (f .at), (binder binding, (in-places h, (workable-for h (x .one), room-open h))))
+    (source-at (h .sources) (f .at), (goes-on proceeding, (in-places h, (workable-for h refl, room-open h))))
 
 pub statement-sub-statement-2 : (t : ℕ) → statement-lts.Need-sub-statement-2 (statement-claims t) (statement-at t) statement′.Post
 statement-sub-statement-2 t c =
-    let parts = binding-parts (to-binding (to-bound c)) in
+    let parts = proceeding-parts (to-proceeding (to-stepped c)) in
     omega (arith, deep (to-start parts .pre .1) (parts .parts-of .ensures))
 
 pub statement-add-statement : (t : ℕ) → statement-lts.Need-add-statement (statement-claims t) (statement-at t) statement′.Post
 statement-add-statement t c =
-    let parts = binding-parts (to-binding (to-bound c)) in
+    let parts = proceeding-parts (to-proceeding (to-stepped c)) in
     omega (arith, parts .parts-of .ensures .at .inside, to-start parts .pre .1 .sources .ready .few)
 
 pub statement-statement-requires-2 : (t : ℕ) → statement-lts.Need-statement-requires-2 (statement-claims t) (statement-at t) statement′.Post
 statement-statement-requires-2 t c κs =
-    let bound = to-bound (c .before .before) in
-    let binding = to-binding bound in
-    let parts = binding-parts binding in
+    let stepped = to-stepped (c .before .before) in
+    let proceeding = to-proceeding stepped in
+    let parts = proceeding-parts proceeding in
     let s = to-start parts in
     let h = s .pre .1 in
     let f = parts .parts-of .ensures in
-    let e = straight h (f .at .kind) (no-clauses (binding .before)) in
-    let x = binding-here h (f .at .kind) (binder binding) in
-    let r = reached-straight h e (bound .bind .ensures .steps _ _ (say-clauses h) (say-next h)) in
+    let e = straight h (f .at .kind) (no-clauses (proceeding .before)) in
+    let x = one-body-here h (f .at .kind) (goes-on proceeding) in
+    let r = reached-straight h e (stepped .proceed .ensures .steps _ _ (say-clauses h) (say-next h)) in
     let b = below h f (next-straight h (f .clauses) e) in
     let n = bodies-ahead h b r in
-    (omega (arith, deep h f, s .pre .0), one-body (f .bodies ∙ x .body) n)
+    (omega (arith, deep h f, s .pre .0), one-body (f .bodies ∙ x) n)
 
 pub statement-same-length-5 : (t : ℕ) → statement-lts.Need-same-length-5 (statement-claims t) (statement-at t) statement′.Post
 statement-same-length-5 t c =
-    to-body c .statement2 .kept .1 .1 .1 .1 .1 .1 .1 .0 ∙ to-bound (to-body c .before .before .before) .bind .kept .1 .1 .1 .1 .1 .1 .1 .0
+    to-body c .statement2 .kept .1 .1 .1 .1 .1 .1 .1 .0 ∙ to-stepped (to-body c .before .before .before) .proceed .kept .1 .1 .1 .1 .1 .1 .1 .0
 
 pub statement-same-length-6 : (t : ℕ) → statement-lts.Need-same-length-6 (statement-claims t) (statement-at t) statement′.Post
 statement-same-length-6 t c =
-    to-body c .statement2 .kept .1 .1 .1 .1 .1 .1 .1 .1 .0 ∙ to-bound (to-body c .before .before .before) .bind .kept .1 .1 .1 .1 .1 .1 .1 .1 .0
+    to-body c .statement2 .kept .1 .1 .1 .1 .1 .1 .1 .1 .0 ∙ to-stepped (to-body c .before .before .before) .proceed .kept .1 .1 .1 .1 .1 .1 .1 .1 .0
 
 pub statement-returns-3 : (t : ℕ) → statement-lts.Need-returns-3 (statement-claims t) (statement-at t) statement′.Post
 statement-returns-3 t c =
     let body = to-body c in
-    let bound = to-bound (body .before .before .before) in
-    let binding = to-binding bound in
-    let parts = binding-parts binding in
+    let stepped = to-stepped (body .before .before .before) in
+    let proceeding = to-proceeding stepped in
+    let parts = proceeding-parts proceeding in
     let h = to-start parts .pre .1 in
     let f = parts .parts-of .ensures in
-    let e = straight h (f .at .kind) (no-clauses (binding .before)) in
-    let x = binding-here h (f .at .kind) (binder binding) in
-    let r = reached-straight h e (bound .bind .ensures .steps _ _ (say-clauses h) (say-next h)) in
+    let e = straight h (f .at .kind) (no-clauses (proceeding .before)) in
+    let x = one-body-here h (f .at .kind) (goes-on proceeding) in
+    let r = reached-straight h e (stepped .proceed .ensures .steps _ _ (say-clauses h) (say-next h)) in
     let b = below h f (next-straight h (f .clauses) e) in
     let n = bodies-ahead h b r in
-    statement-done h b r (one-body-done (f .bodies ∙ x .body) n (body .statement2 .ensures))
+    statement-done h b r (one-body-done (f .bodies ∙ x) n (body .statement2 .ensures))
 
 pub statement-settle-requires : (t : ℕ) → statement-lts.Need-settle-requires (statement-claims t) (statement-at t) statement′.Post
 statement-settle-requires t c κs =
@@ -133,7 +132,7 @@ statement-settle-requires t c κs =
     let parts = settling-parts settling in
     let h = to-start parts .pre .1 in
     let f = parts .parts-of .ensures in
-    let x = settling-here h (f .at .kind) (no-clauses (settling .before)) (no-binder settling) in
+    let x = settling-here h (f .at .kind) (no-clauses (settling .before)) (settled-there settling) in
     (source-at (h .sources) (f .at), (subst Settles (f .at .kind) (x .settles), (workable-for h (ap length (x .none)), room-open h)))
 
 pub statement-add-t72 : (t : ℕ) → statement-lts.Need-add-t72 (statement-claims t) (statement-at t) statement′.Post
@@ -158,8 +157,8 @@ statement-returns-4 t c =
     let h = s .pre .1 in
     let f = parts .parts-of .ensures in
     let e = straight h (f .at .kind) (no-clauses (settling .before)) in
-    let x = settling-here h (f .at .kind) (no-clauses (settling .before)) (no-binder settling) in
-    let l = leaves-stay (s .args .context) (h .count) (x .none) (settled .settle .ensures) in
+    let x = settling-here h (f .at .kind) (no-clauses (settling .before)) (settled-there settling) in
+    let l = leaves-stay (s .args .context) (h .count) (x .none) (x .other) (settled .settle .ensures) in
     let r = reached-straight h e (l .steps _ _ (say-clauses h) (say-next h)) in
     statement-ended h (below h f (next-straight h (f .clauses) e)) r (no-bodies (c .if4 .taken) _ _ _)
 
@@ -182,8 +181,8 @@ statement-bodies-requires t c κs =
     let h = s .pre .1 in
     let f = parts .parts-of .ensures in
     let e = straight h (f .at .kind) (no-clauses (settling .before)) in
-    let x = settling-here h (f .at .kind) (no-clauses (settling .before)) (no-binder settling) in
-    let l = leaves-stay (s .args .context) (h .count) (x .none) (settled .settle .ensures) in
+    let x = settling-here h (f .at .kind) (no-clauses (settling .before)) (settled-there settling) in
+    let l = leaves-stay (s .args .context) (h .count) (x .none) (x .other) (settled .settle .ensures) in
     let r = reached-straight h e (l .steps _ _ (say-clauses h) (say-next h)) in
     (omega (arith, deep h f, s .pre .0), bodies-ahead h (below h f (next-straight h (f .clauses) e)) r)
 
@@ -205,7 +204,7 @@ statement-returns-5 t c =
     let h = s .pre .1 in
     let f = parts .parts-of .ensures in
     let e = straight h (f .at .kind) (no-clauses (settling .before)) in
-    let x = settling-here h (f .at .kind) (no-clauses (settling .before)) (no-binder settling) in
-    let l = leaves-stay (s .args .context) (h .count) (x .none) (settled .settle .ensures) in
+    let x = settling-here h (f .at .kind) (no-clauses (settling .before)) (settled-there settling) in
+    let l = leaves-stay (s .args .context) (h .count) (x .none) (x .other) (settled .settle .ensures) in
     let r = reached-straight h e (l .steps _ _ (say-clauses h) (say-next h)) in
     statement-done h (below h f (next-straight h (f .clauses) e)) r (walked .bodies .ensures)

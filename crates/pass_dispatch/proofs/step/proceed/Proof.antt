@@ -1,31 +1,37 @@
 use mathlib.Core.Path.{_≡_}
 use borrow.Author.Needs.{needs}
 use Rattle.pass_step.proofs.StepLaws.{source-as}
-use Rattle.pass_dispatch.proofs.DispatchLaws.{last-of, steps-as}
-use Rattle.pass_dispatch.proofs.step.bind.Statement.{statement}
-use Rattle.pass_dispatch.proofs.step.bind.Tie as tie
+use Rattle.pass_dispatch.proofs.DispatchLaws.{last-of, workable-as, steps-as}
+use Rattle.pass_dispatch.proofs.step.proceed.Statement.{statement}
+use Rattle.pass_dispatch.proofs.step.proceed.Tie as tie
 
 -- the last kind
-last : (c : tie.At-match-rest) → c .before .before .before .before .args .kind ≡ 9
-last c = let n = c .match .rest in last-of 4 8 9 (c .before .before .before .before .pre .1 .0) (n .0 .1) (n .1)
+last : (c : tie.At-match-rest) → c .before .before .before .before .args .kind ≡ 12
+last c = let n = c .match .rest in last-of 4 8 9 12 (c .before .before .before .before .pre .1 .0) (n .0 .0 .1) (n .0 .1) (n .1)
 
 linearize-requires : tie.Need-linearize-requires
 linearize-requires c κs =
     let arm = c .before .before in
     let h = arm .before .before .before .before .pre in
-    (source-as 4 (arm .match .keys1) (h .0), h .1 .1 .1)
+    (source-as 4 (arm .match .keys1) (h .0), (workable-as 4 (arm .match .keys1) (h .0) (h .1 .1 .1 .0), h .1 .1 .1 .1))
 
 linearize-requires-2 : tie.Need-linearize-requires-2
 linearize-requires-2 c κs =
     let arm = c .before .before in
     let h = arm .before .before .before .before .pre in
-    (source-as 8 (arm .match .keys2) (h .0), h .1 .1 .1)
+    (source-as 8 (arm .match .keys2) (h .0), (workable-as 8 (arm .match .keys2) (h .0) (h .1 .1 .1 .0), h .1 .1 .1 .1))
 
 linearize-requires-3 : tie.Need-linearize-requires-3
 linearize-requires-3 c κs =
     let arm = c .before .before in
     let h = arm .before .before .before .before .pre in
-    (source-as 9 (last arm) (h .0), h .1 .1)
+    (source-as 9 (arm .match .keys3) (h .0), (h .1 .1 .0, (workable-as 9 (arm .match .keys3) (h .0) (h .1 .1 .1 .0), h .1 .1 .1 .1)))
+
+linearize-requires-4 : tie.Need-linearize-requires-4
+linearize-requires-4 c κs =
+    let arm = c .before .before in
+    let h = arm .before .before .before .before .pre in
+    (source-as 12 (last arm) (h .0), (h .1 .1 .0, (workable-as 12 (last arm) (h .0) (h .1 .1 .1 .0), h .1 .1 .1 .1)))
 
 same-length : tie.Need-same-length
 same-length c = search needs
@@ -61,15 +67,28 @@ returns-3 : tie.Need-returns-3
 returns-3 c =
     let done = c .before .before .before .before in
     let arm = done .before .before .before in
-    steps-as 9 (last arm) (arm .before .before .before .before .pre .0) (done .linearize3 .ensures)
+    steps-as 9 (arm .match .keys3) (arm .before .before .before .before .pre .0) (done .linearize3 .ensures)
 
-pub bind-spec : {M : Type 1} → statement M
-bind-spec =
+same-length-7 : tie.Need-same-length-7
+same-length-7 c = search needs
+
+same-length-8 : tie.Need-same-length-8
+same-length-8 c = search needs
+
+returns-4 : tie.Need-returns-4
+returns-4 c =
+    let done = c .before .before .before .before in
+    let arm = done .before .before .before in
+    steps-as 12 (last arm) (arm .before .before .before .before .pre .0) (done .linearize4 .ensures)
+
+pub proceed-spec : {M : Type 1} → statement M
+proceed-spec =
     tie.close
     (tie.spec
     linearize-requires
     linearize-requires-2
     linearize-requires-3
+    linearize-requires-4
     same-length
     same-length-2
     returns
@@ -78,4 +97,7 @@ bind-spec =
     returns-2
     same-length-5
     same-length-6
-    returns-3)
+    returns-3
+    same-length-7
+    same-length-8
+    returns-4)

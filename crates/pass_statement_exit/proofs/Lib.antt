@@ -1,0 +1,2 @@
+-- Laws of the step of an Exit.
+pub mod ExitLaws

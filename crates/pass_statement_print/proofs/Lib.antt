@@ -1,0 +1,2 @@
+-- Laws of the step of a PrintI64.
+pub mod PrintLaws

@@ -1,0 +1,2 @@
+// The statement PrintI64, in its file of the Rust's name.
+pub mod print;
