@@ -14,6 +14,14 @@ pub struct Due {
     pub id: usize,
 }
 
+// Is it the kind of a statement, and not of a definition or a clause?
+fn is_statement(kind: u8) -> bool {
+    match kind {
+        2..=10 | 12 | 13 => true,
+        _ => false,
+    }
+}
+
 impl Due {
     pub const DEFINITION: u8 = 0;
 
@@ -68,7 +76,7 @@ impl Due {
         match what {
             Due::DEFINITION => kind == 1,
             Due::CLAUSE => kind == 11,
-            _ => 1 < kind && kind < 11,
+            _ => is_statement(kind),
         }
     }
 }

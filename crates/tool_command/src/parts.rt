@@ -48,8 +48,8 @@ impl Record {
     pub fn first_use(self) -> usize {
         let kind = self.kind;
         match kind {
-            5 | 7 | 9 => plus(self.at, 1),
-            10 => plus(self.at, 2),
+            5 | 7 | 9 | 13 => plus(self.at, 1),
+            10 | 12 => plus(self.at, 2),
             _ => 0,
         }
     }
@@ -87,7 +87,7 @@ impl Record {
     pub fn bodies(self) -> u8 {
         let kind = self.kind;
         match kind {
-            3 | 5 | 7 => 0,
+            3 | 5 | 7 | 13 => 0,
             10 => 2,
             _ => 1,
         }

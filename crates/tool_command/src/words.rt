@@ -76,7 +76,7 @@ fn say_reason(number: usize) {
 it has not 8 to 65,535 bytes
 the layout number is not 1
 it has more than 4,000 records, or the pairs do not tile the bytes from 8 + 4 * N to the end
-a record is not of kind 1 to 11 or not of exactly its length, a count is above 128, a code or a mark is out of range, or I64's four bytes are not zero
+a record is not of kind 1 to 13 or not of exactly its length, a count is above 128, a code, a mark or a newline byte is out of range, or I64's four bytes are not zero
 the records are not D definitions in pre-order, at most 128 statements deep
 it has a Substitute or an environment
 it has more than 2,000 records, a depth above 64, a count above 32, or more than 64 bindings in scope, repeats counted
@@ -85,7 +85,7 @@ a variable is used that is not in scope
 a binder's ID is above max_id
 max_id plus the fresh IDs that the rules draw is above 65,535
 the answer does not fit the buffer, or is an image of more than 65,535 bytes
-there is no such record, or it has no annotation: Let, Switch, Create, Literal and Op have one
+there is no such record, or it has no annotation: Let, Switch, Create, Literal, Op and PrintI64 have one
 ",
         number,
     );

@@ -1,4 +1,4 @@
-// Annotations as text. Let, Literal and Op have the free variables of their next, Switch those of its clauses, Create both.
+// Annotations as text. Let, Literal, Op and PrintI64 have the free variables of their next, Switch those of its clauses, Create both.
 use crate::lists::ID;
 use crate::lists::items;
 use crate::page::Page;
@@ -11,7 +11,7 @@ use try_building::text::wide;
 
 // Has a record of this kind an annotation?
 pub fn is_annotated(kind: u8) -> bool {
-    byte(b"....aaa.aa..", wide(kind)) == b'a'
+    byte(b"....aaa.aa..a.", wide(kind)) == b'a'
 }
 
 // The words before a set.

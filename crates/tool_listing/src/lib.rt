@@ -8,8 +8,8 @@
 //   }                                 create n3_9: n5 = (n2_1) {       }
 //                                       ..                             if n2_1 < n3_5 {
 //   n1(n2_1)                          };                                 ..
-//   invoke n3_9: n5 n6(n2_1)                                           } else {
-//                                                                        ..
+//   invoke n3_9: n5 n6(n2_1)          print_i64(n2_1);                 } else {
+//   exit n2_1                         println_i64(n2_1);                 ..
 //                                                                      }
 //
 // n3_5 is the variable with name number 3 and ID 5; a label, a tag or a type is its name alone, with the ID behind it where that is not 0.

@@ -11,6 +11,7 @@ use crate::page::choose;
 use crate::page::decimal;
 use crate::page::line_place;
 use crate::page::put;
+use crate::page::say;
 use try_building::build::plus;
 use try_building::text::byte;
 use try_building::text::double;
@@ -53,6 +54,14 @@ fn second(page: Page, room: &mut [u8], book: &[u8], image: &[u8], at: usize) -> 
     variable(page, room, book, image, plus(at, 1))
 }
 
+// What stands in the word of a PrintI64 that ends its line.
+fn newline(page: Page, room: &mut [u8], mark: u8) -> Page {
+    if mark == 0 {
+        return page;
+    }
+    say(page, room, b"ln")
+}
+
 fn field(
     page: Page,
     room: &mut [u8],
@@ -73,6 +82,7 @@ fn field(
         b'i' => integer(page, room, image, at),
         b'o' => sign(page, room, wide(byte(image, at))),
         b'c' => sign(page, room, plus(5, wide(byte(image, at)))),
+        b'n' => newline(page, room, byte(image, at)),
         _ => second(page, room, book, image, at),
     }
 }
@@ -140,7 +150,7 @@ pub fn line(
     kind: u8,
 ) -> Page {
     let layouts =
-        b"\ndef $l1$p5 {\nsubstitute$s1;\n$l1$a5\nlet $v1: $t5 = $la$ae;\nswitch $v1: $t5 {\ncreate $v1: $t5 = $ea{\ninvoke $v1: $t9 $l5$ae\nlit $v9 <- $i1;\n$va <- $v1 $o5 $v6;\nif $v2 $c1 $z6 {\n$l1$p5 => {";
+        b"\ndef $l1$p5 {\nsubstitute$s1;\n$l1$a5\nlet $v1: $t5 = $la$ae;\nswitch $v1: $t5 {\ncreate $v1: $t5 = $ea{\ninvoke $v1: $t9 $l5$ae\nlit $v9 <- $i1;\n$va <- $v1 $o5 $v6;\nif $v2 $c1 $z6 {\n$l1$p5 => {\nprint$n1_i64($v2);\nexit $v1";
     let from = line_place(layouts, wide(kind));
     pieces(page, room, book, image, whole, at, layouts, from)
 }

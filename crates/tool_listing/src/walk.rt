@@ -84,7 +84,7 @@ fn settle(w: Walk, room: &mut [u8]) -> Walk {
 
 // What a record does: o opens a block, c opens one of clauses, e ends the statement.
 fn role(kind: u8) -> u8 {
-    byte(b".o.e.cce..oo", wide(kind))
+    byte(b".o.e.cce..oo.e", wide(kind))
 }
 
 // With the block that a record opens.

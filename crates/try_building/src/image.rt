@@ -59,7 +59,7 @@ fn cut(w: Progress, text: &[u8]) -> Progress {
 fn step(w: Progress, text: &[u8], out: &mut [u8]) -> Progress {
     let b = byte(text, w.from);
     match b {
-        b'a'..=b'x' => record(w, text, out, b),
+        b'a'..=b'x' | b'z' => record(w, text, out, b),
         b'y' => raw(w.past(1), text, out),
         b'[' => opened(w),
         b']' => closed(w, text),

@@ -12,7 +12,7 @@ pub const CODES: usize = 12;
 // number and is no byte.
 pub fn code(letter: u8, i: usize) -> u8 {
     let layouts =
-        b"d1B(\nu2<\nc3B(\nt4V1FG(\ns5V1F N\nn6V1F0 N\ne6V1F1(N\nv7VG1F(\nl870000000V\no9V3 V V\nia0V0\nja0V1 V\nkbG(\n";
+        b"d1B(\nu2<\nc3B(\nt4V1FG(\ns5V1F N\nn6V1F0 N\ne6V1F1(N\nv7VG1F(\nl870000000V\no9V3 V V\nia0V0\nja0V1 V\nkbG(\npc0V\nqc1V\nzdV\n";
     byte(layouts, plus(find(layouts, 0, letter), i))
 }
 

@@ -8,6 +8,8 @@
 //   o1 2 3    an Op of 1 and 2 to 3                 v1(2)     an Invoke of 1 with these args
 //   i1        an IfC of 1                           u(1<2)    a Substitute with these pairs, 1 from 2
 //   j1 2      an IfC of 1 and 2                     x0b00     a record of these bytes
+//   p1        a PrintI64 of 1                       q1        the same with a newline
+//   z1        an Exit of 1
 //
 // A variable has name 2, or name 3 as 1'3. A binding of a list is of I64 and external, or of a declared type: 1p is a producer and 1c a
 // consumer of type 5, and 1p6 one of type 6.

@@ -23,12 +23,15 @@ fn letter(image: &[u8], at: usize, kind: u8) -> u8 {
     if kind == 10 && byte(image, plus(at, 6)) == 1 {
         return b'j';
     }
-    byte(b"?ductsnvloik", wide(kind))
+    if kind == 12 && byte(image, plus(at, 1)) == 1 {
+        return b'q';
+    }
+    byte(b"?ductsnvloikpz", wide(kind))
 }
 
 // The ID of the first label, tag or type of a record, or the one before where it has none.
 fn own(image: &[u8], at: usize, kind: u8, before: usize) -> usize {
-    let place = hex(byte(b"030388870003", wide(kind)));
+    let place = hex(byte(b"03038887000300", wide(kind)));
     if place == 0 {
         return before;
     }
