@@ -33,8 +33,8 @@ enum axcut_question {
     AXCUT_SIZE = 1,          /* Has it 8 to 65,535 bytes? */
     AXCUT_LAYOUT_NUMBER = 2, /* Is the layout number 1? */
     AXCUT_DIRECTORY = 3,     /* Is N at most 4,000, and do the pairs tile the bytes from 8 + 4 * N to the end? */
-    AXCUT_RECORD_FORM = 4,   /* Is each record of kind 1 to 11, of exactly its length, every count at most 128, every code and mark in
-                                range, I64's four bytes zero? */
+    AXCUT_RECORD_FORM = 4,   /* Is each record of kind 1 to 13, of exactly its length, every count at most 128, every code, mark
+                                and newline byte in range, I64's four bytes zero? */
     AXCUT_SHAPE = 5,         /* Are the records D definitions in pre-order, at most 128 statements deep? */
     AXCUT_LINEARIZED = 6,    /* Is it free of Substitute and of environments? */
     AXCUT_LIMITS = 7,        /* Are there at most 2,000 records, depth 64, counts 32, and 64 bindings in scope, repeats counted? */
@@ -43,7 +43,7 @@ enum axcut_question {
     AXCUT_MAX_ID = 10,       /* Is max_id at least every binder's ID? */
     AXCUT_DRAWS = 11,        /* Is max_id plus the fresh IDs that the rules draw at most 65,535? */
     AXCUT_ROOM = 12,         /* Does the answer fit the lent buffer, an image also 65,535 bytes? */
-    AXCUT_PLACE = 13         /* Is the record below N and one with an annotation (Let, Switch, Create, Literal, Op)? */
+    AXCUT_PLACE = 13         /* Is the record below N and one with an annotation (Let, Switch, Create, Literal, Op, PrintI64)? */
 };
 
 /* The bytes of the largest image: a buffer of this size has room for every output of axcut_linearize, and for every annotation. */
@@ -59,9 +59,9 @@ uint32_t axcut_check(const uint8_t *image, size_t image_len, size_t *length, uin
 uint32_t axcut_linearize(const uint8_t *image, size_t image_len, uint8_t *out, size_t out_len, size_t *length, uint32_t *max_id);
 
 /*
- * Writes the annotation of the record with this index, counted from 0: the free variables of its next (Let, Literal, Op), of its clauses
- * (Switch), or of its clauses and then of its next (Create). Each is a count and so many IDs in ascending order, two bytes each, the lower
- * first. Questions 1 to 7, 13, 12, in this order.
+ * Writes the annotation of the record with this index, counted from 0: the free variables of its next (Let, Literal, Op, PrintI64), of its
+ * clauses (Switch), or of its clauses and then of its next (Create). Each is a count and so many IDs in ascending order, two bytes each, the
+ * lower first. Questions 1 to 7, 13, 12, in this order.
  */
 uint32_t axcut_annotate(const uint8_t *image, size_t image_len, size_t record, uint8_t *out, size_t out_len, size_t *length, uint32_t *max_id);
 

@@ -73,8 +73,8 @@ pub fn annotate_into(image: &[u8], record: usize, out: &mut [u8]) -> Result<Writ
     library::annotate(image, record, out)
 }
 
-/// The sets of free variables of a record, each ascending: those of its next (Let, Literal, Op), of its
-/// clauses (Switch), or of its clauses and then of its next (Create). Questions 1 to 7, 13, 12.
+/// The sets of free variables of a record, each ascending: those of its next (Let, Literal, Op, PrintI64),
+/// of its clauses (Switch), or of its clauses and then of its next (Create). Questions 1 to 7, 13, 12.
 pub fn free_variables(image: &[u8], record: usize) -> Result<Vec<Vec<u16>>, Refusal> {
     annotate(image, record).map(|output| sets(&output.bytes))
 }

@@ -13,8 +13,8 @@ pub enum Refusal {
     LayoutNumber = 2,
     /// Is N at most 4,000, and do the pairs tile the bytes from 8 + 4 × N to the end?
     Directory = 3,
-    /// Is each record of kind 1 to 11, of exactly its length, every count at most 128, every code and
-    /// mark in range, I64's four bytes zero?
+    /// Is each record of kind 1 to 13, of exactly its length, every count at most 128, every code,
+    /// mark and newline byte in range, I64's four bytes zero?
     RecordForm = 4,
     /// Are the records D definitions in pre-order, at most 128 statements deep?
     Shape = 5,
@@ -32,7 +32,7 @@ pub enum Refusal {
     Draws = 11,
     /// Does the answer fit the lent buffer, an image also 65,535 bytes?
     Room = 12,
-    /// Is the record below N and one with an annotation (Let, Switch, Create, Literal, Op)?
+    /// Is the record below N and one with an annotation (Let, Switch, Create, Literal, Op, PrintI64)?
     Place = 13,
 }
 
@@ -46,7 +46,7 @@ const QUESTIONS: [(Refusal, &str); 13] = [
     ),
     (
         Refusal::RecordForm,
-        "Is each record of kind 1 to 11, of exactly its length, every count at most 128, every code and mark in range, I64's four bytes zero?",
+        "Is each record of kind 1 to 13, of exactly its length, every count at most 128, every code, mark and newline byte in range, I64's four bytes zero?",
     ),
     (
         Refusal::Shape,
@@ -76,7 +76,7 @@ const QUESTIONS: [(Refusal, &str); 13] = [
     ),
     (
         Refusal::Place,
-        "Is the record below N and one with an annotation (Let, Switch, Create, Literal, Op)?",
+        "Is the record below N and one with an annotation (Let, Switch, Create, Literal, Op, PrintI64)?",
     ),
 ];
 

@@ -4,7 +4,14 @@ use axcut::{Refusal, Written, LARGEST_IMAGE};
 use std::fs;
 use std::path::Path;
 
-const EXAMPLES: [&str; 5] = ["axle", "hysteresis", "rules", "timeout", "worked"];
+const EXAMPLES: [&str; 6] = [
+    "axle",
+    "handset",
+    "hysteresis",
+    "rules",
+    "timeout",
+    "worked",
+];
 
 fn file(example: &str, name: &str) -> Vec<u8> {
     let folder = Path::new(env!("CARGO_MANIFEST_DIR")).join("../../examples");
@@ -84,6 +91,12 @@ fn annotations() {
     let image = file("timeout", "program.axc");
     let sets = axcut::free_variables(&image, 1).unwrap();
     assert_eq!(sets, [vec![1, 2, 5], vec![1, 2, 3, 4, 6]]);
+
+    // examples/handset: what follows a PrintI64, without its own variable there or with it; an Exit has none
+    let image = file("handset", "program.axc");
+    assert_eq!(axcut::free_variables(&image, 4), Ok(vec![vec![1, 2, 3]]));
+    assert_eq!(axcut::free_variables(&image, 13), Ok(vec![vec![10, 11]]));
+    assert_eq!(axcut::annotate(&image, 15), Err(Refusal::Place));
 }
 
 #[test]

@@ -9,6 +9,10 @@
 //!   `invoke`: they are those of its binder.
 //! - `max_id` may be left out: it is the largest ID of a binder.
 //! - `//` begins a remark.
+//!
+//! A statement that begins with `substitute`, `let`, `switch`, `create`, `invoke`, `lit`, `if`,
+//! `print_i64`, `println_i64` or `exit` is that one. A label with such a name is called with its ID:
+//! `exit_0(x_1)` calls `exit`, `exit x_1` exits.
 
 mod names;
 mod parser;

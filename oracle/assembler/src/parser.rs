@@ -94,6 +94,9 @@ impl Parser {
                 Some("invoke") => self.invoke()?,
                 Some("lit") => self.literal()?,
                 Some("if") => self.ifc()?,
+                Some("print_i64") => self.print_i64(0)?,
+                Some("println_i64") => self.print_i64(1)?,
+                Some("exit") => self.exit()?,
                 Some(_) if self.peek_after() == &Token::Sign("<-") => self.op()?,
                 Some(_) => self.call()?,
                 None => return self.fault("a statement is missing".into()),
@@ -263,6 +266,24 @@ impl Parser {
         self.block()?;
         self.word("else")?;
         self.block()?;
+        Ok(true)
+    }
+
+    /// The word is told by the newline byte.
+    fn print_i64(&mut self, newline: u8) -> Parsed<bool> {
+        self.take();
+        self.sign("(")?;
+        let var = self.variable()?;
+        self.sign(")")?;
+        self.sign(";")?;
+        self.write(Record::of_kind(12).byte(newline).identifier(var));
+        Ok(false)
+    }
+
+    fn exit(&mut self) -> Parsed<bool> {
+        self.word("exit")?;
+        let var = self.variable()?;
+        self.write(Record::of_kind(13).identifier(var));
         Ok(true)
     }
 

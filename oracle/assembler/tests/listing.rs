@@ -77,7 +77,8 @@ fn sets(kind: u8, annotation: &[u8]) -> String {
     let words: &[&str] = match kind {
         5 => &["clauses"],
         6 => &["clauses", "next"],
-        _ => &["next"],
+        4 | 8 | 9 | 12 => &["next"],
+        _ => panic!("kind {kind} has no annotation"),
     };
     let mut halves = annotation
         .chunks_exact(2)

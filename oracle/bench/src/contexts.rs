@@ -70,7 +70,7 @@ fn entered(linear: &Statement, place: Place, seen: &mut Seen) {
 fn below(linear: &Statement, place: Place, seen: &mut Seen) {
     let context = place.context;
     match linear {
-        Statement::Call { .. } | Statement::Invoke { .. } => {}
+        Statement::Call { .. } | Statement::Invoke { .. } | Statement::Exit { .. } => {}
         Statement::Substitute { .. } => unreachable!("the pass makes no two in a row"),
         Statement::Let { args, next, .. } => {
             entered(next, place.next(context - args.len() + 1), seen);
@@ -91,6 +91,7 @@ fn below(linear: &Statement, place: Place, seen: &mut Seen) {
         Statement::Literal { next, .. } | Statement::Op { next, .. } => {
             entered(next, place.next(context + 1), seen);
         }
+        Statement::PrintI64 { next, .. } => entered(next, place.next(context), seen),
         Statement::IfC { thenc, elsec, .. } => {
             entered(thenc, place.next(context), seen);
             entered(elsec, place.next(context), seen);
@@ -153,6 +154,6 @@ mod tests {
     #[test]
     fn every_statement_is_met() {
         let seen = seen(&every_kind());
-        assert_eq!(seen.statements, 9);
+        assert_eq!(seen.statements, 10);
     }
 }

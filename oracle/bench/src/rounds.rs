@@ -116,7 +116,7 @@ mod tests {
             images: vec![image(), image()],
         };
         let timed = run(&mut Runner::new(LINKED), &set, 3);
-        assert_eq!(timed.records, 24);
+        assert_eq!(timed.records, 26);
         for path in Path::ALL {
             let times = timed.of(path);
             assert!(times.0.iter().all(|of_image| of_image.len() == 3));

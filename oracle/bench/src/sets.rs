@@ -9,7 +9,7 @@ use reference::image::{Record, order};
 use reference::oracle::Oracle;
 use reference::syntax::Prog;
 
-/// The statements whose share is told, by kind byte, and their names.
+/// The statements whose share is told, by kind byte, and their names: all that the sets hold.
 pub const KINDS: [(u8, &str); 8] = [
     (3, "Call"),
     (4, "Let"),

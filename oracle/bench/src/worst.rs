@@ -4,7 +4,7 @@
 use crate::sets::Image;
 use generators::boundaries::sizes;
 use generators::build::{
-    call, clause, create, ext, exts, ifc, invoke, let_, literal, one, op, switch,
+    call, clause, create, exit, ext, exts, ifc, invoke, let_, literal, one, op, print_i64, switch,
 };
 use reference::questions::Limits;
 use reference::syntax::{BinOp, Binding, Prog, Statement};
@@ -16,7 +16,7 @@ type Level = fn(u32, Statement) -> Statement;
 type Leaf = fn() -> Statement;
 
 /// A level that binds its own ID, or none.
-const LEVELS: [(&str, bool, Level); 8] = [
+const LEVELS: [(&str, bool, Level); 9] = [
     ("Switch, by its clause", false, |_, below| {
         switch(1, vec![clause(1, Vec::new(), below)])
     }),
@@ -35,13 +35,15 @@ const LEVELS: [(&str, bool, Level); 8] = [
     ("IfC, by else", false, |_, below| {
         ifc(1, None, call(Vec::new()), below)
     }),
+    ("PrintI64", false, |_, below| print_i64(true, 1, below)),
 ];
 
-/// The last statement, where a Substitute is needed.
-const LEAVES: [Leaf; 3] = [
+/// The last statement: where a Substitute is needed, and Exit.
+const LEAVES: [Leaf; 4] = [
     || call(doubled()),
     || invoke(1, doubled()),
     || switch(1, Vec::new()),
+    || exit(1),
 ];
 
 fn doubled() -> Vec<Binding> {

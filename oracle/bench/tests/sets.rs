@@ -1,7 +1,7 @@
 //! The sets are what they are said to be.
 
 use bench::paths::Runner;
-use bench::sets::{Set, set};
+use bench::sets::{NAMES, Set, set};
 use differential::subject::LINKED;
 
 const SEED: u64 = 1;
@@ -58,6 +58,28 @@ fn deep() {
     let figures = deep.figures();
     assert_eq!(figures.depth, 64);
     assert!(figures.clauses > 20, "{}", figures.clauses);
+}
+
+/// All images and outputs of a set in one number (FNV-1a).
+fn hash(set: &Set) -> u64 {
+    let images = set.images.iter();
+    let bytes = images.flat_map(|image| image.bytes.iter().chain(&image.expected));
+    bytes.fold(0xcbf2_9ce4_8422_2325, |hash, &byte| {
+        (hash ^ u64::from(byte)).wrapping_mul(0x100_0000_01b3)
+    })
+}
+
+/// Times are compared with earlier ones: the sets are those of before PrintI64 and Exit, byte for byte.
+#[test]
+fn the_sets_are_as_ever() {
+    let hashes = NAMES.map(|name| hash(&set(name, SEED)));
+    let expected = [
+        0x76df_d229_af09_786b,
+        0xb1b6_265d_4b50_c80f,
+        0xdaa8_64e9_0ab3_47e3,
+        0xac82_4865_3e3e_229a,
+    ];
+    assert_eq!(hashes, expected);
 }
 
 #[test]

@@ -1,6 +1,7 @@
 //! The library against the oracle: number, length, max_id and every byte of every buffer, on the same
 //! cases.
 
+mod accepted;
 mod compare;
 mod fault;
 mod guarded;
@@ -9,6 +10,7 @@ mod run;
 mod stack;
 pub mod subject;
 
+pub use accepted::Accepted;
 pub use compare::Mismatch;
 pub use fault::watch_for_faults;
 pub use run::{Report, run};

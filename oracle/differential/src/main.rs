@@ -136,6 +136,11 @@ fn print(report: &Report, time: Duration) {
         answers.iter().for_each(|count| print!("{count:>9}"));
         println!();
     }
+    let [with_print, with_exit] = report.accepted.shares();
+    println!(
+        "accepted programs: {}, of a hundred {with_print:.1} hold a PrintI64 and {with_exit:.1} an Exit",
+        report.accepted.programs
+    );
     println!(
         "demand 3: {} runs, {} events, {} substitutes, {} ended",
         report.runs, report.events, report.substitutes, report.ended

@@ -1,5 +1,6 @@
 //! All cases, on some threads.
 
+use crate::accepted::Accepted;
 use crate::compare::{Bench, Mismatch};
 use crate::fault;
 use crate::subject::Subject;
@@ -30,6 +31,7 @@ pub struct Report {
     pub events: u64,
     pub substitutes: u64,
     pub ended: u64,
+    pub accepted: Accepted,
     pub mismatches: u64,
     pub first: Vec<String>,
     /// The smallest image with a mismatch, and its case.
@@ -89,6 +91,7 @@ impl Report {
         self.events += other.events;
         self.substitutes += other.substitutes;
         self.ended += other.ended;
+        self.accepted.add(other.accepted);
         self.mismatches += other.mismatches;
         self.first.extend(other.first);
         self.first.truncate(REPORTED);
@@ -152,6 +155,7 @@ impl Worker<'_> {
         self.report.cases += 1;
         let image = self.cases.image(index);
         let oracle = Oracle::new(&image);
+        self.report.accepted.count(&oracle);
         let mut rng = self.cases.rng(index);
         let mut watched = false;
         for call in self.cases.calls(index, &oracle) {

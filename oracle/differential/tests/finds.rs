@@ -3,8 +3,9 @@
 
 use differential::subject::oracle::ITSELF;
 use differential::subject::{Annotate, Linearize, Read, Subject};
-use differential::{Report, run};
+use differential::{Accepted, Report, run};
 use generators::cases::Cases;
+use reference::oracle::Oracle;
 
 use std::slice;
 
@@ -28,6 +29,25 @@ fn nothing_in_the_oracle_itself() {
     let report = compared(ITSELF);
     assert_eq!(report.mismatches, 0, "{:?}", report.first);
     assert!(report.events > 1_000);
+}
+
+/// "At least a fifth of the accepted programs hold a PrintI64 and a fifth an Exit": of the generated
+/// ones, which are most of a run, and of the others.
+#[test]
+fn accepted_programs_print_and_exit() {
+    let cases = Cases::new(1);
+    let fixed = cases.fixed() as u64;
+    let shares = |indices: &mut dyn Iterator<Item = u64>| -> [f64; 2] {
+        let mut accepted = Accepted::default();
+        indices.for_each(|index| accepted.count(&Oracle::new(&cases.image(index))));
+        assert!(accepted.programs > 1_000);
+        accepted.shares()
+    };
+    let generated = shares(&mut (fixed..fixed + 4_000));
+    let others = shares(&mut (0..fixed).step_by(23));
+    println!("of a hundred: generated {generated:?}, others {others:?}");
+    assert!(generated.iter().all(|&share| share >= 40.0));
+    assert!(others.iter().all(|&share| share >= 40.0));
 }
 
 /// The arguments of a call to linearization, and the oracle's answer to it.
@@ -161,6 +181,43 @@ fn an_image_that_is_changed() {
     }
     finds(Subject {
         check: wrong as Read,
+        ..ITSELF
+    });
+}
+
+/// The image with each newline byte above 1 made 1, where the directory tiles.
+fn lenient(image: &[u8]) -> Vec<u8> {
+    let mut image = image.to_vec();
+    let field =
+        |image: &[u8], at: usize| usize::from(u16::from_le_bytes([image[at], image[at + 1]]));
+    for record in 0..field(&image, 6) {
+        let offset = field(&image, 8 + 4 * record);
+        if let Some([12, newline]) = image.get_mut(offset..offset + 2) {
+            *newline = 1.min(*newline);
+        }
+    }
+    image
+}
+
+#[test]
+fn a_newline_byte_that_passes() {
+    unsafe extern "C" fn wrong(
+        i: *const u8,
+        n: usize,
+        length: *mut usize,
+        max_id: *mut u32,
+    ) -> u32 {
+        unsafe {
+            let number = (ITSELF.read)(i, n, length, max_id);
+            if number != 4 {
+                return number;
+            }
+            let image = lenient(slice::from_raw_parts(i, n));
+            (ITSELF.read)(image.as_ptr(), image.len(), length, max_id)
+        }
+    }
+    finds(Subject {
+        read: wrong as Read,
         ..ITSELF
     });
 }

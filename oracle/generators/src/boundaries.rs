@@ -3,6 +3,7 @@
 mod annotation;
 mod answer;
 mod form;
+mod output;
 mod reading;
 mod scope;
 pub mod sizes;
@@ -56,6 +57,7 @@ pub fn all() -> Vec<Boundary> {
     answer::rows(&mut table);
     annotation::rows(&mut table);
     sizes::rows(&mut table);
+    output::rows(&mut table);
     table.0
 }
 

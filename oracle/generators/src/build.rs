@@ -156,6 +156,18 @@ pub fn ifc(fst: u32, snd: Option<u32>, thenc: Statement, elsec: Statement) -> St
     }
 }
 
+pub fn print_i64(newline: bool, id: u32, next: Statement) -> Statement {
+    Statement::PrintI64 {
+        newline,
+        var: var(id),
+        next: Box::new(next),
+    }
+}
+
+pub fn exit(id: u32) -> Statement {
+    Statement::Exit { var: var(id) }
+}
+
 pub fn def(name: u16, params: Vec<Binding>, body: Statement) -> Def {
     Def {
         name: label(name),

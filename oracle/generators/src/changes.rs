@@ -1,17 +1,20 @@
 //! Every change of one byte in two images that hold every kind of record.
 
-use crate::build::{call, clause, create, ext, ifc, image, invoke, let_, literal, one, op, switch};
+use crate::build::{
+    call, clause, create, exit, ext, ifc, image, invoke, let_, literal, one, op, print_i64, switch,
+};
 use reference::oracle::Oracle;
 use reference::syntax::{BinOp, Prog};
 
-/// Every kind of record: definition 0, Literal 1, Op 2, Let 3, Create 4, clause 5, Call 6, IfC 7,
-/// Switch 8, clause 9, Call 10, Invoke 11.
+/// Every kind of record: definition 0, Literal 1, Op 2, PrintI64 3, Let 4, Create 5, clause 6, Call
+/// 7, IfC 8, Switch 9, clause 10, Exit 11, Invoke 12.
 pub fn every_kind() -> Prog {
-    let uses = || vec![clause(1, vec![ext(6)], call(vec![ext(1)]))];
-    let branches = ifc(1, Some(2), switch(4, uses()), invoke(5, vec![ext(3)]));
-    let closure = create(5, uses(), branches);
-    let cells = let_(4, vec![ext(1)], closure);
-    let body = literal(1, 2, op(1, BinOp::Sum, 2, 3, cells));
+    let clauses = |body| vec![clause(1, vec![ext(6)], body)];
+    let switched = switch(4, clauses(exit(1)));
+    let branches = ifc(1, Some(2), switched, invoke(5, vec![ext(3)]));
+    let closure = create(5, clauses(call(vec![ext(1)])), branches);
+    let shown = print_i64(true, 3, let_(4, vec![ext(1)], closure));
+    let body = literal(1, 2, op(1, BinOp::Sum, 2, 3, shown));
     one(9, vec![ext(1)], body)
 }
 

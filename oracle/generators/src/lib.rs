@@ -11,7 +11,9 @@ pub mod large;
 pub mod rng;
 pub mod small;
 pub mod starts;
+mod statements;
 pub mod typed;
 pub mod wild;
 
 pub use rng::Rng;
+pub use statements::Statements;

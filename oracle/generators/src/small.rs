@@ -1,6 +1,8 @@
 //! All small images and all small programs.
 
-use crate::build::{self, call, clause, create, ext, ifc, invoke, let_, literal, one, op, switch};
+use crate::build::{
+    self, call, clause, create, exit, ext, ifc, invoke, let_, literal, one, op, print_i64, switch,
+};
 use reference::syntax::{BinOp, Binding, Prog, Statement};
 
 /// Every image of at most 8 bytes, each 0, 1 or 2.
@@ -73,6 +75,7 @@ fn leaves() -> Vec<Statement> {
     let mut all: Vec<Statement> = lists().into_iter().map(call).collect();
     for id in 0..IDS {
         all.push(switch(id, Vec::new()));
+        all.push(exit(id));
         all.extend(lists().into_iter().map(|args| invoke(id, args)));
     }
     all
@@ -84,6 +87,9 @@ fn before(next: &Statement) -> Vec<Statement> {
     for id in 0..IDS {
         all.push(literal(1, id, next.clone()));
         all.push(create(id, Vec::new(), next.clone()));
+        for newline in [false, true] {
+            all.push(print_i64(newline, id, next.clone()));
+        }
         for args in lists() {
             all.push(let_(id, args, next.clone()));
         }

@@ -2,10 +2,12 @@
 //! an Invoke the methods of its closure, and a Call has what its definition takes. Now and then a
 //! statement takes a variable of another sort, or leaves a clause out, so that runs also get stuck.
 
+mod output;
 mod signature;
 
 use crate::build;
 use crate::rng::Rng;
+use crate::statements::Statements;
 use reference::syntax::{
     BinOp, Binding, Clause, Def, Id, Identifier, IfSort, Name, Prog, Statement,
 };
@@ -13,10 +15,17 @@ use signature::{Signature, Sort, TYPES, type_of, xtor_name};
 
 /// A program with a yes to questions 1 to 10.
 pub fn program(rng: &mut Rng) -> Prog {
+    program_of(rng, Statements::All)
+}
+
+/// Such a program with these statements.
+pub fn program_of(rng: &mut Rng, statements: Statements) -> Prog {
     let signature = Signature::any(rng);
     let mut typed = Typed {
         slips: *rng.pick(&[0, 0, 0, 1]),
         reuses: rng.chance(8),
+        prints: statements.output(|| *rng.pick(&[0, 1, 2, 4])),
+        exits: statements.output(|| *rng.pick(&[0, 1, 3, 6])),
         budget: 0,
         last_id: 0,
         scope: Vec::new(),
@@ -43,6 +52,9 @@ struct Typed<'a> {
     slips: usize,
     /// Whether binders take the least ID that is not in scope, instead of a new one.
     reuses: bool,
+    /// How often of 16 a PrintI64 comes before another statement, and an Exit ends a branch.
+    prints: usize,
+    exits: usize,
 }
 
 const DEEPEST: usize = 20;
@@ -76,6 +88,9 @@ impl Typed<'_> {
         if self.budget == 0 || depth >= DEEPEST || self.scope.len() > 40 {
             return self.leaf();
         }
+        if self.prints() {
+            return self.print_i64(depth);
+        }
         let int = self.find(Sort::Int);
         match self.rng.below(16) {
             0 | 1 => self.literal(depth),
@@ -90,6 +105,9 @@ impl Typed<'_> {
     }
 
     fn leaf(&mut self) -> Statement {
+        if self.exits() {
+            return self.exit();
+        }
         let codata = self.rng.below(TYPES);
         if self.rng.chance(7)
             && let Some(var) = self.find(Sort::Codata(codata))

@@ -5,17 +5,24 @@
 //! every statement takes what it needs from the end of it, the pass inserts no Substitute. How often
 //! a statement strays from that is one of the knobs.
 
+mod output;
 mod shape;
 mod variables;
 
 use crate::rng::Rng;
+use crate::statements::Statements;
 use reference::image::{LARGEST, LARGEST_ID, frame, order};
 use reference::syntax::{BinOp, Binding, Chirality, Clause, Def, Id, IfSort, Prog, Statement};
 use shape::Shape;
 
 /// A program of any shape that has a yes to questions 1 to 10.
 pub fn program(rng: &mut Rng) -> Prog {
-    let mut shape = Shape::any(rng);
+    program_of(rng, Statements::All)
+}
+
+/// Such a program with these statements.
+pub fn program_of(rng: &mut Rng, statements: Statements) -> Prog {
+    let mut shape = Shape::any(rng, statements);
     loop {
         let prog = of_shape(rng, &shape);
         if frame::image_length(&order::records(&prog)) <= LARGEST {
@@ -122,6 +129,9 @@ impl Wild<'_> {
 
     /// A statement of at most so many records.
     fn statement(&mut self, budget: usize, depth: usize) -> Statement {
+        if budget >= 2 && depth < self.shape.depth && self.prints() {
+            return self.print_i64(budget, depth);
+        }
         let weights = self.shape.kinds;
         let total: usize = weights.iter().sum();
         let room = budget >= 3 && depth < self.shape.depth && total > 0;
@@ -159,6 +169,9 @@ impl Wild<'_> {
     }
 
     fn leaf(&mut self) -> Statement {
+        if self.exits() {
+            return self.exit();
+        }
         let strays = self.strays();
         let uses = !self.scope.is_empty();
         let invokes = match self.live.last() {
@@ -339,11 +352,12 @@ fn size(statement: &Statement) -> usize {
     let of_clauses =
         |clauses: &[Clause]| -> usize { clauses.iter().map(|clause| 1 + size(&clause.body)).sum() };
     1 + match statement {
-        Statement::Call { .. } | Statement::Invoke { .. } => 0,
+        Statement::Call { .. } | Statement::Invoke { .. } | Statement::Exit { .. } => 0,
         Statement::Substitute { next, .. }
         | Statement::Let { next, .. }
         | Statement::Literal { next, .. }
-        | Statement::Op { next, .. } => size(next),
+        | Statement::Op { next, .. }
+        | Statement::PrintI64 { next, .. } => size(next),
         Statement::Switch { clauses, .. } => of_clauses(clauses),
         Statement::Create { clauses, next, .. } => of_clauses(clauses) + size(next),
         Statement::IfC { thenc, elsec, .. } => size(thenc) + size(elsec),

@@ -20,7 +20,7 @@ fn every_kind_is_changed() {
         numbers[usize::from(Oracle::new(&image).check().number)] += 1;
     }
     println!("{} images, {numbers:?}", changes.count());
-    assert!(kinds.into_iter().eq(1..=11));
+    assert!(kinds.into_iter().eq(1..=13));
     assert!(
         [0, 2, 3, 4, 5, 6, 8, 9, 10]
             .iter()

@@ -69,8 +69,8 @@ fn it_holds_of_programs_that_run_far() {
 
 #[test]
 fn runs_show_every_kind_of_event() {
-    let mut shown = [0; 9];
-    for (index, prog) in typed_programs(500).enumerate() {
+    let mut shown = [0; 11];
+    for (index, prog) in typed_programs(1_000).enumerate() {
         let (place, given) = starts::start(&mut Rng::of_case(6, index as u64), &prog);
         let Start::Begun(mut source) = Source::start(&prog, place, &given) else {
             continue;
@@ -97,6 +97,8 @@ fn kind(event: &Event) -> usize {
         Event::Literal(_) => 6,
         Event::Op(_) => 7,
         Event::IfC { .. } => 8,
+        Event::PrintI64 { .. } => 9,
+        Event::Exit { .. } => 10,
     }
 }
 

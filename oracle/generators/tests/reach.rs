@@ -18,9 +18,11 @@ struct Reached {
     pairs: usize,
     drawn: u32,
     /// Statements by kind with a Substitute before them and without: Call, Let, Switch, Create,
-    /// Invoke, Literal, Op.
-    substituted: [usize; 7],
-    right: [usize; 7],
+    /// Invoke, Literal, Op, PrintI64.
+    substituted: [usize; 8],
+    right: [usize; 8],
+    /// Exits, before which no Substitute comes.
+    exits: usize,
     /// Programs without any Substitute.
     linear: usize,
 }
@@ -43,7 +45,12 @@ impl Reached {
                 Record::Switch { clauses, .. } | Record::Create { clauses, .. } => {
                     self.clauses = self.clauses.max(usize::from(*clauses));
                 }
-                _ => {}
+                Record::Substitute { .. }
+                | Record::Literal { .. }
+                | Record::Op { .. }
+                | Record::IfC { .. }
+                | Record::PrintI64 { .. }
+                | Record::Exit { .. } => {}
             }
         }
         for def in &prog.defs {
@@ -74,7 +81,11 @@ impl Reached {
                 self.below(thenc, depth + 1, scope);
                 self.below(elsec, depth + 1, scope);
             }
-            Statement::Substitute { .. } | Statement::Call { .. } | Statement::Invoke { .. } => {}
+            Statement::PrintI64 { next, .. } => self.below(next, depth + 1, scope),
+            Statement::Substitute { .. }
+            | Statement::Call { .. }
+            | Statement::Invoke { .. }
+            | Statement::Exit { .. } => {}
         }
     }
 
@@ -86,6 +97,9 @@ impl Reached {
             if let Record::Substitute { rearrange } = record {
                 self.pairs = self.pairs.max(rearrange.len());
                 linear = false;
+            } else if let Record::Exit { .. } = record {
+                assert!(!matches!(before, Some(Record::Substitute { .. })));
+                self.exits += 1;
             } else if let Some(kind) = kind(record) {
                 match before {
                     Some(Record::Substitute { .. }) => self.substituted[kind] += 1,
@@ -107,14 +121,19 @@ fn kind(record: &Record) -> Option<usize> {
         Record::Invoke { .. } => Some(4),
         Record::Literal { .. } => Some(5),
         Record::Op { .. } => Some(6),
-        _ => None,
+        Record::PrintI64 { .. } => Some(7),
+        Record::Definition { .. }
+        | Record::Substitute { .. }
+        | Record::IfC { .. }
+        | Record::Clause { .. }
+        | Record::Exit { .. } => None,
     }
 }
 
 #[test]
 fn the_limits_are_reached() {
     let mut reached = Reached::default();
-    for index in 0..10_000 {
+    for index in 0..12_000 {
         let prog = wild::program(&mut Rng::of_case(12, index));
         let oracle = Oracle::new(&build::image(&prog));
         let output = oracle.linearized().expect("a yes to 1 to 10");
@@ -133,6 +152,7 @@ fn the_limits_are_reached() {
     assert!(reached.linear > 500);
     assert!(reached.substituted.iter().all(|&count| count > 1_000));
     assert!(reached.right.iter().all(|&count| count > 1_000));
+    assert!(reached.exits > 1_000);
 }
 
 #[test]

@@ -25,6 +25,7 @@ fn substitutions() {
     assert_eq!(most_pairs(&sizes::create_pairs()), 126);
     assert_eq!(most_pairs(&sizes::let_pairs()), 95);
     assert_eq!(most_pairs(&sizes::switch_pairs()), 65);
+    assert_eq!(most_pairs(&sizes::print_pairs()), 63);
 }
 
 fn straight_depth(statement: &Statement) -> usize {
@@ -32,7 +33,8 @@ fn straight_depth(statement: &Statement) -> usize {
         Statement::Substitute { next, .. } | Statement::Literal { next, .. } => {
             1 + straight_depth(next)
         }
-        _ => 1,
+        Statement::Call { .. } => 1,
+        other => panic!("not straight: {other:?}"),
     }
 }
 

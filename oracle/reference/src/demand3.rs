@@ -20,7 +20,7 @@ pub enum End {
     #[default]
     NotBegun,
     StillRunning,
-    /// An outside number was invoked.
+    /// An outside number was invoked, or the run came to an Exit.
     Ended,
     /// There is no next step.
     Stuck,

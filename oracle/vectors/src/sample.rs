@@ -9,9 +9,9 @@ use reference::oracle::Oracle;
 /// The sample is made from this seed.
 const SEED: u64 = 2026;
 /// Of the small images and programs and the changes of one byte one in so many is taken.
-const STRIDE: usize = 499;
+const STRIDE: usize = 557;
 /// So many generated images, none larger than this.
-const GENERATED: usize = 1_250;
+const GENERATED: usize = 1_150;
 const LARGEST: usize = 700;
 
 /// A replaying program lends no larger buffer than this, which is also the largest image.

@@ -1,7 +1,8 @@
 //! The file is small, the same every time, covers every answer of every function, and replays.
 
+use generators::boundaries::Call;
 use reference::calls;
-use reference::oracle::Answer;
+use reference::oracle::{Answer, Oracle};
 use std::fs;
 
 struct Reader<'a>(&'a [u8]);
@@ -88,6 +89,52 @@ fn the_sample_replays_and_covers_every_answer() {
             assert_eq!(numbers.contains(&number), found > 0, "{function} {number}");
             assert!(found == 0 || found >= 20, "{function} {number}: {found}");
         }
+    }
+}
+
+/// Whether a record of that kind byte stands in the directory, where it tiles.
+fn holds(image: &[u8], kind: u8) -> bool {
+    let field = |at: usize| usize::from(u16::from_le_bytes([image[at], image[at + 1]]));
+    let mut records = 0..field(6);
+    records.any(|record| image[field(8 + 4 * record)] == kind)
+}
+
+/// The numbers from 4 on, before which the records are not looked at, and 0: each function answers
+/// images with a PrintI64, and images with an Exit, with every one that it has.
+#[test]
+fn both_kinds_of_output_have_every_answer() {
+    let asked: [&[u8]; 4] = [
+        &[0, 4, 5],
+        &[0, 4, 5, 6, 7, 8, 9, 10],
+        &[0, 4, 5, 6, 7, 8, 9, 10, 11, 12],
+        &[0, 4, 5, 6, 7, 12, 13],
+    ];
+    for kind in [12, 13] {
+        let mut counts = [[0; 14]; 4];
+        for vector in vectors::sample() {
+            let oracle = Oracle::new(&vector.image);
+            for &call in &vector.calls {
+                let number = call.ask(&oracle, &mut vec![0; call.room()]).number;
+                if !(1..4).contains(&number) && holds(&vector.image, kind) {
+                    counts[function(call)][usize::from(number)] += 1;
+                }
+            }
+        }
+        println!("kind {kind}: {counts:?}");
+        for (numbers, counts) in asked.iter().zip(counts) {
+            for &number in *numbers {
+                assert!(counts[usize::from(number)] >= 5, "kind {kind}, {number}");
+            }
+        }
+    }
+}
+
+fn function(call: Call) -> usize {
+    match call {
+        Call::Read => 0,
+        Call::Check => 1,
+        Call::Linearize { .. } => 2,
+        Call::Annotate { .. } => 3,
     }
 }
 

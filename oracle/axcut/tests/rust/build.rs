@@ -2,7 +2,7 @@
 
 use axcut::syntax::statements::ifc::IfSort;
 use axcut::syntax::statements::{
-    BinOp, Call, Clause, Create, IfC, Invoke, Let, Literal, Op, Substitute, Switch,
+    BinOp, Call, Clause, Create, Exit, IfC, Invoke, Let, Literal, Op, PrintI64, Substitute, Switch,
 };
 use axcut::syntax::{Chirality, ContextBinding, ID, Identifier, Statement, Ty, TypingContext};
 use axcut::traits::free_vars::FreeVars;
@@ -163,6 +163,20 @@ pub fn sum(fst: ID, snd: ID, id: ID, next: Statement) -> Statement {
         free_vars_next: None,
     }
     .into()
+}
+
+pub fn print_i64(newline: bool, var: Identifier, next: Statement) -> Statement {
+    PrintI64 {
+        newline,
+        var,
+        next: Rc::new(next),
+        free_vars_next: None,
+    }
+    .into()
+}
+
+pub fn exit(var: Identifier) -> Statement {
+    Exit { var }.into()
 }
 
 /// The statement linearized in the context at the max_id, and the max_id after it.

@@ -1,5 +1,6 @@
 //! The unchanged Rust on small statements.
 
 mod build;
+mod output;
 mod rows;
 mod surprises;

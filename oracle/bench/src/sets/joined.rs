@@ -1,8 +1,9 @@
 //! Images of a size: definitions of generated programs one after the other, in turn from programs of
-//! all shapes (`wild`) and from programs whose runs get far (`typed`).
+//! all shapes (`wild`) and from programs whose runs get far (`typed`), all without PrintI64 and Exit:
+//! a seed gives the images that it gave before there were these two, so that times can be compared.
 
 use super::Image;
-use generators::{Rng, typed, wild};
+use generators::{Rng, Statements, typed, wild};
 use reference::image::{HEADER_BYTES, LARGEST, Record, order};
 use reference::syntax::{Id, Prog};
 
@@ -22,9 +23,9 @@ pub fn of_records(rng: &mut Rng, least: usize, most: usize) -> Image {
     let mut is_typed = rng.chance(8);
     while records < least {
         let prog = if is_typed {
-            typed::program(rng)
+            typed::program_of(rng, Statements::WithoutOutput)
         } else {
-            wild::program(rng)
+            wild::program_of(rng, Statements::WithoutOutput)
         };
         let Some(image) = Image::accepted(prog) else {
             continue;

@@ -17,8 +17,8 @@ fn annotate(record: usize, room: usize) -> Call {
 
 fn places(table: &mut Table) {
     let prog = changes::every_kind();
-    for record in 0..12 {
-        let number = if [1, 2, 3, 4, 8].contains(&record) {
+    for record in 0..13 {
+        let number = if [1, 2, 3, 4, 5, 9].contains(&record) {
             0
         } else {
             13
@@ -29,8 +29,8 @@ fn places(table: &mut Table) {
         let number = if number == 0 { 12 } else { 13 };
         table.prog(&what, &prog, annotate(record, 0), number);
     }
-    for record in [12, 13, 4_000, 65_536, usize::MAX] {
-        let what = format!("record {record} of 12");
+    for record in [13, 14, 4_000, 65_536, usize::MAX] {
+        let what = format!("record {record} of 13");
         table.prog(&what, &prog, annotate(record, 100), 13);
     }
     let last = one(1, vec![ext(1)], switch(1, Vec::new()));

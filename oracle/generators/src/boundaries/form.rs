@@ -89,11 +89,16 @@ fn counts(table: &mut Table) {
 }
 
 /// With 32 parameters and so many Literals in scope, the statement.
-fn in_scope(bindings: u32, statement: Statement) -> Prog {
+pub(super) fn in_scope(bindings: u32, statement: Statement) -> Prog {
     let body = (33..=bindings)
         .rev()
         .fold(statement, |next, id| literal(1, id, next));
     one(200, exts(1, 32), body)
+}
+
+/// A statement that uses the IDs 1 to 64, in two Calls, for a count is at most 32.
+pub(super) fn uses_64() -> Statement {
+    ifc(1, None, call(exts(1, 32)), call(exts(33, 64)))
 }
 
 fn scope(table: &mut Table) {

@@ -2,10 +2,10 @@
 
 use super::{Call, Table};
 use crate::build::{
-    call, clause, create, create_with, def, ext, exts, ifc, image, invoke, let_, literal, named,
-    one, op, pair, prd, prog, substitute, switch, var,
+    call, clause, create, create_with, def, exit, ext, exts, ifc, image, invoke, let_, literal,
+    named, one, op, pair, prd, print_i64, prog, substitute, switch, var,
 };
-use reference::image::{Frame, Header, Record};
+use reference::image::{ENTRY_BYTES, Frame, HEADER_BYTES, Header, Record};
 use reference::syntax::{BinOp, Prog, Statement};
 
 pub fn rows(table: &mut Table) {
@@ -102,12 +102,46 @@ fn tiling(table: &mut Table) {
     );
 }
 
-/// The program's image with one byte of one record changed.
-fn changed(body: Statement, record: usize, byte: usize, to: u8) -> Vec<u8> {
-    let mut image = image(&one(9, vec![ext(1), prd(2)], body));
-    let at = usize::from(image[8 + 4 * record]) + 256 * usize::from(image[9 + 4 * record]);
+/// The image with one byte of one record changed.
+pub(super) fn changed_at(mut image: Vec<u8>, record: usize, byte: usize, to: u8) -> Vec<u8> {
+    let at = usize::from(field(&image, HEADER_BYTES + ENTRY_BYTES * record));
     image[at + byte] = to;
     image
+}
+
+fn changed(body: Statement, record: usize, byte: usize, to: u8) -> Vec<u8> {
+    let image = image(&one(9, vec![ext(1), prd(2)], body));
+    changed_at(image, record, byte, to)
+}
+
+/// The image with one byte more or less at the end of one record, and a directory that tiles.
+pub(super) fn resized(mut image: Vec<u8>, record: usize, longer: bool) -> Vec<u8> {
+    let by = |number: u16| if longer { number + 1 } else { number - 1 };
+    let entry = |record: usize| HEADER_BYTES + ENTRY_BYTES * record;
+    let (offset, length) = (
+        field(&image, entry(record)),
+        field(&image, entry(record) + 2),
+    );
+    let end = usize::from(offset + length);
+    if longer {
+        image.insert(end, 0);
+    } else {
+        image.remove(end - 1);
+    }
+    set_field(&mut image, entry(record) + 2, by(length));
+    for later in record + 1..usize::from(field(&image, 6)) {
+        let moved = by(field(&image, entry(later)));
+        set_field(&mut image, entry(later), moved);
+    }
+    image
+}
+
+fn field(image: &[u8], at: usize) -> u16 {
+    u16::from_le_bytes([image[at], image[at + 1]])
+}
+
+fn set_field(image: &mut [u8], at: usize, number: u16) {
+    image[at..at + 2].copy_from_slice(&number.to_le_bytes());
 }
 
 fn codes(table: &mut Table) {
@@ -116,7 +150,8 @@ fn codes(table: &mut Table) {
         table.image(&format!("{what} {to}"), image, Call::Read, number);
     };
     let leaf = || call(vec![ext(1)]);
-    for kind in [0, 12, 13, 255] {
+    // of 12 and 13 too: a Call's bytes are of another length than theirs
+    for kind in [0, 12, 13, 14, 15, 255] {
         code("kind", leaf(), 1, 0, kind, 4);
     }
     for (chirality, number) in [(0, 0), (1, 0), (2, 0), (3, 4)] {
@@ -206,6 +241,17 @@ fn counts(table: &mut Table) {
     );
 }
 
+/// The image of these records, with max_id 9.
+pub(super) fn framed(definitions: u16, records: Vec<Record>) -> Vec<u8> {
+    let header = Header {
+        layout: 1,
+        definitions,
+        max_id: 9,
+        records: records.len() as u16,
+    };
+    Frame { header, records }.write()
+}
+
 fn order_of_records(table: &mut Table) {
     let definition = || Record::Definition {
         name: named(1, 0),
@@ -234,13 +280,7 @@ fn order_of_records(table: &mut Table) {
         snd: None,
     };
     let mut ordered = |what: &str, definitions: u16, records: Vec<Record>, number: u8| {
-        let header = Header {
-            layout: 1,
-            definitions,
-            max_id: 9,
-            records: records.len() as u16,
-        };
-        let image = Frame { header, records }.write();
+        let image = framed(definitions, records);
         table.image(what, image, Call::Read, number);
     };
     ordered("no definition", 0, vec![], 0);
@@ -308,10 +348,15 @@ fn closures(depth: u32) -> Statement {
     })
 }
 
+/// A body so many statements deep, by PrintI64s and an Exit.
+fn prints(depth: u32) -> Statement {
+    (1..depth).fold(exit(1), |next, place| print_i64(place % 2 == 0, 1, next))
+}
+
 fn depth(table: &mut Table) {
     let bodies = [(Vec::new(), literals as fn(u32) -> Statement)]
         .into_iter()
-        .chain([clauses, branches, closures].map(|of_depth| (vec![ext(1)], of_depth as _)));
+        .chain([clauses, branches, closures, prints].map(|of_depth| (vec![ext(1)], of_depth as _)));
     for (params, of_depth) in bodies {
         let deep = |depth| one(200, params.clone(), of_depth(depth));
         table.read("depth 128", &deep(128), 0);

@@ -1,13 +1,16 @@
 //! The largest contexts, substitutions, outputs and annotations that accepted programs lead to.
 
 use super::{Call, LINEARIZE, Table};
-use crate::build::{call, clause, create, def, ext, exts, ifc, let_, literal, one, prog, switch};
+use crate::build::{
+    call, clause, create, def, ext, exts, ifc, let_, literal, one, print_i64, prog, switch,
+};
 use reference::syntax::{Binding, Def, Prog, Statement};
 
 pub(super) fn rows(table: &mut Table) {
     table.prog("126 pairs before a Create", &create_pairs(), LINEARIZE, 0);
     table.prog("95 pairs before a Let", &let_pairs(), LINEARIZE, 0);
     table.prog("65 pairs before a Switch", &switch_pairs(), LINEARIZE, 0);
+    table.prog("63 pairs before a PrintI64", &print_pairs(), LINEARIZE, 0);
     table.prog("an output 128 statements deep", &deepest(), LINEARIZE, 0);
     table.prog("an output of 3,969 records", &longest(), LINEARIZE, 0);
     let largest = Call::Annotate {
@@ -44,6 +47,12 @@ pub fn let_pairs() -> Prog {
 pub fn switch_pairs() -> Prog {
     let clauses = vec![clause(1, Vec::new(), uses_63(vec![ext(64)]))];
     with_63(literal(1, 64, switch(64, clauses)))
+}
+
+/// With one more in scope, which the other branch uses.
+pub fn print_pairs() -> Prog {
+    let shown = print_i64(true, 63, uses_63(Vec::new()));
+    with_63(literal(1, 64, ifc(1, None, uses_63(vec![ext(64)]), shown)))
 }
 
 /// So many statements, each with one binding in its context that nothing uses: a Substitute comes

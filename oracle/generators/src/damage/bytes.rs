@@ -1,7 +1,7 @@
 //! Damages of bytes: questions 1 to 4.
 
 use crate::rng::Rng;
-use reference::image::{ENTRY_BYTES, Frame, HEADER_BYTES, LARGEST};
+use reference::image::{ENTRY_BYTES, Frame, HEADER_BYTES, LARGEST, Record};
 
 pub fn damage(rng: &mut Rng, frame: &Frame) -> Vec<u8> {
     if !super::frame_fits(frame) {
@@ -17,7 +17,8 @@ pub fn damage(rng: &mut Rng, frame: &Frame) -> Vec<u8> {
         5 => number_of_records(rng, &mut image),
         6 => directory(rng, &mut image),
         7 | 8 => cut_record(rng, frame, &mut image),
-        9..12 => {
+        9 => newline(rng, frame, &mut image),
+        10 | 11 => {
             one_byte(rng, &mut image, HEADER_BYTES);
         }
         _ => {
@@ -73,6 +74,21 @@ fn directory(rng: &mut Rng, image: &mut [u8]) {
     }
 }
 
+/// The newline byte of a PrintI64 changed, where there is one.
+fn newline(rng: &mut Rng, frame: &Frame, image: &mut [u8]) {
+    let prints = |&place: &usize| matches!(frame.records[place], Record::PrintI64 { .. });
+    let places: Vec<usize> = (0..frame.records.len()).filter(prints).collect();
+    if !places.is_empty() {
+        let entry = HEADER_BYTES + ENTRY_BYTES * *rng.pick(&places);
+        let offset = usize::from(field(image, entry));
+        image[offset + 1] = *rng.pick(&[0, 1, 2, 3, 10, 255]);
+    }
+}
+
+fn field(image: &[u8], at: usize) -> u16 {
+    u16::from_le_bytes([image[at], image[at + 1]])
+}
+
 /// A byte put into a record or taken out of it, with a directory that tiles.
 fn cut_record(rng: &mut Rng, frame: &Frame, image: &mut Vec<u8>) {
     if frame.records.is_empty() {
@@ -80,7 +96,6 @@ fn cut_record(rng: &mut Rng, frame: &Frame, image: &mut Vec<u8>) {
     }
     let place = rng.below(frame.records.len());
     let entry = HEADER_BYTES + ENTRY_BYTES * place;
-    let field = |image: &[u8], at: usize| u16::from_le_bytes([image[at], image[at + 1]]);
     let offset = usize::from(field(image, entry));
     let length = usize::from(field(image, entry + 2));
     let at = offset + rng.below(length);
@@ -115,6 +130,6 @@ fn one_byte(rng: &mut Rng, image: &mut [u8], from: usize) {
     image[at] = match rng.below(4) {
         0 => rng.below(256) as u8,
         1 => image[at] ^ (1 << rng.below(8)),
-        _ => *rng.pick(&[0, 1, 2, 3, 4, 5, 6, 11, 12, 32, 33, 128, 129, 255]),
+        _ => *rng.pick(&[0, 1, 2, 3, 4, 5, 6, 11, 12, 13, 14, 32, 33, 128, 129, 255]),
     };
 }

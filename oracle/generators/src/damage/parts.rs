@@ -15,7 +15,9 @@ pub fn binders(record: &mut Record) -> Vec<&mut Identifier> {
         | Record::Call { .. }
         | Record::Switch { .. }
         | Record::Invoke { .. }
-        | Record::IfC { .. } => Vec::new(),
+        | Record::IfC { .. }
+        | Record::PrintI64 { .. }
+        | Record::Exit { .. } => Vec::new(),
     }
 }
 
@@ -28,7 +30,9 @@ pub fn uses(record: &mut Record) -> Vec<&mut Identifier> {
             uses.push(var);
             uses
         }
-        Record::Switch { var, .. } => vec![var],
+        Record::Switch { var, .. } | Record::PrintI64 { var, .. } | Record::Exit { var } => {
+            vec![var]
+        }
         Record::Op { fst, snd, .. } => vec![fst, snd],
         Record::IfC { fst, snd, .. } => {
             let mut uses = vec![fst];
@@ -56,7 +60,9 @@ pub fn list(record: &mut Record) -> Option<&mut Vec<Binding>> {
         | Record::Create { .. }
         | Record::Literal { .. }
         | Record::Op { .. }
-        | Record::IfC { .. } => None,
+        | Record::IfC { .. }
+        | Record::PrintI64 { .. }
+        | Record::Exit { .. } => None,
     }
 }
 

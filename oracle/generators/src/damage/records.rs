@@ -37,7 +37,7 @@ pub fn damage(rng: &mut Rng, frame: &mut Frame) {
 /// A record that may stand anywhere or nowhere.
 fn build_record(rng: &mut Rng) -> Record {
     let id = rng.below(4) as u32;
-    match rng.below(4) {
+    match rng.below(6) {
         0 => Record::Clause {
             xtor: build::label(1),
             params: vec![build::ext(id)],
@@ -48,6 +48,13 @@ fn build_record(rng: &mut Rng) -> Record {
         },
         2 => Record::Literal {
             lit: 1,
+            var: build::var(id),
+        },
+        3 => Record::PrintI64 {
+            newline: rng.chance(8),
+            var: build::var(id),
+        },
+        4 => Record::Exit {
             var: build::var(id),
         },
         _ => Record::IfC {

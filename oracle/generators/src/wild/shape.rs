@@ -1,6 +1,7 @@
 //! The shape of a program.
 
 use crate::rng::Rng;
+use crate::statements::Statements;
 use reference::image::LARGEST_ID;
 use reference::questions::Limits;
 
@@ -24,12 +25,15 @@ pub struct Shape {
     pub leaf: usize,
     /// How often each kind is taken: Let, Switch, Create, Literal, Op, IfC.
     pub kinds: [usize; 6],
+    /// How often of 16 a PrintI64 comes before another statement, and an Exit ends a branch.
+    pub prints: usize,
+    pub exits: usize,
 }
 
 impl Shape {
-    pub fn any(rng: &mut Rng) -> Shape {
+    pub fn any(rng: &mut Rng, statements: Statements) -> Shape {
         if rng.below(64) == 0 {
-            return Shape::large(rng);
+            return Shape::large(rng, statements);
         }
         let records = match rng.below(64) {
             0..8 => rng.within(40, 200),
@@ -52,11 +56,13 @@ impl Shape {
             respell: *rng.pick(&[0, 0, 1, 2, 6]),
             leaf: *rng.pick(&[0, 0, 1, 3, 6]),
             kinds: std::array::from_fn(|_| *rng.pick(&[0, 1, 1, 3])),
+            prints: statements.output(|| *rng.pick(&[0, 2, 4, 8])),
+            exits: statements.output(|| *rng.pick(&[0, 2, 5, 10])),
         }
     }
 
     /// A shape that comes near the limits of question 7.
-    fn large(rng: &mut Rng) -> Shape {
+    fn large(rng: &mut Rng, statements: Statements) -> Shape {
         let records = rng.within(100, Limits::RECORDS);
         Shape {
             records,
@@ -71,6 +77,8 @@ impl Shape {
             respell: *rng.pick(&[0, 1]),
             leaf: 0,
             kinds: std::array::from_fn(|_| *rng.pick(&[1, 1, 3])),
+            prints: statements.output(|| *rng.pick(&[0, 1, 3])),
+            exits: statements.output(|| *rng.pick(&[0, 2, 6])),
         }
     }
 }

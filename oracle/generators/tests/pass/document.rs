@@ -205,10 +205,14 @@ impl Pass {
                 thenc: Box::new(self.statement(thenc, context, renaming)),
                 elsec: Box::new(self.statement(elsec, context, renaming)),
             },
+            Statement::PrintI64 { newline, var, next } => {
+                self.print_i64(*newline, renamed(*var, renaming), next, context, renaming)
+            }
+            Statement::Exit { var } => self.exit(*var, context, renaming),
         }
     }
 
-    fn only_retained(
+    pub fn only_retained(
         &self,
         context: &[Binding],
         retained: Vec<Binding>,

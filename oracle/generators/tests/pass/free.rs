@@ -28,6 +28,8 @@ pub fn free(statement: &Statement) -> BTreeSet<Id> {
         } => &without(free(next), var) | &free_in_clauses(clauses),
         Statement::Invoke { var, args, .. } => &ids(args) | &BTreeSet::from([var.id]),
         Statement::Literal { var, next, .. } => without(free(next), var),
+        Statement::PrintI64 { var, next, .. } => &free(next) | &BTreeSet::from([var.id]),
+        Statement::Exit { var } => BTreeSet::from([var.id]),
         Statement::Op {
             fst,
             snd,

@@ -4,6 +4,7 @@
 mod cells;
 mod document;
 mod free;
+mod output;
 mod reading;
 
 use document::linearize;
@@ -61,13 +62,16 @@ fn the_document_and_the_rust_agree_on_small_programs() {
 }
 
 /// The errors that change what a run of the output does, and those that change the output only.
-const IN_RUNS: [Reading; 4] = [
+const IN_RUNS: [Reading; 7] = [
     Reading::RenamesClauses,
     Reading::OpDropsInputs,
     Reading::LetIgnoresClashes,
     Reading::FirstDefinitionOnly,
+    Reading::PrintDropsVar,
+    Reading::PrintConsumesVar,
+    Reading::ExitKeepsVar,
 ];
-const IN_OUTPUTS: [Reading; 7] = [
+const IN_OUTPUTS: [Reading; 13] = [
     Reading::ComparesIds,
     Reading::FiltersStably,
     Reading::DoesNotSplit,
@@ -75,6 +79,12 @@ const IN_OUTPUTS: [Reading; 7] = [
     Reading::SwitchDrawsFirst,
     Reading::LetDrawsLast,
     Reading::KeepsSpelling,
+    Reading::PrintFiltersTwice,
+    Reading::PrintHandsAllOn,
+    Reading::PrintAlwaysSubstitutes,
+    Reading::PrintDraws,
+    Reading::ExitSubstitutes,
+    Reading::ExitKeepsSpelling,
 ];
 
 #[test]
@@ -131,10 +141,13 @@ fn annotations(statement: &Statement, out: &mut Vec<Vec<BTreeSet<Id>>>) {
     };
     match statement {
         Statement::Substitute { .. } => unreachable!("question 6"),
-        Statement::Call { .. } | Statement::Invoke { .. } => out.push(Vec::new()),
+        Statement::Call { .. } | Statement::Invoke { .. } | Statement::Exit { .. } => {
+            out.push(Vec::new());
+        }
         Statement::Let { next, .. }
         | Statement::Literal { next, .. }
-        | Statement::Op { next, .. } => {
+        | Statement::Op { next, .. }
+        | Statement::PrintI64 { next, .. } => {
             out.push(vec![free::free(next)]);
             annotations(next, out);
         }

@@ -26,4 +26,22 @@ pub enum Reading {
     FirstDefinitionOnly,
     /// After Create's renaming, uses keep their spelling.
     KeepsSpelling,
+    /// PrintI64 retains its next's free variables only.
+    PrintDropsVar,
+    /// PrintI64's var is not in its next's context.
+    PrintConsumesVar,
+    /// PrintI64 retains its next's free variables, and then its var behind them.
+    PrintFiltersTwice,
+    /// PrintI64 hands the whole context to its next.
+    PrintHandsAllOn,
+    /// PrintI64 gets a Substitute where its context is right too.
+    PrintAlwaysSubstitutes,
+    /// PrintI64's Substitute, where it gets one, draws an ID.
+    PrintDraws,
+    /// Exit gets a Substitute to the context of its var alone.
+    ExitSubstitutes,
+    /// Exit's var is not renamed.
+    ExitKeepsVar,
+    /// Exit's var is renamed where its ID is another, and keeps its spelling.
+    ExitKeepsSpelling,
 }

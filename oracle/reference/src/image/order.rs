@@ -119,6 +119,12 @@ fn statement(records: &mut Records, deepest: usize) -> Option<Statement> {
             thenc: next(records, deepest)?,
             elsec: next(records, deepest)?,
         },
+        Record::PrintI64 { newline, var } => Statement::PrintI64 {
+            newline: *newline,
+            var: *var,
+            next: next(records, deepest)?,
+        },
+        Record::Exit { var } => Statement::Exit { var: *var },
         Record::Definition { .. } | Record::Clause { .. } => return None,
     })
 }
@@ -263,5 +269,13 @@ fn flatten(statement: &Statement, out: &mut Vec<Record>) {
             flatten(thenc, out);
             flatten(elsec, out);
         }
+        Statement::PrintI64 { newline, var, next } => {
+            out.push(Record::PrintI64 {
+                newline: *newline,
+                var: *var,
+            });
+            flatten(next, out);
+        }
+        Statement::Exit { var } => out.push(Record::Exit { var: *var }),
     }
 }

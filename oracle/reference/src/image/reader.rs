@@ -4,7 +4,7 @@
 use super::Record;
 use crate::syntax::{BinOp, Binding, Chirality, Id, Identifier, IfSort, Name, Pair, Ty};
 
-/// "Is each record of kind 1 to 11, of exactly its length, every count at most 128, every code and
+/// "Is each record of kind 1 to 13, of exactly its length, every count at most 128, every code and
 /// mark in range, I64's four bytes zero?"
 pub fn record(bytes: &[u8]) -> Option<Record> {
     let mut reader = Reader { bytes };
@@ -72,6 +72,13 @@ impl Reader<'_> {
                 xtor: self.identifier()?,
                 params: self.list()?,
             },
+            12 => Record::PrintI64 {
+                newline: self.newline()?,
+                var: self.identifier()?,
+            },
+            13 => Record::Exit {
+                var: self.identifier()?,
+            },
             _ => return None,
         })
     }
@@ -102,6 +109,15 @@ impl Reader<'_> {
         match self.byte()? {
             0 => Some(None),
             1 => read(self).map(Some),
+            _ => None,
+        }
+    }
+
+    /// "Newline byte 0 or 1."
+    fn newline(&mut self) -> Option<bool> {
+        match self.byte()? {
+            0 => Some(false),
+            1 => Some(true),
             _ => None,
         }
     }

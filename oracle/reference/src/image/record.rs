@@ -57,6 +57,13 @@ pub enum Record {
         xtor: Identifier,
         params: Vec<Binding>,
     },
+    PrintI64 {
+        newline: bool,
+        var: Identifier,
+    },
+    Exit {
+        var: Identifier,
+    },
 }
 
 impl Record {
@@ -76,6 +83,8 @@ impl Record {
             Record::Op { .. } => 9,
             Record::IfC { .. } => 10,
             Record::Clause { .. } => 11,
+            Record::PrintI64 { .. } => 12,
+            Record::Exit { .. } => 13,
         }
     }
 }

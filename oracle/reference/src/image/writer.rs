@@ -88,6 +88,11 @@ pub fn record(out: &mut Vec<u8>, record: &Record) {
             identifier(out, xtor);
             list(out, params);
         }
+        Record::PrintI64 { newline, var } => {
+            out.push((*newline).into());
+            identifier(out, var);
+        }
+        Record::Exit { var } => identifier(out, var),
     }
 }
 
@@ -120,6 +125,8 @@ pub fn record_length(record: &Record) -> usize {
         Record::Op { .. } => IDENTIFIER + 1 + IDENTIFIER + IDENTIFIER,
         Record::IfC { snd, .. } => 1 + IDENTIFIER + 1 + snd.map_or(0, |_| IDENTIFIER),
         Record::Clause { params, .. } => IDENTIFIER + list(params),
+        Record::PrintI64 { .. } => 1 + IDENTIFIER,
+        Record::Exit { .. } => IDENTIFIER,
     }
 }
 

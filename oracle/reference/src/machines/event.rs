@@ -5,8 +5,9 @@ use crate::syntax::Name;
 
 /// "Events, one per step other than Substitute: kind, and Literal or Op its integer, IfC its branch,
 /// Let and Create the cell (Let the tag), Switch and Invoke the cell and tag, Call the label. Invoke
-/// of an outside number shows it, the tag and argument values, and ends the run." A label or tag is
-/// its name.
+/// of an outside number shows it, the tag and argument values, and ends the run." "PrintI64 needs an
+/// integer, reads it and shows it with the newline byte; Exit shows its value, of whatever sort, and
+/// ends the run." A label or tag is its name.
 #[derive(Debug, Clone, PartialEq, Eq)]
 pub enum Event {
     Literal(i64),
@@ -36,6 +37,13 @@ pub enum Event {
         number: u8,
         tag: Name,
         args: Vec<Value>,
+    },
+    PrintI64 {
+        value: i64,
+        newline: bool,
+    },
+    Exit {
+        value: Value,
     },
 }
 

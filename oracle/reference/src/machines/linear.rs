@@ -101,6 +101,8 @@ impl<'a> Linear<'a> {
                 thenc,
                 elsec,
             } => self.ifc(*sort, fst.id, *snd, thenc, elsec),
+            Statement::PrintI64 { newline, var, next } => self.print_i64(*newline, var.id, next),
+            Statement::Exit { var } => self.exit(var.id),
         }
         .map(Some)
     }
@@ -227,6 +229,22 @@ impl<'a> Linear<'a> {
         let then_branch = integers::holds(sort, fst, snd);
         self.state.at = if then_branch { thenc } else { elsec };
         Ok(Event::IfC { then_branch })
+    }
+
+    /// It reads only, wherever its var stands: an absent var stops, before a wrong sort of value has
+    /// no next step.
+    fn print_i64(&mut self, newline: bool, var: Id, next: &'a Statement) -> Next<Event> {
+        let value = or_stop(lookup::value(&self.state.entries, var))?;
+        let value = or_halt(lookup::int(value))?;
+        self.state.at = next;
+        Ok(Event::PrintI64 { value, newline })
+    }
+
+    /// Every sort of value will do, and every list that holds var.
+    fn exit(&mut self, var: Id) -> Next<Event> {
+        let value = or_stop(lookup::value(&self.state.entries, var))?;
+        self.state.ended = true;
+        Ok(Event::Exit { value })
     }
 
     /// How many entries stand before the last ones, whose IDs must be these.

@@ -62,6 +62,8 @@ impl<'a> Source<'a> {
                 thenc,
                 elsec,
             } => self.ifc(*sort, fst.id, *snd, thenc, elsec),
+            Statement::PrintI64 { newline, var, next } => self.print_i64(*newline, var.id, next),
+            Statement::Exit { var } => self.exit(var.id),
         }
     }
 
@@ -151,6 +153,21 @@ impl<'a> Source<'a> {
         let then_branch = integers::holds(sort, fst, snd);
         self.state.at = if then_branch { thenc } else { elsec };
         Some(Event::IfC { then_branch })
+    }
+
+    /// "PrintI64 needs an integer, reads it and shows it with the newline byte."
+    fn print_i64(&mut self, newline: bool, var: Id, next: &'a Statement) -> Option<Event> {
+        let value = self.int(var)?;
+        self.state.at = next;
+        Some(Event::PrintI64 { value, newline })
+    }
+
+    /// "Exit shows its value, of whatever sort, and ends the run, whatever else the environment
+    /// holds."
+    fn exit(&mut self, var: Id) -> Option<Event> {
+        let value = lookup::value(&self.state.entries, var)?;
+        self.state.ended = true;
+        Some(Event::Exit { value })
     }
 
     fn int(&self, id: Id) -> Option<i64> {

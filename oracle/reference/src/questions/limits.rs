@@ -47,18 +47,23 @@ fn largest_count(statement: &Statement) -> usize {
             clauses,
             ..
         } => environment.as_ref().map_or(0, Vec::len).max(clauses.len()),
-        Statement::Literal { .. } | Statement::Op { .. } | Statement::IfC { .. } => 0,
+        Statement::Literal { .. }
+        | Statement::Op { .. }
+        | Statement::IfC { .. }
+        | Statement::PrintI64 { .. }
+        | Statement::Exit { .. } => 0,
     }
 }
 
 /// The statements on the longest way down; clauses add nothing.
 fn depth(statement: &Statement) -> usize {
     1 + match statement {
-        Statement::Call { .. } | Statement::Invoke { .. } => 0,
+        Statement::Call { .. } | Statement::Invoke { .. } | Statement::Exit { .. } => 0,
         Statement::Substitute { next, .. }
         | Statement::Let { next, .. }
         | Statement::Literal { next, .. }
-        | Statement::Op { next, .. } => depth(next),
+        | Statement::Op { next, .. }
+        | Statement::PrintI64 { next, .. } => depth(next),
         Statement::Switch { clauses, .. } => clauses_depth(clauses),
         Statement::Create { clauses, next, .. } => clauses_depth(clauses).max(depth(next)),
         Statement::IfC { thenc, elsec, .. } => depth(thenc).max(depth(elsec)),

@@ -55,12 +55,14 @@ impl<Q: Asked> Walk<'_, Q> {
     fn statement(&mut self, statement: &Statement) -> bool {
         self.question.statement(&self.scope, statement)
             && match statement {
-                Statement::Call { .. } | Statement::Invoke { .. } => true,
+                Statement::Call { .. } | Statement::Invoke { .. } | Statement::Exit { .. } => true,
                 // question 6 refuses it; its targets are no binders of the source
                 Statement::Substitute { next, .. } => self.statement(next),
                 Statement::Let { var, next, .. }
                 | Statement::Literal { var, next, .. }
                 | Statement::Op { var, next, .. } => self.below(&[var.id], next),
+                // it binds nothing
+                Statement::PrintI64 { next, .. } => self.statement(next),
                 Statement::Switch { clauses, .. } => self.clauses(clauses),
                 Statement::Create {
                     var, clauses, next, ..

@@ -23,7 +23,9 @@ fn uses(statement: &Statement) -> Vec<Id> {
             rearrange.iter().map(|pair| pair.source.id).collect()
         }
         Statement::Call { args, .. } | Statement::Let { args, .. } => ids(args),
-        Statement::Switch { var, .. } => vec![var.id],
+        Statement::Switch { var, .. }
+        | Statement::PrintI64 { var, .. }
+        | Statement::Exit { var } => vec![var.id],
         Statement::Create { environment, .. } => environment.as_deref().map_or(Vec::new(), ids),
         Statement::Invoke { var, args, .. } => {
             let mut uses = ids(args);

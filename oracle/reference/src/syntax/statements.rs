@@ -1,4 +1,4 @@
-//! The nine statements, and clauses.
+//! The eleven statements, and clauses.
 
 use super::{Binding, Identifier, Ty};
 
@@ -88,5 +88,13 @@ pub enum Statement {
         snd: Option<Identifier>,
         thenc: Box<Statement>,
         elsec: Box<Statement>,
+    },
+    PrintI64 {
+        newline: bool,
+        var: Identifier,
+        next: Box<Statement>,
+    },
+    Exit {
+        var: Identifier,
     },
 }

@@ -75,9 +75,14 @@ fn statement(source: &rust::Statement) -> Statement {
             thenc: boxed(&ifc.thenc),
             elsec: boxed(&ifc.elsec),
         },
-        rust::Statement::PrintI64(_) | rust::Statement::Exit(_) => {
-            unreachable!("the pass makes no statement of another kind")
-        }
+        rust::Statement::PrintI64(print) => Statement::PrintI64 {
+            newline: print.newline,
+            var: identifier(&print.var),
+            next: boxed(&print.next),
+        },
+        rust::Statement::Exit(exit) => Statement::Exit {
+            var: identifier(&exit.var),
+        },
     }
 }
 

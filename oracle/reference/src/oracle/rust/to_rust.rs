@@ -126,6 +126,17 @@ pub fn statement(source: &Statement) -> rust::Statement {
             elsec: shared(elsec),
         }
         .into(),
+        Statement::PrintI64 { newline, var, next } => statements::PrintI64 {
+            newline: *newline,
+            var: identifier(var),
+            next: shared(next),
+            free_vars_next: None,
+        }
+        .into(),
+        Statement::Exit { var } => statements::Exit {
+            var: identifier(var),
+        }
+        .into(),
     }
 }
 

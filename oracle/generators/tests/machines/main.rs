@@ -1,5 +1,7 @@
 //! The machines' rules, one by one: what they show, and whether they halt or stop.
 
+mod output;
+
 use generators::build::{
     call, clause, cns, create, create_with, def, ext, exts, ifc, invoke, label, let_, literal, one,
     op, pair, prd, prog, substitute, switch,
