@@ -1,2 +1,3 @@
--- Laws of bytes that are moved.
+-- Laws of bytes that are moved, and of bytes that are put over others.
 pub mod Moving
+pub mod Covering

@@ -34,7 +34,8 @@ use Rattle.image_write_directory.proofs.EmitLaws.{emits-count, entries-sizes}
 use Rattle.scope_spec.specs.Calls.{refuses, replyIfYes, afterRefusal, Replies}
 use Rattle.pass_answer_spec.specs.Calls.{question12, linearizing}
 use Rattle.pass_finish.specs.Finishing.{closing, heading, Clears, Finishable, Finishes}
-use Rattle.pass_finish.proofs.Completing.{put-back, completed}
+use Rattle.image_write_bytes.proofs.Covering.{put-back}
+use Rattle.pass_finish.proofs.Completing.{completed}
 
 -- the tail of linearization's answer
 pub closing-is : (L : Layout) (P : Prog) (size : ℕ) → linearizing L P size ≡
