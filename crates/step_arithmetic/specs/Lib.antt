@@ -1,0 +1,3 @@
+-- What an Op of the code gives; and rows of operators and comparisons, computed.
+pub mod Results
+pub mod Rows

@@ -1,0 +1,2 @@
+-- The laws of a stepper's questions.
+pub mod AskLaws

@@ -1,0 +1,2 @@
+-- What a stepper asks of an image.
+pub mod Asking

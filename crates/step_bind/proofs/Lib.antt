@@ -1,0 +1,2 @@
+-- The laws of an integer under a new variable.
+pub mod BindingLaws

@@ -1,0 +1,2 @@
+-- An integer under a new variable.
+pub mod Binding

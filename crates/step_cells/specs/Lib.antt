@@ -1,0 +1,2 @@
+-- The cell that a value refers to.
+pub mod Cells

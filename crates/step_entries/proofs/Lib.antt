@@ -1,0 +1,2 @@
+-- The laws of a variable looked up in slots.
+pub mod NamedLaws

@@ -1,0 +1,2 @@
+-- The values of several variables.
+pub mod Gathering

@@ -1,0 +1,2 @@
+-- The laws of the first 64 bytes.
+pub mod HeaderLaws

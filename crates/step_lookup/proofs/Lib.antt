@@ -1,0 +1,2 @@
+-- The laws of a variable looked up.
+pub mod LookupLaws

@@ -1,0 +1,2 @@
+-- The integers of slots.
+pub mod Integer

@@ -1,0 +1,2 @@
+-- The laws of question 14 of a store.
+pub mod OpeningLaws

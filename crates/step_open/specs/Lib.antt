@@ -1,0 +1,2 @@
+-- The state that a store begins with.
+pub mod Opening

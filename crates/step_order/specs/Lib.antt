@@ -1,0 +1,3 @@
+-- The order of IDs that a statement of the linear machine asks for, and whether the machine stops at a state.
+pub mod Orderly
+pub mod Stopping

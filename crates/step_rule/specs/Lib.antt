@@ -1,0 +1,2 @@
+-- One step of a machine on a store.
+pub mod Rules

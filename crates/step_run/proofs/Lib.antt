@@ -1,0 +1,3 @@
+-- Steps one after another, as a loop makes them.
+pub mod RunLaws
+pub mod LoopLaws

@@ -1,0 +1,2 @@
+-- Steps one after another.
+pub mod Runs

@@ -1,0 +1,2 @@
+-- The laws of question 14 of slots.
+pub mod PassLaws

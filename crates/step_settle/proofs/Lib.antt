@@ -1,0 +1,2 @@
+-- The laws of the stopped flag.
+pub mod SettleLaws

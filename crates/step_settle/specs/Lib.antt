@@ -1,0 +1,2 @@
+-- The stopped flag of a state that was just written.
+pub mod Settling

@@ -1,0 +1,2 @@
+-- The laws of an event with argument values.
+pub mod ShownLaws

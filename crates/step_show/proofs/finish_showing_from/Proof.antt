@@ -1,0 +1,69 @@
+-- `finish_showing_from` meets its contract. Assumes nothing.
+use denote.Ref.{now}
+use Rattle.step_show.proofs.ShownLaws.{showing-full, showing-finishes}
+use borrow.Author.Needs.{needs}
+use Rattle.step_show.proofs.finish_showing_from.Statement.{statement}
+use Rattle.step_show.proofs.finish_showing_from.Tie as tie
+
+mul-has-room : tie.Need-mul-has-room
+mul-has-room c = search needs
+
+add-has-room : tie.Need-add-has-room
+add-has-room c = search needs
+
+has-room-requires : tie.Need-has-room-requires
+has-room-requires c κs = search needs
+
+place-requires : tie.Need-place-requires
+place-requires c κs = search needs
+
+put-event-requires : tie.Need-put-event-requires
+put-event-requires c κs = search needs
+
+show-requires : tie.Need-show-requires
+show-requires c κs = search needs
+
+put-header-requires : tie.Need-put-header-requires
+put-header-requires c κs = search needs
+
+same-length : tie.Need-same-length
+same-length c = search needs
+
+same-length-2 : tie.Need-same-length-2
+same-length-2 c = search needs
+
+abbrev start : tie.After-has-room → tie.Start
+start c = c .before .before .before .before
+
+returns : tie.Need-returns
+returns c =
+    let headed = c .before .before in
+    let shown = headed .before .before .before .before in
+    let put = shown .before .before .before .before .before in
+    let placed = put .before .before in
+    let asked = placed .before .before in
+    let a = start asked .args in
+    showing-finishes (now (a .store)) (now (a .events)) (a .at) (a .event) (a .header) (now (a .slots)) 0 (a .n) (asked .has-room .result) (asked .has-room .ensures)
+    (placed .before .if1 .taken) (placed .place .ensures) (put .put-event .ensures) (shown .show .ensures) (headed .put-header .ensures .holds)
+
+returns-2 : tie.Need-returns-2
+returns-2 c =
+    let asked = c .before in
+    let a = start asked .args in
+    showing-full (now (a .store)) (now (a .events)) (a .at) (a .event) (a .header) (now (a .slots)) 0 (a .n) (asked .has-room .result) (asked .has-room .ensures) (c .if1 .left)
+
+pub finish-showing-from-spec : {M : Type 1} → statement M
+finish-showing-from-spec =
+    tie.close
+    (tie.spec
+    mul-has-room
+    add-has-room
+    has-room-requires
+    place-requires
+    put-event-requires
+    show-requires
+    put-header-requires
+    same-length
+    same-length-2
+    returns
+    returns-2)

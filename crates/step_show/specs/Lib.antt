@@ -1,0 +1,2 @@
+-- What is shown with argument values.
+pub mod Showing

@@ -1,0 +1,4 @@
+-- Reading and writing slots, slots that stand in bytes, and their bytes.
+pub mod SlotReads
+pub mod SlotLaws
+pub mod SlotBytes

@@ -1,0 +1,26 @@
+-- Laws of the steppers' definitions, bottom up.
+pub mod Lists
+pub mod Standing
+pub mod Landing
+pub mod SourceLands
+pub mod LinearLands
+pub mod Projects
+pub mod Slots
+pub mod Stored
+pub mod Scans
+pub mod OneToOne
+pub mod Growing
+pub mod Anywhere
+pub mod Representable
+pub mod SourceKeeps
+pub mod LinearKeeps
+pub mod NeverStops
+pub mod Direct
+pub mod EventLaws
+pub mod Sound
+pub mod Reached
+pub mod Making
+pub mod Stepping
+pub mod AnyStore
+pub mod Moving
+pub mod Worked

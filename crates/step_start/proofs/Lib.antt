@@ -1,0 +1,3 @@
+-- The laws of a start.
+pub mod BeginLaws
+pub mod StartLaws

@@ -1,0 +1,2 @@
+-- What is read for a Call.
+pub mod Calling

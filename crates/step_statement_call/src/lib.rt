@@ -1,0 +1,2 @@
+// Call, a step of either machine.
+pub mod call;

@@ -1,0 +1,2 @@
+-- What is read and written for a Create.
+pub mod Creating

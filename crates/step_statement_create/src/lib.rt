@@ -1,0 +1,2 @@
+// Create, a step of either machine.
+pub mod create;

@@ -1,0 +1,3 @@
+-- The laws of Exit, and of the numbers of cells.
+pub mod CellNumbers
+pub mod ExitLaws

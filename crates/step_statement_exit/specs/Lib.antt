@@ -1,0 +1,2 @@
+-- What an Exit shows.
+pub mod Shown

@@ -1,0 +1,2 @@
+// Exit, a step of either machine.
+pub mod exit;

@@ -1,0 +1,2 @@
+-- The laws of IfC.
+pub mod IfCLaws

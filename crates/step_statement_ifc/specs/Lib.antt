@@ -1,0 +1,2 @@
+-- Which branch an IfC takes.
+pub mod Choices

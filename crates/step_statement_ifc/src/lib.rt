@@ -1,0 +1,2 @@
+// IfC, a step of either machine.
+pub mod ifc;

@@ -1,0 +1,2 @@
+-- What an Invoke finds and what it writes.
+pub mod Invoking

@@ -1,0 +1,2 @@
+// Invoke, a step of either machine.
+pub mod invoke;

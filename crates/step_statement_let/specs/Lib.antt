@@ -1,0 +1,2 @@
+-- What a Let writes.
+pub mod Letting

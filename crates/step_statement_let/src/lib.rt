@@ -1,0 +1,2 @@
+// Let, a step of either machine.
+pub mod let_;

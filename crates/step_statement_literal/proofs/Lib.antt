@@ -1,0 +1,2 @@
+-- The laws of Literal.
+pub mod LiteralLaws

@@ -1,0 +1,2 @@
+// Literal, a step of either machine.
+pub mod literal;

@@ -1,0 +1,2 @@
+-- The laws of Op.
+pub mod OpLaws

@@ -1,0 +1,2 @@
+// Op, a step of either machine.
+pub mod op;

@@ -1,0 +1,2 @@
+-- The laws of PrintI64.
+pub mod PrintLaws

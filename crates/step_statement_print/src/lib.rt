@@ -1,0 +1,2 @@
+// PrintI64, a step of either machine.
+pub mod print;

@@ -1,0 +1,2 @@
+-- What a Substitute writes.
+pub mod Substituting

@@ -1,0 +1,2 @@
+// Substitute, a step of the linear machine.
+pub mod substitute;

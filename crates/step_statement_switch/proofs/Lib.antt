@@ -1,0 +1,5 @@
+-- The laws of Switch.
+pub mod TheSwitch
+pub mod SwitchLaws
+pub mod SourceLaws
+pub mod LinearLaws

@@ -1,0 +1,2 @@
+-- What is read and written for a Switch.
+pub mod Switching

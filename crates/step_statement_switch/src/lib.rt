@@ -1,0 +1,2 @@
+// Switch, a step of either machine.
+pub mod switch;

@@ -1,0 +1,2 @@
+-- The laws of a step that leaves cells and environment as they are.
+pub mod StayingLaws

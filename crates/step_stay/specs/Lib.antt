@@ -1,0 +1,2 @@
+-- A step that leaves cells and environment as they are.
+pub mod Staying

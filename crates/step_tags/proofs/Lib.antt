@@ -1,0 +1,2 @@
+-- Where the tag of a record stands.
+pub mod TagLaws

@@ -1,0 +1,2 @@
+-- The tag of a record.
+pub mod Tags

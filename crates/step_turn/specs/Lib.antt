@@ -1,0 +1,2 @@
+-- One turn of a stepper.
+pub mod Turning

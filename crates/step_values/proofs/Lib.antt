@@ -1,0 +1,2 @@
+-- The laws of a start's values.
+pub mod ValueLaws

@@ -1,0 +1,2 @@
+-- The values of a start, as code tests them.
+pub mod Values

@@ -1,0 +1,3 @@
+-- The laws of what is written for a step.
+pub mod Regions
+pub mod FinishLaws

@@ -1,0 +1,2 @@
+-- What is written for a step.
+pub mod Writing
