@@ -1,5 +1,5 @@
 //! The library against the oracle: number, length, max_id and every byte of every buffer, on the same
-//! cases.
+//! cases; and its steppers, in the same calls.
 
 mod accepted;
 mod compare;
@@ -8,6 +8,7 @@ mod guarded;
 pub mod pages;
 mod run;
 mod stack;
+pub mod stepping;
 pub mod subject;
 
 pub use accepted::Accepted;

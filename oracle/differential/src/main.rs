@@ -1,12 +1,14 @@
 //! `differential [--cases N] [--seed S] [--first I] [--threads T] [--save FILE] [--image FILE]
-//! [--stack KIB] [--show I]`
+//! [--stack KIB] [--show I] [--calls N]`
 //!
 //! Compares the library with the oracle on N cases. Prints the seed, the cases by answer and the
 //! mismatches; with a mismatch the exit status is 1 and the smallest failing image is saved.
 //! `--image` compares on the image in that file only. `--stack` makes calls on a thread with so many
-//! KiB of stack instead, and `--show` prints the image of one case in hexadecimal.
+//! KiB of stack instead, and `--show` prints the image of one case in hexadecimal. `--calls` compares the
+//! steppers instead, in so many calls; `--first` is then a session, and the smallest failing image is saved
+//! with the store before the call beside it.
 
-use differential::{Report, calls_with_stack, run, subject, watch_for_faults};
+use differential::{Report, calls_with_stack, run, stepping, subject, watch_for_faults};
 use generators::cases::Cases;
 
 use std::process::ExitCode;
@@ -25,6 +27,7 @@ struct Options {
     image: Option<Vec<u8>>,
     stack: Option<u64>,
     show: Option<u64>,
+    calls: Option<u64>,
 }
 
 fn options() -> Result<Options, String> {
@@ -37,6 +40,7 @@ fn options() -> Result<Options, String> {
         image: None,
         stack: None,
         show: None,
+        calls: None,
     };
     let mut words = env::args().skip(1);
     while let Some(option) = words.next() {
@@ -58,6 +62,7 @@ fn options() -> Result<Options, String> {
             }
             "--stack" => options.stack = Some(number()?),
             "--show" => options.show = Some(number()?),
+            "--calls" => options.calls = Some(number()?),
             _ => return Err(format!("unknown option {option}")),
         }
     }
@@ -72,6 +77,9 @@ fn main() -> ExitCode {
             return ExitCode::from(2);
         }
     };
+    if let Some(calls) = options.calls {
+        return compare_steppers(&options, calls);
+    }
     let cases = match &options.image {
         Some(image) => Cases::of_image(options.seed, image.clone()),
         None => Cases::new(options.seed),
@@ -121,6 +129,69 @@ fn main() -> ExitCode {
         }
     }
     ExitCode::FAILURE
+}
+
+fn compare_steppers(options: &Options, calls: u64) -> ExitCode {
+    println!("subject: {}", stepping::LINKED.name);
+    println!(
+        "seed {}, {calls} calls in sessions of {} from {}, {} threads",
+        options.seed,
+        stepping::CALLS,
+        options.first,
+        options.threads
+    );
+    let sessions = stepping::Sessions {
+        seed: options.seed,
+        first: options.first,
+        calls,
+        image: options.image.clone(),
+    };
+    watch_for_faults();
+    let begun = Instant::now();
+    let report = stepping::run(stepping::LINKED, &sessions, options.threads);
+    print_steppers(&report, begun.elapsed());
+    let Some(failing) = &report.smallest else {
+        return ExitCode::SUCCESS;
+    };
+    let store = format!("{}.store", options.save);
+    let saved =
+        fs::write(&options.save, &failing.image).and_then(|()| fs::write(&store, &failing.store));
+    match saved {
+        Ok(()) => println!(
+            "smallest failing call: session {}, {}; saved as {} and {store}",
+            failing.session, failing.what, options.save
+        ),
+        Err(error) => println!("{} was not saved: {error}", options.save),
+    }
+    ExitCode::FAILURE
+}
+
+fn print_steppers(report: &stepping::Report, time: Duration) {
+    println!("calls by answer:");
+    print!("{:>13}", "");
+    (0..report.answers[0].len()).for_each(|number| print!("{number:>8}"));
+    println!();
+    let names = ["source start", "source step", "linear start", "linear step"];
+    for (name, answers) in names.iter().zip(&report.answers) {
+        print!("{name:>13}");
+        answers.iter().for_each(|count| print!("{count:>8}"));
+        println!();
+    }
+    let [ended, stopped, stuck] = report.ends;
+    println!(
+        "{} steps and {} event bytes; calls that came to an end: {ended} ended, {stopped} stopped, {stuck} stuck",
+        report.steps, report.event_bytes
+    );
+    let [passed, forged] = report.forged;
+    println!("forged stores: {forged}, of which {passed} are those of a state");
+    println!(
+        "{} calls in {} sessions, {:.1} s, {} mismatches",
+        report.calls,
+        report.sessions,
+        time.as_secs_f64(),
+        report.mismatches
+    );
+    report.first.iter().for_each(|line| println!("  {line}"));
 }
 
 fn print(report: &Report, time: Duration) {

@@ -4,10 +4,9 @@
 use crate::boundaries::{self, Call};
 use crate::changes::Changes;
 use crate::rng::Rng;
-use crate::{build, damage, large, small, typed, wild};
+use crate::{build, damage, large, linear, small, typed, wild};
 use reference::image::order;
 use reference::oracle::Oracle;
-use reference::syntax::Prog;
 
 pub struct Cases {
     seed: u64,
@@ -85,21 +84,13 @@ fn generated(rng: &mut Rng) -> Vec<u8> {
         wild::program(rng)
     };
     if rng.chance(2) {
-        prog = linearized(prog);
+        // so that Substitutes and environments are read too
+        prog = linear::linearized(prog);
     }
     if rng.chance(8) {
         build::image(&prog)
     } else {
         damage::image(rng, &prog)
-    }
-}
-
-/// What the pass gives where it accepts, so that Substitutes and environments are read too.
-fn linearized(prog: Prog) -> Prog {
-    let oracle = Oracle::new(&build::image(&prog));
-    match (oracle.needed(), oracle.linearized()) {
-        (Ok(_), Ok(linear)) => linear.clone(),
-        _ => prog,
     }
 }
 

@@ -30,7 +30,7 @@ pub fn image(rng: &mut Rng, prog: &Prog) -> Vec<u8> {
     }
 }
 
-fn frame_fits(frame: &Frame) -> bool {
+pub(crate) fn frame_fits(frame: &Frame) -> bool {
     frames::image_length(&frame.records) <= LARGEST
 }
 
