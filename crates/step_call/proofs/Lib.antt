@@ -1,3 +1,5 @@
--- The laws of a stepper's calls.
+-- The laws of a call for steps.
 pub mod OpenedState
-pub mod SayingLaws
+pub mod CallLaws
+pub mod ForgedLaws
+pub mod OnLaws

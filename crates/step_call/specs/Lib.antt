@@ -1,2 +1,2 @@
--- What a stepper's call says.
-pub mod Saying
+-- Steps on an image, and what a call then says.
+pub mod Stepping

@@ -24,29 +24,16 @@ use Rattle.step_write.specs.declared.Made.the-variants.{Nothing, Full, Step}
 use Rattle.step_rule.specs.declared.Stepper.{Stepper}
 use Rattle.step_rule.specs.Rules.{Makes, no-step, no-room, one-step}
 use Rattle.step_turn.specs.Turning.{Living, Lives, Advances}
-use Rattle.step_turn.proofs.TurnLaws.{MadeStep, made-step, next-living}
+use Rattle.step_turn.proofs.Turns.{NoStep, made-nothing, NoRoom, made-full, MadeStep, made-step}
+use Rattle.step_turn.proofs.TurnLaws.{next-living}
 use Rattle.step_run.specs.declared.Ran.{Ran}
 use Rattle.step_run.specs.Runs.{Did, Runs}
 use Rattle.step_run.proofs.RunLaws.{preceded, Running, running-none, same-events, running-all, running-none-left, running-full, running-next}
 
--- what becomes of a turn in which no step is made
-record NoStep (store events : List ℕ) (o : Option Stepped) (store′ events′ : List ℕ) : Type 0 where
-  none-is : o ≡ none
-  store-same : store′ ≡ store
-  events-same : events′ ≡ events
-
-made-nothing : {store events : List ℕ} {at : ℕ} {o : Option Stepped} {store′ events′ : List ℕ} → Makes store events at o store′ events′ Nothing → NoStep store events o store′ events′
-made-nothing no-step = record { none-is = refl; store-same = refl; events-same = refl }
-
-record NoRoom (store events : List ℕ) (at : ℕ) (o : Option Stepped) (store′ events′ : List ℕ) : Type 0 where
-  what : Stepped
-  is : o ≡ some what
-  room : hasRoom what store (length events - at) ≡ false
-  store-same : store′ ≡ store
-  events-same : events′ ≡ events
-
-made-full : {store events : List ℕ} {at : ℕ} {o : Option Stepped} {store′ events′ : List ℕ} → Makes store events at o store′ events′ Full → NoRoom store events at o store′ events′
-made-full (no-room {r = r} e) = record { what = r; is = refl; room = e; store-same = refl; events-same = refl }
+-- a turn by what it answered
+pub advances-as : {M : Machine} {stepper : Stepper} {bytes store events : List ℕ} {h : Header} {at : ℕ} {store′ events′ : List ℕ} {m k : Made} → Advances M stepper bytes store events h at store′ events′ m
+    → m ≡ k → Advances M stepper bytes store events h at store′ events′ k
+advances-as {M} {stepper} {bytes} {store} {events} {h} {at} {store′} {events′} a e = subst (Advances M stepper bytes store events h at store′ events′) e a
 
 -- where a call ends
 did-as : {M : Machine} {P : Prog} {n : ℕ} {first : Located} {store₀ events₀ : List ℕ} {i : ℕ} {l : Located} {store events : List ℕ} {at : ℕ} {shown : List ℕ} {f : Bool} {store′ events′ : List ℕ} {k : ℕ}

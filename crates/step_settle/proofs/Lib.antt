@@ -1,2 +1,3 @@
 -- The laws of the stopped flag.
 pub mod SettleLaws
+pub mod Reading

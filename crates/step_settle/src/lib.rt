@@ -11,8 +11,8 @@ ghost use Rattle.step_places.specs.Ends.{Ends};
 ghost use Rattle.step_rule.specs.Rules.{machineIn};
 ghost use Rattle.step_settle.specs.Settling.{stopping, Settles};
 
-// Sets the flag, in the store and in the header.
-fn stop(store: &mut [u8], header: Header) -> Header
+// The flag set, in the store and in the header.
+pub fn stop(store: &mut [u8], header: Header) -> Header
     requires { ⌜ 64 ≤ length (now store) ⌝ }
     ensures { λ r. ⌜ (now (store .exit) ≡ set (now (store .entry)) 5 1) × (r ≡ stopping header) ⌝ }
 {

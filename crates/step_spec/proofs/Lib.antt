@@ -23,4 +23,3 @@ pub mod Making
 pub mod Stepping
 pub mod AnyStore
 pub mod Moving
-pub mod Worked

@@ -1,2 +1,4 @@
 -- The laws of one turn.
+pub mod Turns
 pub mod TurnLaws
+pub mod RestLaws

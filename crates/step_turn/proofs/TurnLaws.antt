@@ -35,23 +35,7 @@ use Rattle.step_rule.proofs.Views.{views}
 use Rattle.step_rule.proofs.Statements.{placed-at}
 use Rattle.step_settle.specs.Settling.{flagged, Settles}
 use Rattle.step_turn.specs.Turning.{Living}
-
-flag-length : (b : Bool) (l : Located) → length (storeBytes (flagged b l)) ≡ length (storeBytes l)
-unfolding storeBytes rawOf
-flag-length b l = refl
-
--- a step that was made
-pub record MadeStep (store events : List ℕ) (at : ℕ) (o : Option Stepped) (store′ events′ : List ℕ) (h : Header) (n : ℕ) : Type 0 where
-  pub what : Stepped
-  pub is : o ≡ some what
-  pub room : hasRoom what store (length events - at) ≡ true
-  pub wrote : store′ ≡ sets store 0 (storeBytes (what .1))
-  pub showed : events′ ≡ sets events at (shownBytes (what .0))
-  pub heads : tupleOf h ≡ headerOf (rawOf (what .1))
-  pub place : n ≡ at + length (shownBytes (what .0))
-
-pub made-step : {store events : List ℕ} {at : ℕ} {o : Option Stepped} {store′ events′ : List ℕ} {h : Header} {n : ℕ} → Makes store events at o store′ events′ (Step h n) → MadeStep store events at o store′ events′ h n
-made-step (one-step {r = r} a b c d e) = record { what = r; is = refl; room = a; wrote = b; showed = c; heads = d; place = e }
+use Rattle.step_turn.proofs.Turns.{flag-length, MadeStep, made-step}
 
 module _ {M : Machine} (lawful : Lawful M) {P : Prog} {stepper : Stepper} {bytes store : List ℕ} {h : Header} {l : Located} (v : Living M P stepper bytes store h l) where
   sound : Sound (v .readable .w) (v .readable .narrow) P l
@@ -81,6 +65,29 @@ module _ {M : Machine} (lawful : Lawful M) {P : Prog} {stepper : Stepper} {bytes
       let o = v .readable in
       written (o .w) (o .narrow) M lawful P (o .shallow) (o .defs) (o .few) noStart (going′ (r .1)) (next-sound r e) store k (v .short)
 
+  -- .. with the header that it answered
+  made-reads : {events store₁ events₁ : List ℕ} {at n : ℕ} {h₁ : Header} (r : Stepped) → locatedStep M P l ≡ some r → MadeStep store events at (some (r .0, going′ (r .1))) store₁ events₁ h₁ n
+      → Reads P store₁ h₁ (going′ (r .1))
+  made-reads {events} {store₁} {events₁} {at} r e m =
+      let l₁ = going′ (r .1) in
+      let q : m .what ≡ (r .0, l₁) = cc (m .is) in
+      let k : hasRoom (r .0, l₁) store (length events - at) ≡ true = ap (λ (z : Stepped). hasRoom z store (length events - at)) (sym q) ∙ m .room in
+      let room : length (storeBytes l₁) ≤ length store = leb-true _ _ (and-left (leb (length (storeBytes l₁)) (length store)) (leb (length (shownBytes (r .0))) (length events - at)) k) in
+      let wrote : store₁ ≡ sets store 0 (storeBytes l₁) = m .wrote ∙ ap (λ (z : Stepped). sets store 0 (storeBytes (z .1))) q in
+      record { read = ap (stateFrom P) wrote ∙ rests r e room; heads = m .heads ∙ ap (λ (z : Stepped). headerOf (rawOf (z .1))) q }
+
+  -- what a rule wrote is a state
+  pub record Rests (store₁ : List ℕ) (h₁ : Header) : Type 0 where
+    pub state : Located
+    pub reads : Reads P store₁ h₁ state
+
+  pub made-rests : {events store₁ events₁ : List ℕ} {at n : ℕ} {h₁ : Header} → Makes store events at (resting (locatedStep M P l)) store₁ events₁ (Step h₁ n) → Rests store₁ h₁
+  made-rests {events} {store₁} {events₁} {at} {n} {h₁} m = go (locatedStep M P l) refl (made-step m)
+    where
+      go : (o : Option Stepped) → locatedStep M P l ≡ o → MadeStep store events at (resting o) store₁ events₁ h₁ n → Rests store₁ h₁
+      go none e k = let z : _≡_ {A = ℕ} 0 1 = cc (k .is) in absurd (omega arith)
+      go (some r) e k = record { state = going′ (r .1); reads = made-reads r e k }
+
   module _ (s : l .hasStopped ≡ false) {events store₁ store₂ events₁ : List ℕ} {at n : ℕ} {h₁ h₂ : Header} (w : Settles M stepper bytes store₁ h₁ store₂ h₂) where
     settled : (r : Stepped) → locatedStep M P l ≡ some r → MadeStep store events at (some (r .0, going′ (r .1))) store₁ events₁ h₁ n → Makes store events at (locatedStep M P l) store₂ events₁ (Step h₂ n)
     unfolding project
@@ -90,7 +97,7 @@ module _ {M : Machine} (lawful : Lawful M) {P : Prog} {stepper : Stepper} {bytes
         let k : hasRoom (r .0, l₁) store (length events - at) ≡ true = ap (λ (z : Stepped). hasRoom z store (length events - at)) (sym q) ∙ m .room in
         let room : length (storeBytes l₁) ≤ length store = leb-true _ _ (and-left (leb (length (storeBytes l₁)) (length store)) (leb (length (shownBytes (r .0))) (length events - at)) k) in
         let wrote : store₁ ≡ sets store 0 (storeBytes l₁) = m .wrote ∙ ap (λ (z : Stepped). sets store 0 (storeBytes (z .1))) q in
-        let reads : Reads P store₁ h₁ l₁ = record { read = ap (stateFrom P) wrote ∙ rests r e room; heads = m .heads ∙ ap (λ (z : Stepped). headerOf (rawOf (z .1))) q } in
+        let reads : Reads P store₁ h₁ l₁ = made-reads r e m in
         let f = w .settles P l₁ (v .program) reads refl in
         let b = isStop (M .step P (project P l₁)) in
         let same : flagged b l₁ ≡ r .1 = flag-back r e in

@@ -1,4 +1,5 @@
-use mathlib.Core.Path.{_≡_, refl, sym, ap, _∙_}
+-- `begin` meets its contract. Assumes nothing.
+use mathlib.Core.Path.{refl, ap, _∙_}
 use mathlib.Core.List.{List}
 use Prim.Native.Nat.{ℕ, _*_}
 use native.Mathlib.Omega.{arith}
@@ -17,11 +18,6 @@ use Rattle.step_start.proofs.BeginLaws.{copied-slots, begun-bytes}
 use borrow.Author.Needs.{needs}
 use Rattle.step_start.proofs.begin.Statement.{statement}
 use Rattle.step_start.proofs.begin.Tie as tie
-use Rattle.step_start.proofs.begin.Reads as reads
-use Rattle.step_start.proofs.begin.Lts as lts
-use Rattle.image_write_bytes.proofs.bytes.copy.Reads as copy-reads
-use Rattle.step_gather.proofs.rename.Reads as rename-reads
-use Rattle.step_header.proofs.put_header.Reads as put-header-reads
 
 abbrev start : tie.After-copy → tie.Start
 start c = c .before .before .before .before .before
@@ -39,7 +35,9 @@ rename-requires c κs =
     let a = s .args in
     let p = s .pre in
     let e = copied-slots (now (a .store)) (now (a .values)) (a .row .len) (p .1 .0) (p .1 .1 .0) (p .1 .1 .1) in
-    (p .0, (omega (arith, p .1 .1 .0, ap length (k .copy .ensures .holds), length-sets (now (a .store)) 64 (take (16 * a .row .len) (drop 0 (now (a .values))))), ap (λ (z : List ℕ). allSlots (slotsAt z 64 (a .row .len))) (k .copy .ensures .holds) ∙ (ap allSlots e ∙ p .1 .1 .1)))
+    let w = k .copy .ensures .holds in
+    let n = length-sets (now (a .store)) 64 (take (16 * a .row .len) (drop 0 (now (a .values)))) in
+    (p .0, (omega (arith, p .1 .1 .0, ap length w, n), ap (λ (z : List ℕ). allSlots (slotsAt z 64 (a .row .len))) w ∙ (ap allSlots e ∙ p .1 .1 .1)))
 
 put-header-requires : tie.Need-put-header-requires
 put-header-requires c κs = search needs

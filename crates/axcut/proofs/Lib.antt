@@ -1,0 +1,2 @@
+-- What the exported functions of the steppers report.
+pub mod StepLaws

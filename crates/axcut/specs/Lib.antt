@@ -1,0 +1,2 @@
+-- What the exported functions report.
+pub mod Steps

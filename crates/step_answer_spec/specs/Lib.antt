@@ -1,0 +1,2 @@
+-- What a stepper's call answers.
+pub mod Saying

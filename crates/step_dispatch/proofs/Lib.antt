@@ -1,0 +1,2 @@
+-- The laws of the dispatch.
+pub mod NoRule

@@ -1,0 +1,2 @@
+-- One program stepped through both machines, every byte.
+pub mod Worked

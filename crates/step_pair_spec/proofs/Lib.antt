@@ -1,0 +1,3 @@
+-- The two steppers show the same events.
+pub mod Runs
+pub mod Pairing

@@ -1,0 +1,2 @@
+-- What a start does.
+pub mod Starting
