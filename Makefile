@@ -2,8 +2,11 @@
 .PHONY: run test tries tool library bindings c-example examples differential bench
 
 example = examples/axle
+# Four pressures, percent, and the report as an outside number.
+start = 800 810 600 800 10 @7
 program = target/bin/tool_command
 archive = target/staticlib/libaxcut.a
+c_compiler = $(CC) -std=c99 -Wall -Wextra -pedantic -Werror -Iinclude
 
 sources := crates.txt $(shell find crates -name '*.rt' -o -name '*.antt')
 library_sources := $(filter-out crates/try_% crates/tool_%,$(sources))
@@ -15,7 +18,7 @@ run: tool
 test:
 	.ci/run
 
-# The command by its tests, the Rust crate and the C example. What is missing of the two compilers is installed.
+# The command by its tests, the Rust crate and the C examples. What is missing of the two compilers is installed.
 tries: tool
 	tests/tool
 	command -v cc >/dev/null || { apt-get update && apt-get install -y gcc; }
@@ -44,17 +47,21 @@ $(archive): $(library_sources)
 bindings: $(archive)
 	cargo test --offline --manifest-path bindings/rust/Cargo.toml
 
-# The C example, on an example program.
+# The C examples, on an example program: it is linearized, and shows the same events before and after that.
 c-example: $(archive)
 	mkdir -p target/c
-	$(CC) -std=c99 -Wall -Wextra -pedantic -Werror -Iinclude -o target/c/linearize examples/c/linearize.c $(archive)
+	$(c_compiler) -o target/c/linearize examples/c/linearize.c $(archive)
 	target/c/linearize $(example)/program.axc target/c/linear.axc
 	cmp target/c/linear.axc $(example)/linear.axc
+	$(c_compiler) -o target/c/step examples/c/step.c $(archive)
+	target/c/step source $(example)/program.axc $(start) > target/c/before.txt
+	target/c/step linear target/c/linear.axc $(start) > target/c/after.txt
+	cmp target/c/before.txt target/c/after.txt
 
 # Every file of examples/ anew, from the texts.
 examples: tool
 	examples/make
 
-# The library and the Rust on the same images: time and stack.
+# The library and the Rust on the same images, its steppers and the oracle's machines on the same runs: time and stack.
 bench: $(archive)
 	cd oracle && cargo run --release --offline -p bench --features library

@@ -1,4 +1,4 @@
-//! AxCut's linearization over binary program images, proved in Rattle.
+//! AxCut's linearization over binary program images, and steppers that run such images, proved in Rattle.
 //!
 //! A function takes an image and gives what was asked for, or a [`Refusal`], the question whose answer is no:
 //!
@@ -13,14 +13,34 @@
 //! # Ok::<(), axcut::Refusal>(())
 //! ```
 //!
-//! The functions with `_into` write to the caller's buffer and take no memory but the stack: less than
-//! 640 KiB of it, as every call. Every slice is allowed; what the library excludes, null pointers and
-//! memory that overlaps, a slice excludes by itself.
+//! A run is stepped by its [`Machine`], over a store and an event buffer of the caller's, or as a [`Run`],
+//! which has its own. Program and linearized program show the same events:
+//!
+//! ```
+//! use axcut::{Given, Machine, Run};
+//! let image = include_bytes!("../../../examples/handset/program.axc");
+//! let linear = axcut::linearize(image)?.bytes;
+//! let given = [800, 760, 20].map(Given::Integer);
+//! let before = Run::start(Machine::Source, image, 0, &given)?.step(1_000);
+//! let after = Run::start(Machine::Linear, &linear, 0, &given)?.step(1_000);
+//! assert_eq!(before.events, after.events);
+//! # Ok::<(), axcut::Refusal>(())
+//! ```
+//!
+//! The functions with `_into` and the calls of a [`Machine`] write to the caller's buffers and take no
+//! memory but the stack: less than 640 KiB of it, as every call. Every slice is allowed; what the library
+//! excludes, null pointers and memory that overlaps, a slice excludes by itself.
 
+mod event;
 mod library;
+mod machine;
 mod refusal;
+mod run;
 
+pub use event::{events, Event, Given, Value};
+pub use machine::{values, Header, Machine, Stepped, SLOT, STORE_HEADER};
 pub use refusal::Refusal;
+pub use run::{Run, Shown};
 
 /// The bytes of the largest image: a buffer of this size has room for every output and annotation.
 pub const LARGEST_IMAGE: usize = 65_535;

@@ -3,7 +3,7 @@
 use std::error::Error;
 use std::fmt;
 
-/// Why an image was refused: the question whose answer is no. The first no over the whole image decides.
+/// Why a call was refused: the question whose answer is no. The first no over the whole image decides.
 #[derive(Debug, Clone, Copy, PartialEq, Eq, Hash, PartialOrd, Ord)]
 #[repr(u32)]
 pub enum Refusal {
@@ -34,10 +34,16 @@ pub enum Refusal {
     Room = 12,
     /// Is the record below N and one with an annotation (Let, Switch, Create, Literal, Op, PrintI64)?
     Place = 13,
+    /// Of a start: is there such a definition, and is there for each of its parameters an integer or an
+    /// outside number up to 255? Of steps: is the store a state of this image, of 64 bytes or more?
+    State = 14,
+    /// Does the first state fit the store, or the state after the next step the store and its event what
+    /// is left of the event buffer?
+    Space = 15,
 }
 
 /// Each question with its words, in the order of the numbers.
-const QUESTIONS: [(Refusal, &str); 13] = [
+const QUESTIONS: [(Refusal, &str); 15] = [
     (Refusal::Size, "Has it 8 to 65,535 bytes?"),
     (Refusal::LayoutNumber, "Is the layout number 1?"),
     (
@@ -77,6 +83,14 @@ const QUESTIONS: [(Refusal, &str); 13] = [
     (
         Refusal::Place,
         "Is the record below N and one with an annotation (Let, Switch, Create, Literal, Op, PrintI64)?",
+    ),
+    (
+        Refusal::State,
+        "Of a start: is there such a definition, and is there for each of its parameters an integer or an outside number up to 255? Of steps: is the store a state of this image, of 64 bytes or more?",
+    ),
+    (
+        Refusal::Space,
+        "Does the first state fit the store, or the state after the next step the store and its event what is left of the event buffer?",
     ),
 ];
 

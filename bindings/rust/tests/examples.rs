@@ -1,8 +1,9 @@
 //! The wrappers over the programs of `examples/`.
 
+mod files;
+
 use axcut::{Refusal, Written, LARGEST_IMAGE};
-use std::fs;
-use std::path::Path;
+use files::file;
 
 const EXAMPLES: [&str; 6] = [
     "axle",
@@ -12,11 +13,6 @@ const EXAMPLES: [&str; 6] = [
     "timeout",
     "worked",
 ];
-
-fn file(example: &str, name: &str) -> Vec<u8> {
-    let folder = Path::new(env!("CARGO_MANIFEST_DIR")).join("../../examples");
-    fs::read(folder.join(example).join(name)).unwrap()
-}
 
 fn max_id(image: &[u8]) -> u32 {
     u16::from_le_bytes([image[4], image[5]]).into()
@@ -105,7 +101,7 @@ fn refusals_have_words() {
     assert_eq!(axcut::read(&vec![0; LARGEST_IMAGE + 1]), Err(Refusal::Size));
     let words = "refused 1: Has it 8 to 65,535 bytes?";
     assert_eq!(Refusal::Size.to_string(), words);
-    for number in 1..=13 {
+    for number in 1..=15 {
         let refusal = Refusal::of_number(number).unwrap();
         assert_eq!(refusal.number(), number);
         assert!(refusal
@@ -113,7 +109,7 @@ fn refusals_have_words() {
             .starts_with(&format!("refused {number}: ")));
     }
     assert_eq!(Refusal::of_number(0), None);
-    assert_eq!(Refusal::of_number(14), None);
+    assert_eq!(Refusal::of_number(16), None);
 }
 
 /// Every cut and every changed byte of an image is answered, and an image that is refused leaves the

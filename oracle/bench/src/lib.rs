@@ -1,4 +1,5 @@
-//! The library and the Rust on the same images: time and stack.
+//! The library and the Rust on the same images, its steppers and the oracle's machines on the same runs:
+//! time and stack.
 
 pub mod contexts;
 pub mod options;
@@ -7,5 +8,6 @@ pub mod report;
 pub mod rounds;
 pub mod sets;
 pub mod stack;
+pub mod steps;
 pub mod table;
 pub mod worst;

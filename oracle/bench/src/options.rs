@@ -1,20 +1,38 @@
 //! The options of the program.
 
 use crate::paths::Path;
-use crate::sets::NAMES;
+use crate::{sets, steps};
 
 #[derive(Debug, Clone, PartialEq, Eq)]
 pub struct Options {
     pub rounds: usize,
     pub seed: u64,
+    /// The sets of images for the pass, and the sets of runs for the steppers.
     pub sets: Vec<&'static str>,
+    pub runs: Vec<&'static str>,
     pub markdown: bool,
     /// Only this path, and nothing else, for a profiler.
-    pub only: Option<Path>,
+    pub only: Option<Only>,
 }
 
-pub const USAGE: &str = "bench [--rounds N] [--set small|medium|large|deep] [--seed S] [--quick] \
-                         [--markdown] [--only linearize|whole|pass|read|check]";
+#[derive(Debug, Clone, Copy, PartialEq, Eq)]
+pub enum Only {
+    /// On the sets of images.
+    Pass(Path),
+    /// On the runs of all statements.
+    Steps(steps::Only),
+}
+
+impl Only {
+    fn of_name(name: &str) -> Option<Only> {
+        let pass = Path::of_name(name).map(Only::Pass);
+        pass.or_else(|| steps::Only::of_name(name).map(Only::Steps))
+    }
+}
+
+pub const USAGE: &str = "bench [--rounds N] [--set small|medium|large|deep|steps|cells|entries|calls] \
+                         [--seed S] [--quick] [--markdown] [--only linearize|whole|pass|read|check|\
+                         source_step|linear_step|source_machine|linear_machine]";
 
 const ROUNDS: usize = 25;
 const QUICK: usize = 3;
@@ -24,47 +42,56 @@ impl Options {
         let mut options = Options {
             rounds: ROUNDS,
             seed: 1,
-            sets: NAMES.to_vec(),
+            sets: Vec::new(),
+            runs: Vec::new(),
             markdown: false,
             only: None,
         };
-        let mut named = Vec::new();
         let mut words = words;
         while let Some(option) = words.next() {
             match option.as_str() {
-                "--quick" => {
-                    options.rounds = QUICK;
-                    continue;
+                "--quick" => options.rounds = QUICK,
+                "--markdown" => options.markdown = true,
+                _ => {
+                    let value = words.next().ok_or(format!("{option} needs a value"))?;
+                    options.set(&option, &value)?;
                 }
-                "--markdown" => {
-                    options.markdown = true;
-                    continue;
-                }
-                _ => {}
-            }
-            let value = words.next().ok_or(format!("{option} needs a value"))?;
-            let number = || {
-                let parsed = value.replace(['_', ','], "").parse::<u64>();
-                parsed.map_err(|error| format!("{option} {value}: {error}"))
-            };
-            match option.as_str() {
-                "--rounds" => options.rounds = number()?.max(1) as usize,
-                "--seed" => options.seed = number()?,
-                "--set" => {
-                    let name = NAMES.into_iter().find(|&name| name == value);
-                    named.push(name.ok_or(format!("no set {value}"))?);
-                }
-                "--only" => {
-                    let path = Path::of_name(&value);
-                    options.only = Some(path.ok_or(format!("no path {value}"))?);
-                }
-                _ => return Err(format!("unknown option {option}")),
             }
         }
-        if !named.is_empty() {
-            options.sets = named;
+        if options.sets.is_empty() && options.runs.is_empty() {
+            options.sets = sets::NAMES.to_vec();
+            options.runs = steps::NAMES.to_vec();
         }
         Ok(options)
+    }
+
+    /// An option with a value.
+    fn set(&mut self, option: &str, value: &str) -> Result<(), String> {
+        let number = || {
+            let parsed = value.replace(['_', ','], "").parse::<u64>();
+            parsed.map_err(|error| format!("{option} {value}: {error}"))
+        };
+        match option {
+            "--rounds" => self.rounds = number()?.max(1) as usize,
+            "--seed" => self.seed = number()?,
+            "--set" => self.add_set(value)?,
+            "--only" => {
+                let only = Only::of_name(value);
+                self.only = Some(only.ok_or(format!("no path {value}"))?);
+            }
+            _ => return Err(format!("unknown option {option}")),
+        }
+        Ok(())
+    }
+
+    fn add_set(&mut self, value: &str) -> Result<(), String> {
+        let find = |names: [&'static str; 4]| names.into_iter().find(|&name| name == value);
+        match (find(sets::NAMES), find(steps::NAMES)) {
+            (Some(set), _) => self.sets.push(set),
+            (_, Some(runs)) => self.runs.push(runs),
+            _ => return Err(format!("no set {value}")),
+        }
+        Ok(())
     }
 }
 
@@ -79,7 +106,9 @@ mod tests {
     #[test]
     fn without_options() {
         let options = read("").unwrap();
-        assert_eq!((options.rounds, options.sets), (25, NAMES.to_vec()));
+        assert_eq!(options.rounds, 25);
+        assert_eq!(options.sets, sets::NAMES);
+        assert_eq!(options.runs, steps::NAMES);
     }
 
     #[test]
@@ -87,9 +116,21 @@ mod tests {
         let options = read("--rounds 1_000 --set deep --set small --markdown --only pass").unwrap();
         assert_eq!(options.rounds, 1_000);
         assert_eq!(options.sets, ["deep", "small"]);
+        assert!(options.runs.is_empty());
         assert!(options.markdown);
-        assert_eq!(options.only, Some(Path::Pass));
+        assert_eq!(options.only, Some(Only::Pass(Path::Pass)));
         assert_eq!(read("--quick").unwrap().rounds, 3);
+    }
+
+    #[test]
+    fn with_options_of_the_steppers() {
+        let options = read("--set cells --set steps --only linear_step").unwrap();
+        assert!(options.sets.is_empty());
+        assert_eq!(options.runs, ["cells", "steps"]);
+        let only = steps::Only::of_name("linear_step").unwrap();
+        assert_eq!(options.only, Some(Only::Steps(only)));
+        let both = read("--set cells --set deep").unwrap();
+        assert_eq!((both.sets, both.runs), (vec!["deep"], vec!["cells"]));
     }
 
     #[test]

@@ -168,7 +168,7 @@ fn answered(call: impl FnOnce(*mut usize, *mut u32) -> u32) -> Given {
     }
 }
 
-fn timed<T>(run: impl FnOnce() -> T) -> Duration {
+pub fn timed<T>(run: impl FnOnce() -> T) -> Duration {
     let begun = Instant::now();
     let given = black_box(run());
     let time = begun.elapsed();

@@ -17,22 +17,18 @@ pub struct Report<'a> {
     pub markdown: bool,
 }
 
+pub fn head(subject: &str, seed: u64, rounds: usize) {
+    println!("subject: {subject}");
+    println!("machine: {}", machine());
+    println!("load before: {}", load());
+    println!("seed {seed}, {rounds} rounds");
+}
+
+pub fn foot() {
+    println!("load after: {}", load());
+}
+
 impl Report<'_> {
-    pub fn head(&self, subject: &str, seed: u64, rounds: usize) {
-        println!("subject: {subject}");
-        println!("machine: {}", machine());
-        println!("load before: {}", load());
-        println!("seed {seed}, {rounds} rounds");
-        println!(
-            "Times are ns for each record of the source: for each image the least of the rounds, \
-             summed over the set."
-        );
-    }
-
-    pub fn foot(&self) {
-        println!("load after: {}", load());
-    }
-
     /// What the sets are like.
     pub fn sets(&self) {
         let mut table = Table::new(&[

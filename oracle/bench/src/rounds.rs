@@ -3,24 +3,33 @@
 use crate::paths::{Path, Runner, STEPS};
 use crate::sets::Set;
 
+use std::time::Duration;
+
 /// The first rounds do not count.
-const WARM_UP: usize = 2;
+pub const WARM_UP: usize = 2;
 
 /// The times of each image in the rounds, in ns.
 #[derive(Debug, Clone)]
 pub struct Times(Vec<Vec<u64>>);
 
 impl Times {
-    fn new(images: usize) -> Times {
+    pub fn new(images: usize) -> Times {
         Times(vec![Vec::new(); images])
+    }
+
+    /// One time more of the image at that place.
+    pub fn add(&mut self, place: usize, time: Duration) {
+        self.0[place].push(time.as_nanos() as u64);
+    }
+
+    /// The least time of the image at that place.
+    pub fn least_of(&self, place: usize) -> u64 {
+        *self.0[place].iter().min().expect("one round or more")
     }
 
     /// The least time of each image, summed. Other work on the machine only adds to a time.
     pub fn least(&self) -> u64 {
-        self.0
-            .iter()
-            .map(|times| times.iter().min().expect("one round or more"))
-            .sum()
+        (0..self.0.len()).map(|place| self.least_of(place)).sum()
     }
 
     /// The median time of each image, summed.
@@ -75,10 +84,10 @@ pub fn run(runner: &mut Runner, set: &Set, rounds: usize) -> Timed {
     for round in 0..WARM_UP + rounds {
         let counts = round >= WARM_UP;
         for (path, times) in &mut timed.paths {
-            for (image, of_image) in set.images.iter().zip(&mut times.0) {
-                let time = runner.time(*path, image).as_nanos() as u64;
+            for (place, image) in set.images.iter().enumerate() {
+                let time = runner.time(*path, image);
                 if counts {
-                    of_image.push(time);
+                    times.add(place, time);
                 }
             }
         }
@@ -86,7 +95,7 @@ pub fn run(runner: &mut Runner, set: &Set, rounds: usize) -> Timed {
             let steps = runner.steps(image);
             if counts {
                 for (step, times) in steps.iter().zip(&mut timed.steps) {
-                    times.0[place].push(step.as_nanos() as u64);
+                    times.add(place, *step);
                 }
             }
         }
