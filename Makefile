@@ -25,9 +25,10 @@ tries: tool
 	command -v cargo >/dev/null || { apt-get update && apt-get install -y cargo; }
 	$(MAKE) bindings c-example
 
-# The library against the Rust: 1,300,000 cases.
+# The library against the Rust, 1,300,000 cases; its steppers against the oracle's, 300,000 calls.
 differential: $(archive)
 	cd oracle && cargo run --release --offline -p differential --features library -- --cases 1300000
+	cd oracle && cargo run --release --offline -p differential --features library -- --calls 300000
 
 # The command bin/axcut: proves the program and all below it, builds it and tries it.
 tool: $(program)

@@ -48,7 +48,7 @@ impl Steppers {
     }
 }
 
-#[cfg(feature = "steppers")]
+#[cfg(feature = "library")]
 mod library {
     use super::Steppers;
 
@@ -92,11 +92,11 @@ mod library {
     };
 }
 
-#[cfg(feature = "steppers")]
+#[cfg(feature = "library")]
 pub use library::LINKED;
 
-/// Without the feature `steppers`: the oracle itself.
-#[cfg(not(feature = "steppers"))]
+/// Without the feature `library`: the oracle itself.
+#[cfg(not(feature = "library"))]
 pub const LINKED: Steppers = oracle::ITSELF;
 
 pub mod oracle {
