@@ -2,6 +2,7 @@
 use libc::STDIN_FILENO;
 use try_building::text::byte;
 use try_building::text::double;
+use try_building::text::half;
 use try_building::text::wide;
 use try_building::text::word;
 
@@ -10,6 +11,9 @@ pub const LARGEST: usize = 65536;
 
 // The bytes of a call's head.
 pub const HEAD: usize = 23;
+
+// The functions from this one on are the steppers.
+pub const STEPPERS: usize = 4;
 
 // Fills the buffer with what comes next; false where the input ends before.
 pub fn take(buffer: &mut [u8]) -> bool {
@@ -32,16 +36,20 @@ pub fn at_end() -> bool {
 
 // A call, and the answer that is expected.
 pub struct Call {
-    // 0 reading, 1 the scope check, 2 linearization, 3 annotation.
+    // 0 reading, 1 the scope check, 2 linearization, 3 annotation; 4 and 5 a start and steps of the source machine, 6 and 7 of the linear
+    // one.
     pub function: usize,
-    // The record that is annotated.
+    // The record that is annotated, the definition that is started, or the steps that are asked for.
     pub index: usize,
-    // The length of the lent buffer, and the byte that it is full of before the call.
+    // The length of the lent buffer (of a stepper the store), and the byte that it is full of before the call.
     pub room: usize,
     pub old: u8,
     pub number: usize,
+    // Of a stepper the event bytes and the steps made.
     pub length: usize,
     pub max_id: usize,
+    // How many bytes follow behind those of the length.
+    pub more: usize,
 }
 
 impl Call {
@@ -52,9 +60,15 @@ impl Call {
             room: word(head, 9),
             old: byte(head, 13),
             number: wide(byte(head, 14)),
-            length: word(head, 15),
+            length: half(head, 15),
             max_id: word(head, 19),
+            more: half(head, 17),
         }
+    }
+
+    // Whether it is a start of a stepper.
+    pub fn starts(self) -> bool {
+        self.function == 4 || self.function == 6
     }
 
     // What stands past the length: 11 and 12 set the whole buffer to zero, the others leave it.

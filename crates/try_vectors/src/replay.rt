@@ -1,26 +1,32 @@
 // Making a call again, and what it leaves.
+use crate::bytes::differs;
 use crate::file::Call;
+use try_building::build::plus;
 use try_building::text::holds;
 
 // The lent buffer is a part of an array that goes on for at least 64 bytes.
-const GUARDED: usize = 65600;
+pub const GUARDED: usize = 65600;
 
-// What a call answered, and whether it left its buffer and its image as expected.
+// What a call answered, and what it left.
 pub struct Outcome {
     pub number: usize,
     pub length: usize,
     pub max_id: usize,
-    pub buffer: bool,
+    // The first place at which the lent buffer is not as expected, and of a stepper the same of the event buffer; GUARDED if there is none.
+    pub buffer: usize,
+    pub events: usize,
+    // Whether the image is as it was.
     pub image: bool,
 }
 
 impl Outcome {
-    fn answered(number: u32, length: usize, max_id: u32) -> Outcome {
+    pub fn answered(number: u32, length: usize, max_id: usize) -> Outcome {
         Outcome {
             number: number as usize,
             length,
-            max_id: max_id as usize,
-            buffer: false,
+            max_id,
+            buffer: 0,
+            events: GUARDED,
             image: false,
         }
     }
@@ -29,7 +35,8 @@ impl Outcome {
         self.number == call.number
             && self.length == call.length
             && self.max_id == call.max_id
-            && self.buffer
+            && self.buffer == GUARDED
+            && self.events == GUARDED
             && self.image
     }
 }
@@ -52,27 +59,29 @@ fn asked(call: Call, image: &[u8], array: &mut [u8]) -> Outcome {
     let room = call.room;
     if room <= array.len() {
         let number = ask(call, image, &mut array[0..room], &mut length, &mut max_id);
-        return Outcome::answered(number, length, max_id);
+        return Outcome::answered(number, length, max_id as usize);
     }
-    Outcome::answered(99999, length, max_id)
+    Outcome::answered(99999, length, max_id as usize)
 }
 
-// Whether the buffer and what lies behind it are as expected.
-fn left(call: Call, array: &[u8], first: &[u8]) -> bool {
+// The first place at which the buffer or what lies behind it is not as expected, or the array's length.
+fn left(call: Call, array: &[u8], text: &[u8]) -> usize {
     let room = call.room;
     if room <= array.len() {
-        if holds(&array[0..room], first, call.rest()) {
-            return holds(&array[room..], b"", call.old);
+        let place = differs(&array[0..room], text, call.length, call.rest());
+        if place < room {
+            return place;
         }
+        return plus(room, differs(&array[room..], b"", 0, call.old));
     }
-    false
+    0
 }
 
 // Makes a call, and looks at all that it could have written.
-pub fn replay(call: Call, image: &[u8], kept: &[u8], first: &[u8]) -> Outcome {
+pub fn replay(call: Call, image: &[u8], kept: &[u8], text: &[u8]) -> Outcome {
     let mut array = [call.old; GUARDED];
     let mut seen = asked(call, image, &mut array);
-    seen.buffer = left(call, &array, first);
+    seen.buffer = left(call, &array, text);
     seen.image = holds(image, kept, 0);
     seen
 }

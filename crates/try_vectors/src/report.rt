@@ -1,5 +1,6 @@
 // What is printed.
 use crate::file::Call;
+use crate::replay::GUARDED;
 use crate::replay::Outcome;
 use try_building::show::answer;
 use try_building::show::counted;
@@ -11,7 +12,11 @@ pub fn function(n: usize) {
         0 => say(b"axcut_read"),
         1 => say(b"axcut_check"),
         2 => say(b"axcut_linearize"),
-        _ => say(b"axcut_annotate"),
+        3 => say(b"axcut_annotate"),
+        4 => say(b"axcut_source_start"),
+        5 => say(b"axcut_source_step"),
+        6 => say(b"axcut_linear_start"),
+        _ => say(b"axcut_linear_step"),
     }
 }
 
@@ -23,8 +28,11 @@ pub fn mismatch(image: usize, own: usize, call: Call, seen: Outcome) {
     function(call.function);
     answer(b" answers ", seen.number, seen.length, seen.max_id);
     answer(b", expected ", call.number, call.length, call.max_id);
-    if !seen.buffer {
-        say(b", other bytes in the buffer");
+    if seen.buffer < GUARDED {
+        counted(b", other bytes in the buffer from ", seen.buffer);
+    }
+    if seen.events < GUARDED {
+        counted(b", other bytes in the events from ", seen.events);
     }
     if !seen.image {
         say(b", other bytes in the image");

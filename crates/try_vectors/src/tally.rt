@@ -7,11 +7,13 @@ use try_building::show::counted;
 use try_building::show::line;
 use try_building::show::say;
 
-// The answers are 0 to 13.
-const ANSWERS: usize = 14;
+const FUNCTIONS: usize = 8;
 
-// The answers of the four functions.
-const COUNTS: usize = 56;
+// The answers are 0 to 15.
+const ANSWERS: usize = 16;
+
+// The answers of all functions.
+const COUNTS: usize = 128;
 
 // Counts end at a million.
 fn one_more(n: usize) -> usize {
@@ -20,7 +22,7 @@ fn one_more(n: usize) -> usize {
 
 // Where a call is counted; COUNTS where there is no such function or no such answer.
 fn place(function: usize, answer: usize) -> usize {
-    if function < 4 {
+    if function < FUNCTIONS {
         if answer < ANSWERS {
             return function * ANSWERS + answer;
         }

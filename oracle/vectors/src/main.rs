@@ -8,11 +8,11 @@ fn main() -> ExitCode {
         eprintln!("vectors FILE");
         return ExitCode::from(2);
     };
-    let sample = vectors::sample();
-    if let Err(error) = fs::write(&file, vectors::file(&sample)) {
+    let (sample, sessions) = (vectors::sample(), vectors::sessions());
+    if let Err(error) = fs::write(&file, vectors::file(&sample, &sessions)) {
         eprintln!("{file}: {error}");
         return ExitCode::FAILURE;
     }
-    print!("{}", vectors::summary(&sample));
+    print!("{}", vectors::summary(&sample, &sessions));
     ExitCode::SUCCESS
 }

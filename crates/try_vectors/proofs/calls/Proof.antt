@@ -6,10 +6,10 @@ use Rattle.try_vectors.proofs.calls.Statement.{statement}
 use Rattle.try_vectors.proofs.calls.Tie as tie
 
 abbrev Inv-loop : tie.InvT-loop
-Inv-loop image kept n next₀ counter₀ next counter = counter ≤ n
+Inv-loop image kept left₀ next₀ counter₀ end left next counter = counter ≤ end
 
 abbrev μ-loop : tie.MeasureT-loop
-μ-loop image kept n next₀ counter₀ next counter = n - counter
+μ-loop image kept left₀ next₀ counter₀ end left next counter = end - counter
 
 pub calls-spec : {M : Type 1} → statement M
 calls-spec =
@@ -17,10 +17,18 @@ calls-spec =
     (tie.spec
     Inv-loop
     μ-loop
+    (λ c. search needs)
+    (λ c κs. search needs)
+    (λ c κs. search needs)
+    (λ c. search needs)
+    (λ c. search needs)
+    (λ c κs. search needs)
+    (λ c κs. search needs)
     (λ c. omega arith)
     (λ c. search needs)
     (λ c κs. search needs)
     (λ c. omega arith)
     (λ c. omega arith)
     (λ c. omega arith)
+    (λ c κs. search needs)
     (λ c. search needs))

@@ -6,10 +6,10 @@ use Rattle.try_vectors.proofs.images.Statement.{statement}
 use Rattle.try_vectors.proofs.images.Tie as tie
 
 abbrev Inv-loop : tie.InvT-loop
-Inv-loop n next₀ counter₀ next counter = counter ≤ n
+Inv-loop next₀ counter₀ end next counter = counter ≤ end
 
 abbrev μ-loop : tie.MeasureT-loop
-μ-loop n next₀ counter₀ next counter = n - counter
+μ-loop next₀ counter₀ end next counter = end - counter
 
 pub images-spec : {M : Type 1} → statement M
 images-spec =
@@ -17,6 +17,11 @@ images-spec =
     (tie.spec
     Inv-loop
     μ-loop
+    (λ c. search needs)
+    (λ c κs. search needs)
+    (λ c κs. search needs)
+    (λ c. search needs)
+    (λ c. search needs)
     (λ c κs. search needs)
     (λ c. omega arith)
     (λ c. search needs)
