@@ -2,20 +2,24 @@
 use crate::command;
 use crate::fault;
 use crate::lines::line_of;
+use crate::step_arguments;
 use check::same;
 use try_building::build::plus;
 use try_building::text::byte;
+use try_building::text::hex;
 use try_building::text::number;
 
 pub struct Arguments {
     pub command: usize,
-    // The arguments that name the image, the output and the spellings, 0 where there is none.
-    pub files: [usize; 3],
+    // The arguments that name the image, the output, the spellings and the store, 0 where there is none.
+    pub files: [usize; 4],
     // What is asked for, by the numbers below.
-    pub choices: [bool; 5],
-    // The record that annotate is asked for.
-    pub record: usize,
-    // What the next argument is: a file, by its number, that an option asks for, NO_OPTION, or ANYTHING.
+    pub choices: [bool; 6],
+    // The record that annotate is asked for, the definition that a start is of, or how many steps a run makes.
+    pub number: usize,
+    // The first argument that is a value of a start, or 0.
+    pub values: usize,
+    // What the next argument is: a file, by its number, that an option asks for, or one of those below.
     pub awaited: usize,
     // The first thing wrong, and its argument, or 0.
     pub fault: usize,
@@ -30,7 +34,9 @@ impl Arguments {
 
     pub const NAMES: usize = 2;
 
-    // The choices of dump, of annotate, and whether annotate has its record.
+    pub const STORE: usize = 3;
+
+    // The choices of dump, of annotate and of step, and whether annotate has its record.
     pub const TYPES: usize = 0;
 
     pub const RECORDS: usize = 1;
@@ -41,17 +47,26 @@ impl Arguments {
 
     pub const RECORD: usize = 4;
 
-    // What is awaited, beside the output and the spellings.
-    const ANYTHING: usize = 0;
+    pub const LINEAR: usize = 5;
 
-    const NO_OPTION: usize = 3;
+    // What is awaited, beside the output and the spellings.
+    pub const ANYTHING: usize = 0;
+
+    const NO_OPTION: usize = 4;
+
+    const ACTION: usize = 5;
+
+    pub const NUMBER: usize = 6;
+
+    pub const VALUES: usize = 7;
 
     fn of(command: usize) -> Arguments {
         Arguments {
             command,
-            files: [0; 3],
-            choices: [false; 5],
-            record: 0,
+            files: [0; 4],
+            choices: [false; 6],
+            number: 0,
+            values: 0,
             awaited: Arguments::ANYTHING,
             fault: fault::NONE,
             at: 0,
@@ -59,20 +74,20 @@ impl Arguments {
     }
 
     pub fn file(self, which: usize) -> usize {
-        if which < 3 {
+        if which < 4 {
             return self.files[which];
         }
         0
     }
 
     pub fn has(self, choice: usize) -> bool {
-        if choice < 5 {
+        if choice < 6 {
             return self.choices[choice];
         }
         false
     }
 
-    fn wrong(self, fault: usize, at: usize) -> Arguments {
+    pub fn wrong(self, fault: usize, at: usize) -> Arguments {
         let mut next = self;
         if self.fault == fault::NONE {
             next.fault = fault;
@@ -81,36 +96,37 @@ impl Arguments {
         next
     }
 
-    fn awaiting(self, what: usize) -> Arguments {
+    pub fn awaiting(self, what: usize) -> Arguments {
         let mut next = self;
         next.awaited = what;
         next
     }
 
-    fn choosing(self, choice: usize) -> Arguments {
+    pub fn choosing(self, choice: usize) -> Arguments {
         let mut next = self;
-        if choice < 5 {
+        if choice < 6 {
             next.choices[choice] = true;
         }
         next
     }
 
     // Argument i names a file.
-    fn naming(self, which: usize, i: usize) -> Arguments {
+    pub fn naming(self, which: usize, i: usize) -> Arguments {
         let mut next = self;
-        if which < 3 {
+        if which < 4 {
             next.files[which] = i;
         }
         next
     }
 
-    fn record_number(self, word: &[u8], i: usize) -> Arguments {
+    // The number that argument i is; this fault where it is none.
+    pub fn counting(self, word: &[u8], i: usize, fault: usize) -> Arguments {
         let n = number(word, 0);
         if word.len() == 0 || n.end != word.len() {
-            return self.wrong(fault::NOT_A_RECORD, i);
+            return self.wrong(fault, i);
         }
-        let mut next = self.choosing(Arguments::RECORD);
-        next.record = n.value;
+        let mut next = self;
+        next.number = n.value;
         next
     }
 
@@ -125,7 +141,11 @@ impl Arguments {
     // An argument that is no option.
     fn plain(self, word: &[u8], i: usize) -> Arguments {
         if self.lacks_record() {
-            return self.record_number(word, i);
+            return self.choosing(Arguments::RECORD)
+                .counting(word, i, fault::NOT_A_RECORD);
+        }
+        if command::steps(self.command) {
+            return step_arguments::plain(self, word, i);
         }
         if self.file(Arguments::IMAGE) != 0 {
             return self.wrong(fault::TOO_MANY, i);
@@ -158,12 +178,12 @@ impl Arguments {
         match command {
             command::ANNOTATE => self.annotate_option(word, i),
             command::DUMP => self.dump_option(word, i),
-            _ => self.wrong(fault::CHOICE, i),
+            _ => step_arguments::option(self, word, i),
         }
     }
 
     fn helping(self) -> Arguments {
-        let mut next = self;
+        let mut next = self.awaiting(Arguments::ANYTHING);
         next.command = command::HELP;
         next
     }
@@ -192,12 +212,22 @@ impl Arguments {
         self.plain(word, i)
     }
 
+    fn action_or_option(self, word: &[u8], i: usize) -> Arguments {
+        if is_option(word) {
+            return self.option(word, i);
+        }
+        step_arguments::action(self, word, i)
+    }
+
     // With argument i, which is this word.
     fn with(self, word: &[u8], i: usize) -> Arguments {
         let awaited = self.awaited;
         match awaited {
             Arguments::ANYTHING => self.plain_or_option(word, i),
             Arguments::NO_OPTION => self.plain(word, i),
+            Arguments::ACTION => self.action_or_option(word, i),
+            Arguments::NUMBER => step_arguments::number(self, word, i),
+            Arguments::VALUES => step_arguments::value(self, word, i),
             _ => self.naming(awaited, i).awaiting(Arguments::ANYTHING),
         }
     }
@@ -209,13 +239,13 @@ impl Arguments {
         if self.lacks_record() {
             return self.wrong(fault::NO_RECORD, 0);
         }
-        self
+        step_arguments::complete(self)
     }
 }
 
-// A - alone is no option: it stands for standard input or output.
+// A - alone is no option: it stands for standard input or output. With a digit behind it, it is a number.
 fn is_option(word: &[u8]) -> bool {
-    byte(word, 0) == b'-' && 1 < word.len()
+    byte(word, 0) == b'-' && 1 < word.len() && 9 < hex(byte(word, 1))
 }
 
 // The command that argument i names.
@@ -232,6 +262,9 @@ fn first(i: usize) -> Arguments {
     }
     if start.command == command::NONE {
         return start.wrong(fault::COMMAND, i);
+    }
+    if start.command == command::STEP {
+        return start.awaiting(Arguments::ACTION);
     }
     start
 }

@@ -1,12 +1,12 @@
 // One of the questions 5 and 7 to 10 of one record, with what was due there and what is in scope.
 use crate::due::Due;
-use crate::parts::Record;
-use crate::parts::count_at;
-use crate::parts::id;
-use crate::parts::item;
 use crate::place::Place;
 use crate::scope::Scope;
 use tool_listing::fields::half;
+use tool_listing::parts::Record;
+use tool_listing::parts::count_at;
+use tool_listing::parts::id;
+use tool_listing::parts::item;
 use try_building::build::plus;
 
 // The most statements in depth, for questions 5 and 7.

@@ -17,3 +17,17 @@ pub const NO_RECORD: usize = 6;
 pub const NOT_A_RECORD: usize = 7;
 
 pub const UNREADABLE: usize = 8;
+
+pub const NO_NUMBER: usize = 9;
+
+pub const NOT_A_NUMBER: usize = 10;
+
+pub const NO_ACTION: usize = 11;
+
+pub const ACTION: usize = 12;
+
+pub const NO_STORE: usize = 13;
+
+pub const NOT_A_STORE: usize = 14;
+
+pub const NOT_A_VALUE: usize = 15;

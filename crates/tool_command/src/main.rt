@@ -8,10 +8,13 @@ mod fault;
 mod files;
 mod finding;
 mod lines;
-mod parts;
 mod place;
 mod scan;
 mod scope;
+mod step;
+mod step_arguments;
+mod stores;
+mod values;
 mod walk;
 mod words;
 
@@ -31,6 +34,7 @@ use tool_listing::page::Page;
 use tool_listing::page::flush;
 use tool_listing::page::put;
 use tool_listing::walk::listing;
+use try_building::build::plus;
 use try_building::text::byte;
 
 // Exit statuses.
@@ -44,7 +48,7 @@ const TROUBLE: u8 = 2;
 const STATUS: i32 = 3;
 
 fn refuse(got: Arguments, image: &[u8], number: u32) -> u8 {
-    let place = find(image, number, got.record);
+    let place = find(image, number, got.number);
     words::refused(got.file(Arguments::IMAGE), number, place);
     REFUSED
 }
@@ -108,15 +112,19 @@ fn write_first(got: Arguments, bytes: &[u8], n: usize) -> u8 {
     TROUBLE
 }
 
-fn linearize(got: Arguments, image: &[u8]) -> u8 {
-    let mut out = io::large_buffer();
+fn linearize_into(got: Arguments, image: &[u8], out: &mut [u8]) -> u8 {
     let mut length: usize = 0;
     let mut max_id: u32 = 0;
-    let number = axcut::axcut_linearize(image, &mut out, &mut length, &mut max_id);
+    let number = axcut::axcut_linearize(image, out, &mut length, &mut max_id);
     if number != 0 {
         return refuse(got, image, number);
     }
-    write_first(got, &out, length)
+    write_first(got, out, length)
+}
+
+fn linearize(got: Arguments, image: &[u8]) -> u8 {
+    let mut out = io::large_buffer();
+    linearize_into(got, image, &mut out)
 }
 
 // Writes an annotation as text.
@@ -131,18 +139,22 @@ fn annotation_text(got: Arguments, found: &[u8], kind: u8) -> u8 {
     written(files::close(output, !end.failed))
 }
 
-fn annotate(got: Arguments, image: &[u8]) -> u8 {
-    let mut found = io::large_buffer();
+fn annotate_into(got: Arguments, image: &[u8], found: &mut [u8]) -> u8 {
     let mut length: usize = 0;
     let mut max_id: u32 = 0;
-    let number = axcut::axcut_annotate(image, got.record, &mut found, &mut length, &mut max_id);
+    let number = axcut::axcut_annotate(image, got.number, found, &mut length, &mut max_id);
     if number != 0 {
         return refuse(got, image, number);
     }
     if got.has(Arguments::RAW) {
-        return write_first(got, &found, length);
+        return write_first(got, found, length);
     }
-    annotation_text(got, &found, byte(image, begin(image, got.record)))
+    annotation_text(got, found, byte(image, begin(image, got.number)))
+}
+
+fn annotate(got: Arguments, image: &[u8]) -> u8 {
+    let mut found = io::large_buffer();
+    annotate_into(got, image, &mut found)
 }
 
 // The number of questions 1 to 7: that of an annotation, but for question 13, which comes behind them.
@@ -172,50 +184,63 @@ fn list(got: Arguments, image: &[u8], book: &[u8], max_id: u32) -> u8 {
     written(files::close(output, well))
 }
 
-// The listing with the spellings whose text has n bytes.
-fn list_spelled(got: Arguments, image: &[u8], book: &mut [u8], n: usize, max_id: u32) -> u8 {
-    if Book::MOST <= n {
-        words::too_long(got.file(Arguments::NAMES));
-        return TROUBLE;
+// What is asked for with these spellings.
+fn tell(got: Arguments, image: &[u8], book: &[u8], max_id: u32) -> u8 {
+    if got.command == command::DUMP {
+        return list(got, image, book, max_id);
     }
-    let end = Book::TEXT + n;
-    if book.len() < end {
-        return TROUBLE;
-    }
-    let line = index(&mut book[0..end]);
+    step::on_store(got, image, book)
+}
+
+// With a book whose text stands there.
+fn tell_indexed(got: Arguments, image: &[u8], book: &mut [u8], max_id: u32) -> u8 {
+    let line = index(book);
     if line != 0 {
         words::faulty_line(got.file(Arguments::NAMES), line);
         return TROUBLE;
     }
-    list(got, image, &book[0..end], max_id)
+    tell(got, image, book, max_id)
 }
 
-// Reads the text of a book, behind the places of its spellings.
-fn take_book(got: Arguments, book: &mut [u8]) -> Taken {
-    if book.len() < Book::TEXT {
+// With the spellings whose text has n bytes.
+fn tell_spelled(got: Arguments, image: &[u8], book: &mut [u8], n: usize, max_id: u32) -> u8 {
+    if Book::MOST <= n {
+        words::too_long(got.file(Arguments::NAMES));
+        return TROUBLE;
+    }
+    let end = plus(Book::TEXT, n);
+    if book.len() < end {
+        return TROUBLE;
+    }
+    tell_indexed(got, image, &mut book[0..end], max_id)
+}
+
+// Reads the file that argument i names behind the first bytes of a book.
+fn take_text(i: usize, book: &mut [u8], from: usize) -> Taken {
+    if book.len() < from {
         return Taken::Failed;
     }
-    files::take(got.file(Arguments::NAMES), &mut book[Book::TEXT..])
+    files::take(i, &mut book[from..])
 }
 
-fn list_from(got: Arguments, image: &[u8], book: &mut [u8], max_id: u32) -> u8 {
-    match take_book(got, book) {
-        Taken::Bytes(n) => list_spelled(got, image, book, n, max_id),
+fn tell_from(got: Arguments, image: &[u8], book: &mut [u8], max_id: u32) -> u8 {
+    match take_text(got.file(Arguments::NAMES), book, Book::TEXT) {
+        Taken::Bytes(n) => tell_spelled(got, image, book, n, max_id),
         Taken::Failed => TROUBLE,
     }
 }
 
-fn list_with_names(got: Arguments, image: &[u8], max_id: u32) -> u8 {
+fn tell_with_names(got: Arguments, image: &[u8], max_id: u32) -> u8 {
     let mut book = [0u8; Book::BYTES];
-    list_from(got, image, &mut book, max_id)
+    tell_from(got, image, &mut book, max_id)
 }
 
-// The listing of an image that was accepted.
+// With spellings or without; max_id is for a listing.
 fn show(got: Arguments, image: &[u8], max_id: u32) -> u8 {
     if got.file(Arguments::NAMES) == 0 {
-        return list(got, image, b"", max_id);
+        return tell(got, image, b"", max_id);
     }
-    list_with_names(got, image, max_id)
+    tell_with_names(got, image, max_id)
 }
 
 fn dump(got: Arguments, image: &[u8]) -> u8 {
@@ -241,7 +266,9 @@ fn call(got: Arguments, image: &[u8]) -> u8 {
         command::CHECK => check(got, image),
         command::LINEARIZE => linearize(got, image),
         command::ANNOTATE => annotate(got, image),
-        _ => dump(got, image),
+        command::DUMP => dump(got, image),
+        command::START => step::start(got, image),
+        _ => show(got, image, 0),
     }
 }
 

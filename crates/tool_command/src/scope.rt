@@ -1,8 +1,8 @@
 // The IDs in scope, in the order of binding.
 use crate::due::Due;
-use crate::parts::count_at;
-use crate::parts::id;
-use crate::parts::item;
+use tool_listing::parts::count_at;
+use tool_listing::parts::id;
+use tool_listing::parts::item;
 
 pub struct Scope {
     pub ids: [usize; 64],

@@ -2,11 +2,11 @@
 use crate::asking::ask;
 use crate::due::Due;
 use crate::due::Dues;
-use crate::parts::Record;
-use crate::parts::id;
 use crate::place::Place;
 use crate::scope::Scope;
 use tool_listing::fields::records;
+use tool_listing::parts::Record;
+use tool_listing::parts::id;
 use try_building::build::plus;
 
 pub struct Walk {

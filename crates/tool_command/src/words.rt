@@ -13,6 +13,8 @@ pub fn usage(fd: i32) {
         fd,
         b"\
 Usage: axcut COMMAND [OPTION].. [--] [FILE]
+       axcut step start [OPTION].. [--] IMAGE STORE [VALUE]..
+       axcut step run|show [OPTION].. [--] IMAGE STORE
 
 Reads the program image FILE, or standard input where there is none or it is -.
 
@@ -21,6 +23,11 @@ Reads the program image FILE, or standard input where there is none or it is -.
   linearize    writes the image of the linearized program (1 to 12)
   annotate N   prints the free variables of record N, counted from 0 (1 to 7, 13, 12)
   dump         prints the program as a listing (1 to 5; with --annotations 1 to 7)
+  step start   writes the state of a start to the file STORE (1 to 10, 14, 15; with
+               --linear 1 to 5, 14, 15); a VALUE for each parameter, -7 or outside:2
+  step run     makes steps from the state in STORE, prints their events and writes the
+               new state (the same)
+  step show    prints the state in STORE (the same, but for 15)
 
   -o FILE        writes to FILE; nothing is written where the image is refused
   -o -           writes to standard output; an image goes to a terminal only so
@@ -28,7 +35,10 @@ Reads the program image FILE, or standard input where there is none or it is -.
   --annotations  dump: the free variables behind each statement that has them
   --records      dump: the index of each record
   --types        dump: chirality and type also where a variable is used
-  --names FILE   dump: spellings, a line each: a name number, a space, the spelling
+  --names FILE   dump, step: spellings, a line each: a name number, a space, the spelling
+  --linear       step: the linear machine instead of the source machine
+  --definition N step start: the definition, counted from 0, which is meant without it
+  --steps N      step run: at most so many steps, 1 without it
   --             ends the options: FILE may begin with a -
   --help, --version
 
@@ -86,6 +96,9 @@ a binder's ID is above max_id
 max_id plus the fresh IDs that the rules draw is above 65,535
 the answer does not fit the buffer, or is an image of more than 65,535 bytes
 there is no such record, or it has no annotation: Let, Switch, Create, Literal, Op and PrintI64 have one
+there is no such definition, or the values do not match its parameters
+the next step has no room in a store of 983,040 bytes, or its event none in 65,536 bytes
+it is not a state of this image
 ",
         number,
     );
@@ -112,14 +125,27 @@ fn say_place(place: Place) {
     say(STDERR_FILENO, b"\n");
 }
 
-// A refusal of the image that argument i names: the number, what is wrong, and where.
-pub fn refused(i: usize, number: u32, place: Place) {
+// The file that argument i names, and the number that it is refused with.
+fn say_refused(i: usize, number: u32) {
     say_file(i);
     say(STDERR_FILENO, b"refused ");
     say_number(number as usize);
     say(STDERR_FILENO, b": ");
+}
+
+// A refusal of the image that argument i names: the number, what is wrong, and where.
+pub fn refused(i: usize, number: u32, place: Place) {
+    say_refused(i, number);
     say_reason(number as usize);
     say_place(place);
+}
+
+// A refusal of the store that argument i names. Of a store, 14 is another thing than of a start.
+pub fn refused_store(i: usize, number: u32) {
+    let reason = if number == 14 { 16 } else { number as usize };
+    say_refused(i, number);
+    say_reason(reason);
+    say(STDERR_FILENO, b"\n");
 }
 
 // What is wrong with a command line, by the numbers of fault.rt.
@@ -134,7 +160,14 @@ a file name is missing\n\
 one file too many: \n\
 annotate: which record?\n\
 annotate: not a record's number: \n\
-an argument is too long\n",
+an argument is too long\n\
+a number is missing\n\
+not a number: \n\
+step: start, run or show?\n\
+step: not start, run or show: \n\
+step: which image, and which store?\n\
+step: a store is a file: \n\
+step: not a value: \n",
         fault,
     );
 }
@@ -166,6 +199,12 @@ pub fn faulty_line(i: usize, line: usize) {
     );
     say_number(line);
     say(STDERR_FILENO, b"\n");
+}
+
+// A store, which argument i names, that does not fit.
+pub fn too_large(i: usize) {
+    say_file(i);
+    say(STDERR_FILENO, b"a store of more than 983,040 bytes\n");
 }
 
 // A text of spellings, which argument i names, that does not fit.

@@ -22,4 +22,5 @@ pub mod line;
 pub mod lists;
 pub mod names;
 pub mod page;
+pub mod parts;
 pub mod walk;

@@ -8,10 +8,10 @@ use crate::names::ty;
 use crate::names::variable;
 use crate::page::Page;
 use crate::page::choose;
-use crate::page::decimal;
 use crate::page::line_place;
 use crate::page::put;
 use crate::page::say;
+use crate::page::signed;
 use try_building::build::plus;
 use try_building::text::byte;
 use try_building::text::double;
@@ -31,19 +31,6 @@ pub struct View {
 // The sign of an operator, by its code, or of a comparison, by its code and 5.
 fn sign(page: Page, room: &mut [u8], k: usize) -> Page {
     choose(page, room, b"/\n*\n%\n+\n-\n==\n!=\n<\n<=\n>\n>=", k)
-}
-
-// A signed number of eight bytes.
-fn integer(page: Page, room: &mut [u8], image: &[u8], at: usize) -> Page {
-    let bits = double(image, at) as u64;
-    if bits < 9223372036854775808 {
-        return decimal(page, room, bits);
-    }
-    decimal(
-        put(page, room, b'-'),
-        room,
-        std::num::wrapping_sub_u64(0, bits),
-    )
 }
 
 // What IfC compares with: a variable, or 0.
@@ -79,7 +66,7 @@ fn field(
         b'a' => list(page, room, book, image, at, whole),
         b'e' => environment(page, room, book, image, at, whole),
         b's' => pairs(page, room, book, image, at, whole),
-        b'i' => integer(page, room, image, at),
+        b'i' => signed(page, room, double(image, at) as u64),
         b'o' => sign(page, room, wide(byte(image, at))),
         b'c' => sign(page, room, plus(5, wide(byte(image, at)))),
         b'n' => newline(page, room, byte(image, at)),

@@ -39,7 +39,7 @@ fn item(
 }
 
 // What stands before item j.
-fn comma(page: Page, room: &mut [u8], j: usize) -> Page {
+pub fn comma(page: Page, room: &mut [u8], j: usize) -> Page {
     if j == 0 {
         return page;
     }

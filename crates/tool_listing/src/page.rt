@@ -100,6 +100,15 @@ pub fn decimal(page: Page, room: &mut [u8], n: u64) -> Page {
     say(page, room, &digits[..k])
 }
 
+// The signed number that these bits are.
+pub fn signed(page: Page, room: &mut [u8], bits: u64) -> Page {
+    if bits < 9223372036854775808 {
+        return decimal(page, room, bits);
+    }
+    let size = std::num::wrapping_sub_u64(0, bits);
+    decimal(put(page, room, b'-'), room, size)
+}
+
 // Two spaces for each level; there are at most 512.
 pub fn indent(page: Page, room: &mut [u8], levels: usize) -> Page {
     let spaces = [b' '; 1024];

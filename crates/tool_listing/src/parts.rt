@@ -1,8 +1,8 @@
 // What a record holds, by its kind. The places of variables and lists are those in the image; 0 stands for none.
-use tool_listing::fields::begin;
-use tool_listing::fields::count;
-use tool_listing::fields::half;
-use tool_listing::fields::last;
+use crate::fields::begin;
+use crate::fields::count;
+use crate::fields::half;
+use crate::fields::last;
 use try_building::build::plus;
 use try_building::text::byte;
 use try_building::text::wide;
