@@ -29,7 +29,7 @@ fn tell(answer: Answer, length: &mut usize, max_id: &mut u32) -> u32
         } => {
             *length = written;
             *max_id = top;
-            0
+            0u32
         }
         Answer::Refused(question) => {
             *length = 0;
