@@ -1,3 +1,4 @@
--- The two steppers show the same events.
+-- The two steppers start alike, and show the same events.
 pub mod Runs
+pub mod Starting
 pub mod Pairing

@@ -12,13 +12,11 @@ use Rattle.model.specs.Pass.{linearize}
 use Rattle.model.specs.Machine.{State, Event, Given, Start, begun, noStart, stopped, run}
 use Rattle.model.specs.Source.{sourceStart, sourceStep}
 use Rattle.model.specs.Linear.{linearStart, linearStep}
-use Rattle.model.specs.Questions.{Accepted}
 use Rattle.model.specs.Demand3.{Starts, Agree, both-begin, neither-begins}
 use Rattle.model.proofs.Demand.{demand-3}
 use Rattle.image_spec.specs.Parse.{each}
 use Rattle.image_spec.specs.Layout.{layout1}
-use Rattle.image_spec.specs.Reading.{Reading, accept, reading}
-use Rattle.scope_spec.specs.Calls.{afterReading, checking, checkOf, Told}
+use Rattle.scope_spec.specs.Calls.{Told}
 use Rattle.pass_answer_spec.specs.Calls.{linearizeCall}
 use Rattle.pass_answer_spec.proofs.Readable.{Output}
 use Rattle.pass_answer_spec.proofs.OnCalls.{answer-reads}
@@ -32,6 +30,7 @@ use Rattle.step_values.specs.Values.{areGiven}
 use Rattle.step_values.proofs.ValueLaws.{are-given, not-given-all}
 use Rattle.step_pair_spec.specs.Pairs.{GoesOn, no-room, all-made, all-there, Shows, SameEvents, Demand3OnSteppers}
 use Rattle.step_pair_spec.proofs.Runs.{run-there}
+use Rattle.step_pair_spec.proofs.Starting.{source-asked}
 
 -- ── one stepper ──
 
@@ -98,7 +97,6 @@ module _ (P : Prog) (image linear store store′ : List ℕ) where
       absurd (omega arith)
 
 pub demand-3-on-steppers : Demand3OnSteppers
-unfolding checkOf checking
 demand-3-on-steppers image before after size m told place values store store′ short short′ starts starts′ =
     let o = answer-reads image before after size m told in
     let P = o .program in
@@ -108,6 +106,3 @@ demand-3-on-steppers image before after size m told place values store store′ 
     let q = same-given (length (f .0 .definition .context)) (length (g .0 .definition .context)) values (f .0 .given) (g .0 .given) (f .0 .read) (g .0 .read) in
     pairs P image linear _ _ (sourceStart P place (f .0 .given)) (linearStart (linearize P) place (f .0 .given)) (demand-3 P (o .accepted) place (f .0 .given)) (f .1)
     (subst (λ (vs : List Given). Said (linearStepper layout1) linear (linearize P) (linearStart (linearize P) place vs) (startCall (linearStepper layout1) linear place values store′ .store)) q (g .1))
-  where
-    source-asked : (image : List ℕ) (P : Prog) → reading layout1 image ≡ accept P → Accepted P → checkOf layout1 image ≡ accept P
-    source-asked image P r a = ap (λ (x : Reading). afterReading x checking) r ∙ rw (a .six, a .seven, a .eight, a .nine, a .ten) refl

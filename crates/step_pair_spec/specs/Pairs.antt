@@ -39,3 +39,11 @@ Demand3OnSteppers =
     → startCall (sourceStepper layout1) image place values store .number ≡ 0
     → startCall (linearStepper layout1) (take size after) place values store′ .number ≡ 0
     → SameEvents image (take size after) (startCall (sourceStepper layout1) image place values store .store) (startCall (linearStepper layout1) (take size after) place values store′ .store)
+
+-- .. and a start that `axcut_source_start` answers with 0, `axcut_linear_start` on the output answers so too, in a store that is no shorter
+abbrev pub LinearStarts : Type 0
+LinearStarts =
+    (image before after : List ℕ) (size m : ℕ) → Told (linearizeCall image before) 0 size m before after
+    → (place : ℕ) (values store store′ : List ℕ) → length store ≤ length store′
+    → startCall (sourceStepper layout1) image place values store .number ≡ 0
+    → startCall (linearStepper layout1) (take size after) place values store′ .number ≡ 0
