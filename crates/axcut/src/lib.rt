@@ -1,43 +1,23 @@
 // The exported functions. Each returns the number of its answer, 0 for acceptance, and sets what it is lent to report in on every call.
 use annotate::annotate::annotate;
+use axcut_report::number_of;
+use axcut_report::tell;
+use axcut_report::tell_steps;
 use image_open::read;
-use image_spec::Answer;
 use image_spec::Layout;
 use pass_program::linearize;
 use scope_check::check::check;
-use step_answer_spec::Said;
 use step_call::step;
 use step_start::start;
 ghost use mathlib.Core.Path.{_≡_};
 ghost use mathlib.Core.List.{[]};
 ghost use Rattle.image_spec.specs.Layout.{layout1};
-ghost use Rattle.image_spec.specs.Answers.{Reports, report};
+ghost use Rattle.image_spec.specs.Answers.{Reports};
 ghost use Rattle.image_spec.specs.Reading.{readCall};
 ghost use Rattle.scope_spec.specs.Calls.{checkCall, annotateCall, Told};
 ghost use Rattle.pass_answer_spec.specs.Calls.{linearizeCall};
 ghost use Rattle.step_spec.specs.Calls.{sourceStepper, linearStepper, unchanged, startCall, stepCall};
-ghost use Rattle.step_answer_spec.specs.Saying.{resultOf};
 ghost use Rattle.axcut.specs.Steps.{stepResult};
-
-fn tell(answer: Answer, length: &mut usize, max_id: &mut u32) -> u32
-    ensures { λ r. ⌜ Reports (report answer) r (now (length .exit)) (now («max_id» .exit)) ⌝ }
-{
-    match answer {
-        Answer::Accepted {
-            length: written,
-            max_id: top,
-        } => {
-            *length = written;
-            *max_id = top;
-            0u32
-        }
-        Answer::Refused(question) => {
-            *length = 0;
-            *max_id = 0;
-            question.number()
-        }
-    }
-}
 
 // Questions 1 to 5.
 #[no_mangle]
@@ -80,57 +60,6 @@ pub extern "C" fn axcut_linearize(
     ensures { λ r. ⌜ Told (linearizeCall (now (image .entry)) (now (out .entry))) r (now (length .exit)) (now («max_id» .exit)) (now (out .entry)) (now (out .exit)) ⌝ }
 {
     tell(linearize(image, Layout::one(), out), length, max_id)
-}
-
-// The number of a stepper's answer.
-fn number_of(said: Said) -> u32
-    ensures { λ r. ⌜ r ≡ resultOf said [] [] .number ⌝ }
-{
-    match said {
-        Said::Refused(question) => question.number(),
-        Said::NoState => 14,
-        Said::NoRoom {
-            steps: _,
-            length: _,
-        } => 15,
-        Said::Done {
-            steps: _,
-            length: _,
-        } => 0,
-    }
-}
-
-fn tell_steps(said: Said, made: &mut u64, length: &mut usize) -> u32
-    ensures { λ r. ⌜ (r ≡ resultOf said [] [] .number) × ((now (made .exit) ≡ resultOf said [] [] .steps) × (now (length .exit) ≡ resultOf said [] [] .length)) ⌝ }
-{
-    match said {
-        Said::Refused(question) => {
-            *made = 0;
-            *length = 0;
-            question.number()
-        }
-        Said::NoState => {
-            *made = 0;
-            *length = 0;
-            14
-        }
-        Said::NoRoom {
-            steps,
-            length: shown,
-        } => {
-            *made = steps;
-            *length = shown;
-            15
-        }
-        Said::Done {
-            steps,
-            length: shown,
-        } => {
-            *made = steps;
-            *length = shown;
-            0
-        }
-    }
 }
 
 // Questions 1 to 10, 14 and 15. Writes the state before the first step of the source machine to the store.

@@ -1,30 +1,21 @@
 // The command axcut, thin over the library's functions. A program in Rattle always ends with exit status 0, so bin/axcut calls this one with
 // --status before the other arguments, and it then writes the status, a digit, to descriptor 3, as the last thing it does.
-mod arguments;
-mod asking;
-mod command;
-mod due;
-mod fault;
 mod files;
-mod finding;
-mod lines;
-mod place;
-mod scan;
-mod scope;
+mod listing;
 mod step;
-mod step_arguments;
 mod stores;
-mod values;
-mod walk;
 mod words;
 
-use arguments::Arguments;
-use arguments::gather;
 use check::same;
 use files::Taken;
-use finding::find;
 use libc::STDERR_FILENO;
 use libc::STDOUT_FILENO;
+use listing::listing;
+use tool_arguments::arguments::Arguments;
+use tool_arguments::arguments::gather;
+use tool_arguments::command;
+use tool_arguments::fault;
+use tool_finding::finding::find;
 use tool_listing::annotation::sets;
 use tool_listing::book::Book;
 use tool_listing::book::index;
@@ -33,7 +24,6 @@ use tool_listing::line::View;
 use tool_listing::page::Page;
 use tool_listing::page::flush;
 use tool_listing::page::put;
-use tool_listing::walk::listing;
 use try_building::build::plus;
 use try_building::text::byte;
 

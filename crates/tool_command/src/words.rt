@@ -1,8 +1,8 @@
 // What the tool says: its usage, refusals, and what was wrong with a command line.
-use crate::lines::say_line;
-use crate::place::Place;
 use check::same;
 use libc::STDERR_FILENO;
+use tool_arguments::lines::say_line;
+use tool_finding::place::Place;
 
 fn say(fd: i32, text: &[u8]) {
     io::write_all(fd, text);

@@ -1,17 +1,12 @@
-// The whole listing: each record's line, and the braces that are due behind it.
-use crate::annotation::is_annotated;
-use crate::annotation::sets;
+// A listing from record to record: each one's line, and the braces that are due behind it. What stands between is the caller's.
 use crate::blocks::Block;
 use crate::blocks::Blocks;
 use crate::fields::begin;
 use crate::fields::last;
-use crate::fields::records;
 use crate::line::View;
 use crate::line::line;
 use crate::page::Page;
-use crate::page::choose;
 use crate::page::decimal;
-use crate::page::flush;
 use crate::page::indent;
 use crate::page::put;
 use crate::page::say;
@@ -107,37 +102,10 @@ fn is_ended(kind: u8, clauses: u8) -> bool {
     }
 }
 
-// The free variables of a record.
-fn free(page: Page, room: &mut [u8], image: &[u8], k: usize, kind: u8) -> Page {
-    let mut found = [0u8; 65536];
-    let mut length: usize = 0;
-    let mut max_id: u32 = 0;
-    let given = axcut::axcut_annotate(image, k, &mut found, &mut length, &mut max_id);
-    if given == 0 {
-        return sets(page, room, &found, kind);
-    }
-    page
-}
-
 // The remark behind a line: the record's index.
 fn numbered(page: Page, room: &mut [u8], view: View, k: usize) -> Page {
     if view.records {
         return decimal(say(page, room, b"  // "), room, k as u64);
-    }
-    page
-}
-
-// What stands before an annotation: it is behind the index where that is there.
-fn before_sets(page: Page, room: &mut [u8], view: View) -> Page {
-    choose(page, room, b"  // \n: ", view.records as usize)
-}
-
-// The remark behind a line: the annotation.
-fn annotated(page: Page, room: &mut [u8], image: &[u8], view: View, k: usize, kind: u8) -> Page {
-    if view.annotations {
-        if is_annotated(kind) {
-            return free(before_sets(page, room, view), room, image, k, kind);
-        }
     }
     page
 }
@@ -150,65 +118,41 @@ fn front(page: Page, room: &mut [u8], kind: u8, levels: usize) -> Page {
     indent(page, room, levels)
 }
 
-// What stands behind a line.
-fn back(page: Page, room: &mut [u8], image: &[u8], view: View, k: usize, kind: u8) -> Page {
-    let named = numbered(page, room, view, k);
-    put(annotated(named, room, image, view, k, kind), room, b'\n')
-}
-
-fn whole_line(
-    page: Page,
+// A record's line, with its index.
+pub fn begin_line(
+    w: Walk,
     room: &mut [u8],
     book: &[u8],
     image: &[u8],
     view: View,
     k: usize,
-    levels: usize,
-) -> Page {
+) -> Walk {
     let at = begin(image, k);
     let kind = byte(image, at);
-    let begun = front(page, room, kind, levels);
+    let begun = front(w.page, room, kind, w.blocks.depth);
     let told = line(begun, room, book, image, view.types, at, kind);
-    back(told, room, image, view, k, kind)
+    let mut next = w;
+    next.page = numbered(told, room, view, k);
+    next
 }
 
-fn step(w: Walk, room: &mut [u8], book: &[u8], image: &[u8], view: View, k: usize) -> Walk {
+// The end of a record's line, and the braces that are due behind it.
+pub fn end_line(w: Walk, room: &mut [u8], image: &[u8], k: usize) -> Walk {
     let kind = byte(image, begin(image, k));
-    let mut next = w;
-    next.page = whole_line(w.page, room, book, image, view, k, w.blocks.depth);
     let clauses = last(image, k);
+    let mut next = w;
+    next.page = put(w.page, room, b'\n');
     next.blocks = opened(w.blocks, kind, clauses);
     next.ended = is_ended(kind, clauses);
     settle(next, room)
 }
 
-fn steps(w: Walk, room: &mut [u8], book: &[u8], image: &[u8], view: View) -> Walk {
-    let mut next = w;
-    for k in 0..records(image) {
-        next = step(next, room, book, image, view, k);
-    }
-    next
-}
-
-fn head(fd: i32, room: &mut [u8], max_id: u32) -> Page {
+// The listing of an image with this max_id, before its first record.
+pub fn start(fd: i32, room: &mut [u8], max_id: u32) -> Walk {
     let named = say(Page::start(fd), room, b"max_id ");
-    put(decimal(named, room, max_id as u64), room, b'\n')
-}
-
-// Writes the listing of an image with this max_id, and answers whether all was written. The room may have any size but 0.
-pub fn listing(
-    fd: i32,
-    room: &mut [u8],
-    book: &[u8],
-    image: &[u8],
-    view: View,
-    max_id: u32,
-) -> bool {
-    let start = Walk {
-        page: head(fd, room, max_id),
+    Walk {
+        page: put(decimal(named, room, max_id as u64), room, b'\n'),
         blocks: Blocks::empty(),
         ended: false,
-    };
-    let end = steps(start, room, book, image, view);
-    !flush(end.page, room).failed
+    }
 }

@@ -10,7 +10,7 @@ use Rattle.axcut.proofs.axcut_source_start.Statement.{statement}
 use Rattle.axcut.proofs.axcut_source_start.Tie as tie
 use Rattle.axcut.proofs.axcut_source_start.Reads as reads
 use Rattle.axcut.proofs.axcut_source_start.Lts as lts
-use Rattle.axcut.proofs.number_of.Reads as number-of-reads
+use Rattle.axcut_report.proofs.number_of.Reads as number-of-reads
 use Rattle.image_spec.proofs.Layout.one.Reads as one-reads
 use Rattle.step_start.proofs.start.Reads as start-reads
 

@@ -10,7 +10,7 @@ use Rattle.axcut.proofs.axcut_source_step.Statement.{statement}
 use Rattle.axcut.proofs.axcut_source_step.Tie as tie
 use Rattle.axcut.proofs.axcut_source_step.Reads as reads
 use Rattle.axcut.proofs.axcut_source_step.Lts as lts
-use Rattle.axcut.proofs.tell_steps.Reads as tell-steps-reads
+use Rattle.axcut_report.proofs.tell_steps.Reads as tell-steps-reads
 use Rattle.image_spec.proofs.Layout.one.Reads as one-reads
 use Rattle.step_call.proofs.step.Reads as step-reads
 
