@@ -44,7 +44,8 @@ fn short(len: usize, at: usize, n: usize, w: usize) -> bool
     false
 }
 
-fn store_pair(out: &mut [u8], at: usize, n: u32) -> usize
+// The two bytes of n where there is room for them, the lowest first.
+pub fn store_pair(out: &mut [u8], at: usize, n: u32) -> usize
     requires { ⌜ at + 2 ≤ length (now out) ⌝ }
     ensures { λ r. ⌜ Puts (now (out .entry)) (now (out .exit)) at r (field 2 n) ⌝ }
 {

@@ -5,8 +5,10 @@ use step_ask::Asked;
 use step_ask::ask;
 use step_header::Header;
 use step_open::open_store;
+use step_order::list::entries_row;
 use step_order::stops;
 use step_places::ends::fill_ends;
+use step_rows::distinct;
 use step_rule::Stepper;
 use step_run::Ran;
 use step_run::run;
@@ -17,6 +19,7 @@ ghost use Rattle.image_open.specs.Opening.{Known};
 ghost use Rattle.step_spec.specs.Calls.{stepCall};
 ghost use Rattle.step_header.specs.Headers.{Holds};
 ghost use Rattle.step_places.specs.Ends.{Ends};
+ghost use Rattle.step_order.specs.Sure.{SureIn};
 ghost use Rattle.step_ask.specs.Asking.{stepperOf};
 ghost use Rattle.step_answer_spec.specs.Saying.{resultOf, Accepted};
 ghost use Rattle.step_call.specs.Stepping.{saidOf, Forged, StepsOn};
@@ -35,7 +38,18 @@ fn is_forged(image: &[u8], stepper: Stepper, ends: &[u32], store: &[u8], header:
         return false;
     }
     if stepper.linear {
-        return stops(image, stepper, ends, store, header);
+        return stops(image, stepper, ends, store, header, false);
+    }
+    false
+}
+
+// Are the IDs of the linear machine's list distinct? It is asked once a call: steps keep them so.
+fn is_sure(stepper: Stepper, store: &[u8], header: Header) -> bool
+    requires { ⌜ Holds (now store) header ⌝ }
+    ensures { λ r. ⌜ SureIn stepper r (now (store .entry)) header ⌝ }
+{
+    if stepper.linear {
+        return distinct(store, entries_row(store, header));
     }
     false
 }
@@ -70,6 +84,7 @@ fn step_on(image: &[u8], stepper: Stepper, steps: u64, store: &mut [u8], events:
             length: 0,
         };
     }
+    let sure = is_sure(stepper, store, header);
     let mut scratch = [0u8; 2080];
     answer(run(
         image,
@@ -80,6 +95,7 @@ fn step_on(image: &[u8], stepper: Stepper, steps: u64, store: &mut [u8], events:
         &mut scratch,
         header,
         steps,
+        sure,
     ))
 }
 

@@ -19,12 +19,13 @@ use Rattle.image_fields.specs.declared.Found.the-variants.{At, Nothing}
 use Rattle.image_directory.specs.declared.Frame.{Frame}
 use Rattle.image_directory.specs.Slots as image
 use Rattle.image_read_parts.specs.Parts.{listOf}
-use Rattle.image_read_nodes.specs.Nodes.{recordAt}
+use Rattle.image_read_nodes.specs.declared.Follows.{Follows}
+use Rattle.image_read_nodes.specs.Nodes.{recordAt, Followed}
 use Rattle.step_slots.specs.declared.Slot.{Slot}
 use Rattle.step_slots.specs.Slots.{valueSlot}
 use Rattle.step_spec.specs.Store.{entrySlot}
 use Rattle.step_places.specs.Heads.{headRecord}
-use Rattle.step_places.specs.Searches.{Finds}
+use Rattle.step_places.specs.Searches.{Finds, FindsClause}
 use Rattle.step_places.proofs.NextPlaces.{found-at, none-found}
 use Rattle.step_rows.specs.declared.Row.{Row}
 use Rattle.step_rows.specs.Rows.{idsIn, Inside, RowOf}
@@ -33,7 +34,14 @@ use Rattle.step_gather.specs.Gathering.{renamed}
 use Rattle.step_gather.proofs.GatheringLaws.{paired, unpaired}
 use Rattle.step_enter.specs.declared.Parameters.{Parameters}
 use Rattle.step_enter.specs.declared.Parameters.the-variants.{Absent, Listed}
-use Rattle.step_enter.specs.Entering.{ParametersOf, absent, listed}
+use Rattle.step_enter.specs.Entering.{ParametersOf, absent, listed, ClauseOf}
+
+-- the clauses that are searched are those of the record
+pub clause-of : {frame : Frame} {bytes : List ℕ} {i place tag : ℕ} {f : Follows} {found : Found} {r : Parameters} → i ≡ place → Followed frame bytes i f
+    → FindsClause frame bytes (f .clauses) (i + 1) tag found → ParametersOf frame bytes found r → ClauseOf frame bytes place tag r
+clause-of {frame} {bytes} {i} {place} {tag} {f} {found} {r} e g w q =
+    subst (λ (k : ℕ). ClauseOf frame bytes k tag r) e
+    record { found = found; finds = subst (λ (n : ℕ). FindsClause frame bytes n (i + 1) tag found) (g .clauses) w; reads = q }
 
 -- the parameters of a definition or clause are its record's list
 head-list : (kind : ℕ) (x : Identifier) (Γ : Context) → listOf (headRecord kind x Γ) ≡ Γ

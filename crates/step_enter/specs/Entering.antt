@@ -6,6 +6,7 @@ use lib.ListN.{length, take, drop}
 use Rattle.syntax.specs.Context.{ids}
 use Rattle.image_spec.specs.Parse.{each}
 use Rattle.image_spec.specs.Fields.{maxCount}
+use Rattle.image_spec.specs.Kinds.{clausesOf}
 use Rattle.image_fields.specs.declared.Found.{Found}
 use Rattle.image_fields.specs.declared.Found.the-variants.{At, Nothing}
 use Rattle.image_directory.specs.declared.Frame.{Frame}
@@ -14,6 +15,7 @@ use Rattle.image_read_nodes.specs.Nodes.{recordAt}
 use Rattle.step_slots.specs.declared.Slot.{Slot}
 use Rattle.step_slots.specs.Slots.{slotBytes}
 use Rattle.step_header.specs.declared.Header.{Header}
+use Rattle.step_places.specs.Searches.{FindsClause}
 use Rattle.step_rows.specs.declared.Row.{Row}
 use Rattle.step_rows.specs.Rows.{RowOf}
 use Rattle.step_write.specs.declared.Made.{Made}
@@ -25,6 +27,12 @@ use Rattle.step_enter.specs.declared.Parameters.the-variants.{Absent, Li
 pub data ParametersOf (frame : Frame) (bytes : List ℕ) : Found → Parameters → Type 0 where
   absent : ParametersOf frame bytes Nothing Absent
   listed : {j : ℕ} {row : Row} {body : ℕ} → RowOf bytes row (ids (listOf (recordAt frame bytes j))) → row .len ≤ maxCount → body ≡ j + 1 → ParametersOf frame bytes (At j) (Listed row body)
+
+-- the parameters of the first clause with this tag of the record at index i
+pub record ClauseOf (frame : Frame) (bytes : List ℕ) (i tag : ℕ) (r : Parameters) : Type 0 where
+  pub found : Found
+  pub finds : FindsClause frame bytes (clausesOf (recordAt frame bytes i)) (i + 1) tag found
+  pub reads : ParametersOf frame bytes found r
 
 -- the header after it
 abbrev pub entered : Header → (body entries : ℕ) → Header

@@ -1,16 +1,16 @@
 // The values of several variables: looked up, under other IDs, and as an event shows them.
-use image_write_parts::put_number;
 use step_entries::find;
 use step_header::place;
 use step_rows::Row;
 use step_rows::id_of;
 use step_slots::Slot;
+use step_slots::put_four;
 use step_slots::put_slot;
 use step_slots::read;
 ghost use mathlib.Core.Path.{_≡_};
 ghost use mathlib.Core.Bool.{true};
 ghost use mathlib.Core.List.{map};
-ghost use Prim.Native.Nat.{_+_, _*_, _≤_, _<_, _^_};
+ghost use Prim.Native.Nat.{_+_, _*_, _≤_};
 ghost use lib.ListN.{length};
 ghost use lib.Seq.{sets};
 ghost use Rattle.image_spec.specs.Parse.{each};
@@ -63,7 +63,7 @@ pub fn rename(image: &[u8], row: Row, slots: &mut [u8], at: usize)
     let mut j: usize = 0;
     while j < len {
         let id = id_of(image, row, j);
-        put_number(slots, at + 16 * j + 4, 4, id);
+        put_four(slots, at + 16 * j + 4, id);
         j += 1;
     }
 }
@@ -124,7 +124,7 @@ pub fn show(
     events: &mut [u8],
     to: usize,
 ) -> usize
-    requires { ⌜ (64 + 16 * heap ≤ length (now store)) × ((at + 16 * n ≤ length (now slots)) × (to + 16 * n < 2 ^ 64)) ⌝ }
+    requires { ⌜ (64 + 16 * heap ≤ length (now store)) × ((at + 16 * n ≤ length (now slots)) × (to + 16 * n ≤ length (now events))) ⌝ }
     ensures { λ r. ⌜ Puts (now (events .entry)) (now (events .exit)) to r (each slotBytes (map (shownAs (slotsAt (now (store .entry)) 64 heap)) (slotsAt (now (slots .entry)) at n))) ⌝ }
 {
     let mut j: usize = 0;

@@ -1,12 +1,13 @@
 // The first 64 bytes of a store: position, flags and counts.
 use image_fields::number;
 use image_write_parts::put_byte;
-use image_write_parts::put_number;
+use image_write_parts::store_pair;
 use step_slots::all_zero;
 use step_slots::long_at;
+use step_slots::put_four;
 use step_slots::put_long;
 ghost use mathlib.Core.Path.{_≡_};
-ghost use Prim.Native.Nat.{_+_, _≤_, _<_, _^_};
+ghost use Prim.Native.Nat.{_+_, _≤_};
 ghost use lib.ListN.{length, drop, replicate};
 ghost use Rattle.image_spec.specs.Parse.{got, onlyIf};
 ghost use Rattle.image_write_parts.specs.Puts.{Puts};
@@ -72,7 +73,7 @@ pub fn read_header(s: &[u8]) -> Header
 }
 
 fn put_zeros(out: &mut [u8], at: usize) -> usize
-    requires { ⌜ at + 32 < 2 ^ 64 ⌝ }
+    requires { ⌜ at + 32 ≤ length (now out) ⌝ }
     ensures { λ r. ⌜ Puts (now (out .entry)) (now (out .exit)) at r (replicate 32 0) ⌝ }
 {
     let a = put_long(out, at, 0);
@@ -82,12 +83,13 @@ fn put_zeros(out: &mut [u8], at: usize) -> usize
 }
 
 pub fn put_header(out: &mut [u8], h: Header) -> usize
+    requires { ⌜ 64 ≤ length (now out) ⌝ }
     ensures { λ r. ⌜ Puts (now (out .entry)) (now (out .exit)) 0 r (headerBytes (tupleOf h)) ⌝ }
 {
-    let flags = put_number(out, 0, 4, h.position);
+    let flags = put_four(out, 0, h.position);
     let second = put_byte(out, flags, h.ended);
     let zeros = put_byte(out, second, h.stopped);
-    let counts = put_number(out, zeros, 2, 0);
+    let counts = store_pair(out, zeros, 0);
     let heap = put_long(out, counts, h.cells);
     let entries = put_long(out, heap, h.heap);
     let end = put_long(out, entries, h.entries);
@@ -99,4 +101,11 @@ pub fn place(n: u64) -> usize
     ensures { λ r. ⌜ r ≡ n ⌝ }
 {
     n as usize
+}
+
+// An index as a count.
+pub fn long_count(n: usize) -> u64
+    ensures { λ r. ⌜ r ≡ n ⌝ }
+{
+    n as u64
 }

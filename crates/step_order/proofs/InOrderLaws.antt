@@ -22,7 +22,7 @@ use Rattle.step_header.specs.Headers.{entriesIn}
 use Rattle.step_rows.specs.Rows.{slotId}
 use Rattle.step_rule.specs.declared.Stepper.{Stepper}
 use Rattle.step_rule.specs.Rules.{ProgramOf, Stored}
-use Rattle.step_rule.proofs.Views.{viewed}
+use Rattle.step_rule.proofs.Views.{Viewed, viewed}
 use Rattle.step_rule.proofs.Statements.{Is, is-substitute, is-call, is-let, is-switch, is-create, is-invoke, is-literal, is-op, is-ifc, is-print, is-exit, here}
 use Rattle.step_order.specs.Orderly.{replaced, orderly}
 
@@ -56,10 +56,13 @@ pub entry-ids : (of : ℕ → ℕ) (ε : Entries) → map slotId (map (entrySlot
 entry-ids of [] = refl
 entry-ids of (e ∷ ε) = ap₂ {C = List VarId} (λ (x : VarId) (l : List VarId). x ∷ l) (slot-id of (e .0) (e .1)) (entry-ids of ε)
 
+pub view-keys : {P : Prog} {store : List ℕ} {h : Header} {l : Located} → Viewed P store h l → map slotId (entriesIn store h) ≡ keys (l .environment)
+unfolding environmentOf
+view-keys {l = l} v = ap (map slotId) (v .entries) ∙ entry-ids (placeOf (l .cells)) (l .environment)
+
 module _ {M : Machine} {P : Prog} {store : List ℕ} {h : Header} {l : Located} (o : Stored M P store h l) where
   pub entries-keys : map slotId (entriesIn store h) ≡ keys (l .environment)
-  unfolding environmentOf
-  entries-keys = ap (map slotId) (viewed o .entries) ∙ entry-ids (placeOf (l .cells)) (l .environment)
+  entries-keys = view-keys (viewed o)
 
   pub orders : {stepper : Stepper} {bytes : List ℕ} {b : Bool} → ProgramOf P stepper bytes
       → b ≡ orderly (recordAt (stepper .frame) bytes (h .position)) (map slotId (entriesIn store h)) → b ≡ inOrder (stmtIn P (l .position)) (keys (l .environment))

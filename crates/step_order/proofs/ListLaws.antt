@@ -1,18 +1,23 @@
--- The last of a list and what stands before, in rows. Assumes nothing.
+-- The last of a list and what stands before, in rows; of which rows one is sure. Assumes nothing.
 use Prim.Native.Nat.{ℕ, suc, _-_}
 use mathlib.Core.Path.{_≡_, refl, sym, ap, ap₂, _∙_}
 use mathlib.Core.Bool.{Bool, true, false, _&&_, and-true}
 use mathlib.Core.List.{List, [], _∷_}
 use native.Mathlib.Omega.{arith}
-use lib.ListN.{length, take, drop, getD}
+use lib.ListN.{length, take, drop, getD, take-append-drop}
 use lib.Seq.{drop-cons, drop-length}
 use Rattle.syntax.specs.Names.{sameVarId}
+use Rattle.syntax.specs.Sets.{distinct}
 use Rattle.syntax.specs.declared.names.VarId.{VarId}
 use Rattle.model.specs.Linear.{beforeLast, sameIds, endsIn}
+use Rattle.image_spec.proofs.DirectoryLaws.{and-left}
 use Rattle.step_rows.specs.declared.Row.{Row}
-use Rattle.step_rows.specs.Rows.{identified, idsIn, idAt, Inside, behindOf}
+use Rattle.step_rows.specs.Rows.{identified, idsIn, idAt, Inside, RowOf, behindOf}
+use Rattle.step_rows.specs.Apart.{apart}
 use Rattle.step_rows.proofs.RowLaws.{ids-length, ids-behind, ids-before, inside-to}
+use Rattle.step_rows.proofs.DistinctLaws.{distinct-append}
 use Rattle.step_order.specs.Orderly.{frontOf}
+use Rattle.step_order.specs.Sure.{Sure}
 
 -- ---- two tests, the second only where the first holds
 
@@ -22,6 +27,13 @@ module _ {a A : Bool} (asked : a ≡ A) where
 
   pub and-not : (B : Bool) → a ≡ false → false ≡ (A && B)
   and-not B f = ap (λ (b : Bool). b && B) (sym f ∙ asked)
+
+-- ---- the first n
+
+-- .. of distinct IDs are distinct
+distinct-front : (n : ℕ) (l : List VarId) → distinct l ≡ true → distinct (take n l) ≡ true
+distinct-front n l d =
+    and-left (distinct (take n l)) (distinct (drop n l) && apart (take n l) (drop n l)) (sym (distinct-append (take n l) (drop n l)) ∙ (ap distinct (take-append-drop n l) ∙ d))
 
 -- ---- the last
 
@@ -59,3 +71,10 @@ module _ (s : List ℕ) (row : Row) where
   -- the front is inside
   pub inside-front : (k : ℕ) → Inside s row → Inside s (frontOf row k)
   inside-front k i = record { width = i .width; element = i .element; room = inside-to s row (row .len - k) i (omega arith) }
+
+  -- where one is sure of a list, one is of the row with its IDs, and of the row's front
+  pub sure-row : {xs : List VarId} {sure : Bool} → RowOf s row xs → Sure sure xs → Sure sure (idsIn s row)
+  sure-row w f t = ap distinct (w .ids) ∙ f t
+
+  pub sure-front : (k : ℕ) {sure : Bool} → Sure sure (idsIn s row) → Sure sure (idsIn s (frontOf row k))
+  sure-front k f t = ap distinct (ids-before s row (row .len - k) (omega arith)) ∙ distinct-front (row .len - k) (idsIn s row) (f t)

@@ -1,6 +1,6 @@
 -- When the linear machine stops at the state that a store is read as: because of the statement's own IDs, or of those that a Call, a Switch or an
 -- Invoke brings. Assumes nothing.
-use Prim.Native.Nat.{ℕ, zero, suc, _+_, _-_, _<_}
+use Prim.Native.Nat.{ℕ, _+_, _-_, _<_}
 use mathlib.Core.Path.{_≡_, refl, sym, ap, ap₂, _∙_, subst}
 use mathlib.Core.Bool.{Bool, true, false}
 use mathlib.Core.List.{List, [], _∷_, _++_, map, append-nil}
@@ -38,6 +38,7 @@ use Rattle.step_slots.specs.Slots.{valueSlot}
 use Rattle.step_spec.specs.Located.{Machine, sourceMachine, Located, recordsIn, stmtIn, cellIn, stateOf, project, isStop, clausePlace, labelPlace}
 use Rattle.step_spec.specs.Store.{placeOf, entrySlot, environmentOf}
 use Rattle.step_spec.proofs.NeverStops.{source-never-stops}
+use Rattle.step_spec.proofs.StaysDistinct.{take-keys}
 use Rattle.step_spec.proofs.Standing.{Stands}
 use Rattle.step_header.specs.declared.Header.{Header}
 use Rattle.step_header.specs.Headers.{entriesIn}
@@ -129,11 +130,6 @@ module _ {P : Prog} {stepper : Stepper} {bytes : List ℕ} (p : ProgramOf P step
       c .finds h .finds (maxDepth - 1) (clausesIn (stmtIn P i)) (clauses-stand i s)
 
 -- ---- the values: how many there are, the IDs of all but the last, and the last
-
-take-keys : (n : ℕ) (ε : Entries) → keys (take n ε) ≡ take n (keys ε)
-take-keys zero ε = refl
-take-keys (suc n) [] = refl
-take-keys (suc n) (e ∷ ε) = ap (λ (l : List VarId). e .0 ∷ l) (take-keys n ε)
 
 module _ {M : Machine} {P : Prog} {store : List ℕ} {h : Header} {l : Located} (o : Stored M P store h l) where
   entries-count : length (l .environment) ≡ h .entries

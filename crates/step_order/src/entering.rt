@@ -19,12 +19,14 @@ use step_rows::records::list_row;
 use step_rows::slot_row;
 use step_rule::Stepper;
 ghost use Prim.Native.Nat.{ℕ};
-ghost use mathlib.Core.List.{List};
+ghost use mathlib.Core.List.{List, map};
 ghost use Rattle.image_directory.specs.Slots.{recordsIn};
 ghost use Rattle.image_read_nodes.specs.Nodes.{At};
-ghost use Rattle.step_header.specs.Headers.{Holds};
+ghost use Rattle.step_header.specs.Headers.{entriesIn, Holds};
 ghost use Rattle.step_places.specs.Ends.{Ends};
+ghost use Rattle.step_rows.specs.Rows.{slotId};
 ghost use Rattle.step_order.specs.Stopping.{workAt, StopsBy};
+ghost use Rattle.step_order.specs.Sure.{Sure};
 
 // call.rs: the definition's parameters become the list. Whatever the store, only the count of its entries is asked.
 pub fn call(image: &[u8], stepper: Stepper, ends: &[u32], header: Header) -> bool
@@ -52,8 +54,15 @@ pub fn call(image: &[u8], stepper: Stepper, ends: &[u32], header: Header) -> boo
 }
 
 // switch.rs: the clause's parameters come behind all but the last.
-pub fn switch(image: &[u8], stepper: Stepper, ends: &[u32], store: &[u8], header: Header) -> bool
-    requires { ⌜ At (stepper .frame) (now image) (header .position) 5 × (Holds (now store) header × Ends (recordsIn (stepper .frame) (now image)) (now ends)) ⌝ }
+pub fn switch(
+    image: &[u8],
+    stepper: Stepper,
+    ends: &[u32],
+    store: &[u8],
+    header: Header,
+    sure: bool,
+) -> bool
+    requires { ⌜ At (stepper .frame) (now image) (header .position) 5 × (Holds (now store) header × (Ends (recordsIn (stepper .frame) (now image)) (now ends) × Sure sure (map slotId (entriesIn (now store) header)))) ⌝ }
     ensures { λ r. ⌜ StopsBy workAt stepper (now (image .entry)) (now (store .entry)) header r ⌝ }
 {
     let frame = stepper.frame;
@@ -70,7 +79,7 @@ pub fn switch(image: &[u8], stepper: Stepper, ends: &[u32], store: &[u8], header
                 return false;
             }
             let others = front(entries_row(store, header), 1);
-            repeats(store, others, image, parameters)
+            repeats(store, others, image, parameters, sure)
         }
         Found::Nothing => false,
     }
@@ -96,7 +105,7 @@ pub fn invoke(image: &[u8], stepper: Stepper, ends: &[u32], store: &[u8], header
                 return false;
             }
             let held = slot_row(cell.from, cell.len);
-            repeats(image, parameters, store, held)
+            repeats(image, parameters, store, held, false)
         }
         Found::Nothing => false,
     }

@@ -18,6 +18,7 @@ ghost use Rattle.model.specs.Linear.{endsIn};
 ghost use Rattle.step_header.specs.Headers.{entriesIn, Holds};
 ghost use Rattle.step_rows.specs.Rows.{identified, idsIn, Inside, RowOf, slotId};
 ghost use Rattle.step_order.specs.Orderly.{added, replaced, frontOf};
+ghost use Rattle.step_order.specs.Sure.{Sure};
 
 // The IDs of the store's entries.
 pub fn entries_row(store: &[u8], header: Header) -> Row
@@ -75,12 +76,23 @@ pub fn ends_in(image: &[u8], listed: Row, store: &[u8], row: Row) -> bool
     same(store, last, image, listed)
 }
 
+// Is no ID in the row twice? Where one is sure, it is not asked.
+fn is_distinct(bytes: &[u8], row: Row, sure: bool) -> bool
+    requires { ⌜ Inside (now bytes) row × Sure sure (idsIn (now bytes) row) ⌝ }
+    ensures { λ r. ⌜ r ≡ «distinct» (idsIn (now (bytes .entry)) row) ⌝ }
+{
+    if sure {
+        return true;
+    }
+    distinct(bytes, row)
+}
+
 // Can the ID come behind those of the list?
-pub fn adds(store: &[u8], row: Row, id: u32) -> bool
-    requires { ⌜ Inside (now store) row ⌝ }
+pub fn adds(store: &[u8], row: Row, id: u32, sure: bool) -> bool
+    requires { ⌜ Inside (now store) row × Sure sure (idsIn (now store) row) ⌝ }
     ensures { λ r. ⌜ r ≡ added (idsIn (now (store .entry)) row) (identified id) ⌝ }
 {
-    if distinct(store, row) {
+    if is_distinct(store, row, sure) {
         if has(store, row, id) {
             return false;
         }
@@ -90,23 +102,23 @@ pub fn adds(store: &[u8], row: Row, id: u32) -> bool
 }
 
 // Are the listed IDs the last of the list, and can the ID come in their place?
-pub fn replaces(image: &[u8], listed: Row, store: &[u8], row: Row, id: u32) -> bool
-    requires { ⌜ Inside (now image) listed × Inside (now store) row ⌝ }
+pub fn replaces(image: &[u8], listed: Row, store: &[u8], row: Row, id: u32, sure: bool) -> bool
+    requires { ⌜ Inside (now image) listed × (Inside (now store) row × Sure sure (idsIn (now store) row)) ⌝ }
     ensures { λ r. ⌜ r ≡ replaced (idsIn (now (image .entry)) listed) (idsIn (now (store .entry)) row) (identified id) ⌝ }
 {
     if ends_in(image, listed, store, row) {
         let others = front(row, listed.len);
-        return adds(store, others, id);
+        return adds(store, others, id, sure);
     }
     false
 }
 
-// Is an ID twice in the two rows together?
-pub fn repeats(bytes: &[u8], row: Row, others: &[u8], other_row: Row) -> bool
-    requires { ⌜ Inside (now bytes) row × Inside (now others) «other_row» ⌝ }
+// Is an ID twice in the two rows together? One may be sure of the first.
+pub fn repeats(bytes: &[u8], row: Row, others: &[u8], other_row: Row, sure: bool) -> bool
+    requires { ⌜ Inside (now bytes) row × (Inside (now others) «other_row» × Sure sure (idsIn (now bytes) row)) ⌝ }
     ensures { λ r. ⌜ r ≡ not («distinct» (idsIn (now (bytes .entry)) row ++ idsIn (now (others .entry)) «other_row»)) ⌝ }
 {
-    if distinct(bytes, row) {
+    if is_distinct(bytes, row, sure) {
         if distinct(others, other_row) {
             if disjoint(bytes, row, others, other_row) {
                 return false;

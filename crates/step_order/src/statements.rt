@@ -23,6 +23,7 @@ ghost use Rattle.model.specs.Linear.{endsIn};
 ghost use Rattle.image_read_nodes.specs.Nodes.{recordAt, At, firstOf};
 ghost use Rattle.step_rows.specs.Rows.{idsIn, Inside};
 ghost use Rattle.step_order.specs.Orderly.{orderly};
+ghost use Rattle.step_order.specs.Sure.{Sure};
 
 // substitute.rs: no target twice, and every source there.
 pub fn substitute(image: &[u8], frame: Frame, i: usize, store: &[u8], row: Row) -> bool
@@ -38,26 +39,26 @@ pub fn substitute(image: &[u8], frame: Frame, i: usize, store: &[u8], row: Row) 
 }
 
 // let.rs: the args last, and var in their place.
-pub fn let_(image: &[u8], frame: Frame, i: usize, store: &[u8], row: Row) -> bool
-    requires { ⌜ At frame (now image) i 4 × Inside (now store) row ⌝ }
+pub fn let_(image: &[u8], frame: Frame, i: usize, store: &[u8], row: Row, sure: bool) -> bool
+    requires { ⌜ At frame (now image) i 4 × (Inside (now store) row × Sure sure (idsIn (now store) row)) ⌝ }
     ensures { λ r. ⌜ r ≡ orderly (recordAt frame (now (image .entry)) i) (idsIn (now (store .entry)) row) ⌝ }
 {
     let args = list_row(image, frame, i, Kind::LET);
     let var = first(image, frame, i, Kind::LET);
     let id = var.id;
-    replaces(image, args, store, row, id.0)
+    replaces(image, args, store, row, id.0, sure)
 }
 
 // create.rs: the environment last, and var in its place. There must be one.
-pub fn create(image: &[u8], frame: Frame, i: usize, store: &[u8], row: Row) -> bool
-    requires { ⌜ At frame (now image) i 6 × Inside (now store) row ⌝ }
+pub fn create(image: &[u8], frame: Frame, i: usize, store: &[u8], row: Row, sure: bool) -> bool
+    requires { ⌜ At frame (now image) i 6 × (Inside (now store) row × Sure sure (idsIn (now store) row)) ⌝ }
     ensures { λ r. ⌜ r ≡ orderly (recordAt frame (now (image .entry)) i) (idsIn (now (store .entry)) row) ⌝ }
 {
     let var = first(image, frame, i, Kind::CREATE);
     let id = var.id;
     match environment_row(image, frame, i) {
         Environment::Absent => false,
-        Environment::Listed(listed) => replaces(image, listed, store, row, id.0),
+        Environment::Listed(listed) => replaces(image, listed, store, row, id.0, sure),
     }
 }
 
@@ -72,18 +73,18 @@ pub fn is_last(image: &[u8], frame: Frame, i: usize, store: &[u8], row: Row, kin
 }
 
 // literal.rs: var behind all.
-pub fn literal(image: &[u8], frame: Frame, i: usize, store: &[u8], row: Row) -> bool
-    requires { ⌜ At frame (now image) i 8 × Inside (now store) row ⌝ }
+pub fn literal(image: &[u8], frame: Frame, i: usize, store: &[u8], row: Row, sure: bool) -> bool
+    requires { ⌜ At frame (now image) i 8 × (Inside (now store) row × Sure sure (idsIn (now store) row)) ⌝ }
     ensures { λ r. ⌜ r ≡ orderly (recordAt frame (now (image .entry)) i) (idsIn (now (store .entry)) row) ⌝ }
 {
     let var = first(image, frame, i, Kind::LITERAL);
     let id = var.id;
-    adds(store, row, id.0)
+    adds(store, row, id.0, sure)
 }
 
 // op.rs: both operands there, and var behind all.
-pub fn op(image: &[u8], frame: Frame, i: usize, store: &[u8], row: Row) -> bool
-    requires { ⌜ At frame (now image) i 9 × Inside (now store) row ⌝ }
+pub fn op(image: &[u8], frame: Frame, i: usize, store: &[u8], row: Row, sure: bool) -> bool
+    requires { ⌜ At frame (now image) i 9 × (Inside (now store) row × Sure sure (idsIn (now store) row)) ⌝ }
     ensures { λ r. ⌜ r ≡ orderly (recordAt frame (now (image .entry)) i) (idsIn (now (store .entry)) row) ⌝ }
 {
     let statement = records::op(image, frame, i);
@@ -92,7 +93,7 @@ pub fn op(image: &[u8], frame: Frame, i: usize, store: &[u8], row: Row) -> bool
     let var = statement.var.id;
     if has(store, row, fst.0) {
         if has(store, row, snd.0) {
-            return adds(store, row, var.0);
+            return adds(store, row, var.0, sure);
         }
         return false;
     }

@@ -46,16 +46,41 @@ pub fn behind(row: Row, k: usize) -> Row
     }
 }
 
-// The ID at place j.
-pub fn id_of(bytes: &[u8], row: Row, j: usize) -> u32
-    requires { ⌜ Inside (now bytes) row × (j < row .len) ⌝ }
+// The ID at place j. The row's width is given again, so that a caller can give it as a constant: then the ID is read at once.
+fn id_at(bytes: &[u8], row: Row, width: usize, j: usize) -> u32
+    requires { ⌜ Inside (now bytes) row × (width ≡ row .width) × (j < row .len) ⌝ }
     ensures { λ r. ⌜ r ≡ idAt (now (bytes .entry)) row j .0 ⌝ }
 {
     let from = row.from;
     let stride = row.stride;
     let offset = row.offset;
-    let width = row.width;
     number(bytes, from + stride * j + offset, width)
+}
+
+// The ID at place j.
+pub fn id_of(bytes: &[u8], row: Row, j: usize) -> u32
+    requires { ⌜ Inside (now bytes) row × (j < row .len) ⌝ }
+    ensures { λ r. ⌜ r ≡ idAt (now (bytes .entry)) row j .0 ⌝ }
+{
+    let width = row.width;
+    id_at(bytes, row, width, j)
+}
+
+// Is the ID in the row? The width as in id_at.
+fn search(bytes: &[u8], row: Row, width: usize, id: u32) -> bool
+    requires { ⌜ Inside (now bytes) row × (width ≡ row .width) ⌝ }
+    ensures { λ r. ⌜ r ≡ elem (identified id) (idsIn (now (bytes .entry)) row) ⌝ }
+{
+    let len = row.len;
+    let mut j: usize = 0;
+    while j < len {
+        let other = id_at(bytes, row, width, j);
+        if id == other {
+            return true;
+        }
+        j += 1;
+    }
+    false
 }
 
 // Is the ID in the row?
@@ -63,16 +88,12 @@ pub fn has(bytes: &[u8], row: Row, id: u32) -> bool
     requires { ⌜ Inside (now bytes) row ⌝ }
     ensures { λ r. ⌜ r ≡ elem (identified id) (idsIn (now (bytes .entry)) row) ⌝ }
 {
-    let len = row.len;
-    let mut j: usize = 0;
-    while j < len {
-        let other = id_of(bytes, row, j);
-        if id == other {
-            return true;
-        }
-        j += 1;
+    let width = row.width;
+    // The IDs of slots: a loop with a constant for the width.
+    if width == 4 {
+        return search(bytes, row, 4, id);
     }
-    false
+    search(bytes, row, width, id)
 }
 
 // Have two rows the same IDs in the same order?
@@ -131,20 +152,33 @@ pub fn disjoint(bytes: &[u8], row: Row, others: &[u8], other_row: Row) -> bool
     all_are(bytes, row, others, other_row, false)
 }
 
-// Is no ID in the row twice?
-pub fn distinct(bytes: &[u8], row: Row) -> bool
-    requires { ⌜ Inside (now bytes) row ⌝ }
+// Is no ID in the row twice? The width as in id_at.
+fn differ(bytes: &[u8], row: Row, width: usize) -> bool
+    requires { ⌜ Inside (now bytes) row × (width ≡ row .width) ⌝ }
     ensures { λ r. ⌜ r ≡ «distinct» (idsIn (now (bytes .entry)) row) ⌝ }
 {
     let len = row.len;
     let mut j: usize = 0;
     while j < len {
-        let id = id_of(bytes, row, j);
+        let id = id_at(bytes, row, width, j);
         let rest = behind(row, j + 1);
-        if has(bytes, rest, id) {
+        if search(bytes, rest, width, id) {
             return false;
         }
         j += 1;
     }
     true
+}
+
+// Is no ID in the row twice?
+pub fn distinct(bytes: &[u8], row: Row) -> bool
+    requires { ⌜ Inside (now bytes) row ⌝ }
+    ensures { λ r. ⌜ r ≡ «distinct» (idsIn (now (bytes .entry)) row) ⌝ }
+{
+    let width = row.width;
+    // The IDs of slots, as in has.
+    if width == 4 {
+        return differ(bytes, row, 4);
+    }
+    differ(bytes, row, width)
 }

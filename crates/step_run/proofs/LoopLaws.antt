@@ -11,8 +11,8 @@ use lib.Dec.{leb}
 use lib.ListN.{length}
 use lib.Seq.{sets, length-sets}
 use Rattle.model.specs.Syntax.{Prog}
-use Rattle.image_spec.proofs.DirectoryLaws.{and-left, and-right}
-use Rattle.step_spec.specs.Located.{Machine, Located, Stepped, locatedStep}
+use Rattle.image_spec.proofs.DirectoryLaws.{and-right}
+use Rattle.step_spec.specs.Located.{Machine, Located, Stepped}
 use Rattle.step_spec.specs.Store.{headerOf, rawOf, storeBytes}
 use Rattle.step_spec.specs.Events.{shownBytes}
 use Rattle.step_spec.specs.Calls.{Progress, stays, hasRoom, making}
@@ -24,8 +24,8 @@ use Rattle.step_write.specs.declared.Made.the-variants.{Nothing, Full, Step}
 use Rattle.step_rule.specs.declared.Stepper.{Stepper}
 use Rattle.step_rule.specs.Rules.{Makes, no-step, no-room, one-step}
 use Rattle.step_turn.specs.Turning.{Living, Lives, Advances}
-use Rattle.step_turn.proofs.Turns.{NoStep, made-nothing, NoRoom, made-full, MadeStep, made-step}
-use Rattle.step_turn.proofs.TurnLaws.{next-living}
+use Rattle.step_turn.proofs.Turns.{NoStep, made-nothing, NoRoom, made-full, MadeStep}
+use Rattle.step_turn.proofs.TurnLaws.{made-living}
 use Rattle.step_run.specs.declared.Ran.{Ran}
 use Rattle.step_run.specs.Runs.{Did, Runs}
 use Rattle.step_run.proofs.RunLaws.{preceded, Running, running-none, same-events, running-all, running-none-left, running-full, running-next}
@@ -71,28 +71,20 @@ module _ {M : Machine} (lawful : Lawful M) (stepper : Stepper) (bytes : List ℕ
   }
 
   module _ {i : ℕ} {store events : List ℕ} {h : Header} {at : ℕ} (g : Going i store events h at) (below : i < n) {store′ events′ : List ℕ} where
-    step-living : {h′ : Header} {at′ : ℕ} → Advances M stepper bytes store events h at store′ events′ (Step h′ at′) → (P : Prog) (l : Located) (v : Living M P stepper bytes store h l)
-        → (m : MadeStep store events at (locatedStep M P l) store′ events′ h′ at′) × Living M P stepper bytes store′ h′ (m .what .1)
-    step-living {h′} {at′} a P l v =
-        let m = made-step (a .advances P l v) in
-        let b = shownBytes (m .what .0) in
-        let k : length (storeBytes (m .what .1)) ≤ length store = leb-true _ _ (and-left (leb (length (storeBytes (m .what .1))) (length store)) (leb (length b) (length events - at)) (m .room)) in
-        (m, next-living lawful v (m .what) (m .is) k (m .wrote) (m .heads))
-
     event-room : {h′ : Header} {at′ : ℕ} {l : Option Stepped} (m : MadeStep store events at l store′ events′ h′ at′) → length (shownBytes (m .what .0)) ≤ length events - at
     event-room m = leb-true _ _ (and-right (leb (length (storeBytes (m .what .1))) (length store)) (leb (length (shownBytes (m .what .0))) (length events - at)) (m .room))
 
     pub going-next : {h′ : Header} {at′ : ℕ} → Advances M stepper bytes store events h at store′ events′ (Step h′ at′) → Going (i + 1) store′ events′ h′ at′
     going-next {h′} {at′} a =
         let w = g .lives in
-        let x = step-living a (w .program) (w .state) (w .living) in
+        let x = made-living lawful (w .living) (a .advances (w .program) (w .state) (w .living)) in
         record {
           within = omega arith;
           lives = record { program = w .program; state = x .0 .what .1; living = x .1 };
           inside = omega (arith, x .0 .place, event-room (x .0), ap length (x .0 .showed), length-sets events at (shownBytes (x .0 .what .0)), g .inside);
           reached = λ P first k.
               let r = g .reached P first k in
-              let y = step-living a P (r .state) (r .living) in
+              let y = made-living lawful (r .living) (a .advances P (r .state) (r .living)) in
               let e = same-events M P n first store₀ events₀ (r .running) in
               record {
                 state = y .0 .what .1;

@@ -4,6 +4,7 @@ use step_rule::Stepper;
 use step_turn::advance;
 use step_write::Made;
 ghost use Rattle.step_rule.specs.Rules.{machineIn};
+ghost use Rattle.step_order.specs.Sure.{SureIn};
 ghost use Rattle.step_turn.specs.Turning.{Lives, Workplace};
 ghost use Rattle.step_run.specs.Runs.{Runs};
 
@@ -14,7 +15,8 @@ pub struct Ran {
     pub full: bool,
 }
 
-// At most so many steps from the state in the store; the events go to the beginning of their buffer.
+// At most so many steps from the state in the store; the events go to the beginning of their buffer. Where one is sure that the IDs of the linear
+// machine's list are distinct, no step asks: they stay so.
 pub fn run(
     image: &[u8],
     stepper: Stepper,
@@ -24,26 +26,27 @@ pub fn run(
     scratch: &mut [u8],
     header: Header,
     steps: u64,
+    sure: bool,
 ) -> Ran
-    requires { ⌜ Workplace stepper (now image) (now ends) (now events) (now scratch) 0 × Lives (machineIn stepper) stepper (now image) (now store) header ⌝ }
+    requires { ⌜ Workplace stepper (now image) (now ends) (now events) (now scratch) 0 × (Lives (machineIn stepper) stepper (now image) (now store) header × SureIn stepper sure (now store) header) ⌝ }
     ensures { λ r. ⌜ Runs (machineIn stepper) stepper (now (image .entry)) steps (now (store .entry)) (now (events .entry)) header (now (store .exit)) (now (events .exit)) r ⌝ }
 {
     let mut here = header;
-    let mut length: usize = 0;
+    let mut at: usize = 0;
     let mut made: u64 = 0;
     while made < steps {
-        match advance(image, stepper, ends, store, events, scratch, here, length) {
+        match advance(image, stepper, ends, store, events, scratch, here, at, sure) {
             Made::Nothing => {
                 return Ran {
                     steps: made,
-                    length,
+                    length: at,
                     full: false,
                 };
             }
             Made::Full => {
                 return Ran {
                     steps: made,
-                    length,
+                    length: at,
                     full: true,
                 };
             }
@@ -52,14 +55,14 @@ pub fn run(
                 at: end,
             } => {
                 here = next;
-                length = end;
+                at = end;
                 made += 1;
             }
         }
     }
     Ran {
         steps: made,
-        length,
+        length: at,
         full: false,
     }
 }

@@ -9,6 +9,7 @@ ghost use Rattle.image_directory.specs.Slots.{Ready, recordsIn};
 ghost use Rattle.step_header.specs.Headers.{Holds};
 ghost use Rattle.step_places.specs.Ends.{Ends};
 ghost use Rattle.step_rule.specs.Rules.{machineIn};
+ghost use Rattle.step_order.specs.Sure.{SureIn};
 ghost use Rattle.step_settle.specs.Settling.{stopping, Settles};
 
 // The flag set, in the store and in the header.
@@ -34,8 +35,9 @@ pub fn settle(
     ends: &[u32],
     store: &mut [u8],
     header: Header,
+    sure: bool,
 ) -> Header
-    requires { ⌜ Ready (stepper .frame) (now image) × ((header .position < stepper .frame .count) × (Holds (now store) header × Ends (recordsIn (stepper .frame) (now image)) (now ends))) ⌝ }
+    requires { ⌜ Ready (stepper .frame) (now image) × ((header .position < stepper .frame .count) × (Holds (now store) header × (Ends (recordsIn (stepper .frame) (now image)) (now ends) × SureIn stepper sure (now store) header))) ⌝ }
     ensures { λ r. ⌜ Settles (machineIn stepper) stepper (now (image .entry)) (now (store .entry)) header (now (store .exit)) r ⌝ }
 {
     let ended = header.ended;
@@ -43,7 +45,7 @@ pub fn settle(
         return header;
     }
     if stepper.linear {
-        if stops(image, stepper, ends, store, header) {
+        if stops(image, stepper, ends, store, header, sure) {
             return stop(store, header);
         }
         return header;

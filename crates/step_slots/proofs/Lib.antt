@@ -2,3 +2,4 @@
 pub mod SlotReads
 pub mod SlotLaws
 pub mod SlotBytes
+pub mod PutLaws

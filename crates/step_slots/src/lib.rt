@@ -1,9 +1,9 @@
 // The slots of a store: sixteen bytes for a cell, an entry or a value.
 use image_fields::number;
-use image_write_parts::put_byte;
-use image_write_parts::put_number;
+use image_write_parts::store_pair;
 ghost use mathlib.Core.Path.{_≡_};
-ghost use Prim.Native.Nat.{_+_, _*_, _/_, _%_, _≤_, _<_, _^_};
+ghost use mathlib.Core.List.{_∷_, []};
+ghost use Prim.Native.Nat.{_+_, _*_, _/_, _%_, _≤_, _^_};
 ghost use lib.ListN.{length, drop};
 ghost use Rattle.image_spec.specs.Parse.{got, number, field, zeros, onlyIf};
 ghost use Rattle.image_write_parts.specs.Puts.{Puts};
@@ -81,21 +81,41 @@ fn high_half(n: u64) -> u32
     (n / 4294967296) as u32
 }
 
+// The four bytes of n, the lowest first. Here and below the caller has asked for the room once, so that no byte is tested by itself.
+pub fn put_four(out: &mut [u8], at: usize, n: u32) -> usize
+    requires { ⌜ at + 4 ≤ length (now out) ⌝ }
+    ensures { λ r. ⌜ Puts (now (out .entry)) (now (out .exit)) at r (field 4 n) ⌝ }
+{
+    let next = store_pair(out, at, n);
+    store_pair(out, next, n / 65536)
+}
+
 // The eight bytes of n, the lowest first.
 pub fn put_long(out: &mut [u8], at: usize, n: u64) -> usize
-    requires { ⌜ at + 8 < 2 ^ 64 ⌝ }
+    requires { ⌜ at + 8 ≤ length (now out) ⌝ }
     ensures { λ r. ⌜ Puts (now (out .entry)) (now (out .exit)) at r (field 8 n) ⌝ }
 {
-    let next = put_number(out, at, 4, low_half(n));
-    put_number(out, next, 4, high_half(n))
+    let next = put_four(out, at, low_half(n));
+    put_four(out, next, high_half(n))
+}
+
+// A sort, and three zero bytes.
+fn put_sort(out: &mut [u8], at: usize, sort: u8) -> usize
+    requires { ⌜ at + 4 ≤ length (now out) ⌝ }
+    ensures { λ r. ⌜ Puts (now (out .entry)) (now (out .exit)) at r (sort ∷ 0 ∷ 0 ∷ 0 ∷ []) ⌝ }
+{
+    out[at] = sort;
+    out[at + 1] = 0;
+    out[at + 2] = 0;
+    out[at + 3] = 0;
+    at + 4
 }
 
 pub fn put_slot(out: &mut [u8], at: usize, t: Slot) -> usize
-    requires { ⌜ at + 16 < 2 ^ 64 ⌝ }
+    requires { ⌜ at + 16 ≤ length (now out) ⌝ }
     ensures { λ r. ⌜ Puts (now (out .entry)) (now (out .exit)) at r (slotBytes t) ⌝ }
 {
-    let after_sort = put_byte(out, at, t.sort);
-    let after_zeros = put_number(out, after_sort, 3, 0);
-    let after_id = put_number(out, after_zeros, 4, t.id);
+    let after_sort = put_sort(out, at, t.sort);
+    let after_id = put_four(out, after_sort, t.id);
     put_long(out, after_id, t.payload)
 }

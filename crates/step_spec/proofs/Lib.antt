@@ -15,6 +15,7 @@ pub mod Representable
 pub mod SourceKeeps
 pub mod LinearKeeps
 pub mod NeverStops
+pub mod StaysDistinct
 pub mod Direct
 pub mod EventLaws
 pub mod Sound

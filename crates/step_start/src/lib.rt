@@ -65,7 +65,7 @@ fn flag(
 {
     if stepper.linear {
         if distinct(image, row) {
-            return settle(image, stepper, ends, store, header);
+            return settle(image, stepper, ends, store, header, false);
         }
         return stop(store, header);
     }

@@ -7,6 +7,7 @@ use image_read_nodes::parts_of;
 use image_write_bytes::bytes::copy;
 use image_write_directory::directory::narrow;
 use step_header::Header;
+use step_header::long_count;
 use step_header::place;
 use step_places::ends::hop;
 use step_rows::records::Environment;
@@ -127,12 +128,6 @@ pub fn source(
     finish_holding(store, events, at, event(header), next, from, n, cell, var)
 }
 
-fn wide(n: usize) -> u64
-    ensures { λ r. ⌜ r ≡ n ⌝ }
-{
-    n as u64
-}
-
 // A cell that holds the k entries from byte `from` of the store, at the beginning of `scratch`.
 fn pack(store: &[u8], from: usize, k: usize, cell: Slot, scratch: &mut [u8])
     requires { ⌜ (from + 16 * k ≤ length (now store)) × (16 * (k + 1) ≤ length (now scratch)) ⌝ }
@@ -160,7 +155,7 @@ fn close_over(
     let slots = k + 1;
     let from = 64 + 16 * heap;
     let last = from + 16 * kept;
-    let next = after(header, create.next, wide(k), wide(kept));
+    let next = after(header, create.next, long_count(k), long_count(kept));
     let cell = cell_slot(header);
     let var = var_slot(header, create.id);
     pack(store, last, k, cell, scratch);

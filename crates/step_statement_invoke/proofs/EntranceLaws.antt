@@ -1,39 +1,24 @@
 -- The clause that is entered: as the code finds it, and what is known of one that was found. Assumes nothing.
-use Prim.Native.Nat.{ℕ, _+_, _≤_}
+use Prim.Native.Nat.{ℕ, _≤_}
 use mathlib.Core.Path.{_≡_, refl, sym, ap, _∙_, subst}
 use mathlib.Core.Bool.{true}
 use mathlib.Core.List.{List}
 use native.Mathlib.Omega.{arith}
 use lib.ListN.{length}
-use Rattle.image_fields.specs.declared.Found.{Found}
 use Rattle.image_directory.specs.declared.Frame.{Frame}
-use Rattle.image_read_nodes.specs.declared.Follows.{Follows}
-use Rattle.image_read_nodes.specs.Nodes.{Followed}
 use Rattle.step_slots.specs.declared.Slot.{Slot}
 use Rattle.step_slots.specs.Views.{slotsAt, allSlots}
 use Rattle.step_header.specs.declared.Header.{Header}
 use Rattle.step_header.specs.Headers.{heapIn, Holds}
-use Rattle.step_places.specs.Searches.{FindsClause}
 use Rattle.step_rows.specs.declared.Row.{Row}
 use Rattle.step_cells.specs.declared.Cell.{Cell}
 use Rattle.step_cells.specs.Cells.{cellIn′}
 use Rattle.step_cells.proofs.HeapLaws.{cell-holds}
 use Rattle.step_enter.specs.declared.Parameters.{Parameters}
 use Rattle.step_enter.specs.declared.Parameters.the-variants.{Listed}
-use Rattle.step_enter.specs.Entering.{ParametersOf}
+use Rattle.step_enter.specs.Entering.{ClauseOf}
 use Rattle.step_enter.proofs.ParameterLaws.{Fitting, fitting}
-use Rattle.step_statement_invoke.specs.Invoking.{ClauseOf, EntranceOf, no-closure, no-record, no-clause, other-count, a-clause, Enterable}
-
--- the clauses that are searched are those of the record
-pub clause-of : {frame : Frame} {bytes : List ℕ} {place i n tag : ℕ} {f : Follows} {found : Found} {r r′ : Parameters} → i ≡ place → Followed frame bytes i f → n ≡ i + 1
-    → FindsClause frame bytes (f .clauses) n tag found → ParametersOf frame bytes found r → r ≡ r′ → ClauseOf frame bytes place tag r′
-clause-of {frame} {bytes} {place} {i} {n} {tag} {f} {found} {r} {r′} e g k w q s =
-    let a : FindsClause frame bytes (f .clauses) (i + 1) tag found = subst (λ (m : ℕ). FindsClause frame bytes (f .clauses) m tag found) k w in
-    subst (λ (j : ℕ). ClauseOf frame bytes j tag r′) e record {
-      found = found;
-      finds = subst (λ (m : ℕ). FindsClause frame bytes m (i + 1) tag found) (g .clauses) a;
-      reads = subst (ParametersOf frame bytes found) s q;
-    }
+use Rattle.step_statement_invoke.specs.Invoking.{EntranceOf, no-closure, no-record, no-clause, other-count, a-clause, Enterable}
 
 -- what is known of one that was found
 pub record Entered (frame : Frame) (bytes : List ℕ) (cell : Cell) (tag k : ℕ) (row : Row) (body : ℕ) : Type 0 where

@@ -54,7 +54,8 @@ use Rattle.step_rule.proofs.Views.{viewed}
 use Rattle.step_rule.proofs.Leads.{leads-makes}
 use Rattle.step_rule.proofs.Ways.{lead-same, lead-ended}
 use Rattle.step_rule.proofs.Statements.{Is, is-substitute, is-call, is-let, is-switch, is-create as is-create′, is-invoke, is-literal, is-op, is-ifc, is-print, is-exit, here}
-use Rattle.step_statement_invoke.specs.Invoking.{ClauseOf, EntranceOf, no-closure, no-record, no-clause, other-count, EntersClause, over, Invokes, of-outside, of-nothing, of-closure}
+use Rattle.step_enter.specs.Entering.{ClauseOf}
+use Rattle.step_statement_invoke.specs.Invoking.{EntranceOf, no-closure, no-record, no-clause, other-count, EntersClause, over, Invokes, of-outside, of-nothing, of-closure}
 use Rattle.step_statement_invoke.proofs.EntranceLaws.{Entered, entered-by}
 
 -- ---- the statement

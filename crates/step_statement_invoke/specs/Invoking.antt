@@ -6,17 +6,13 @@ use mathlib.Core.List.{List, [], _++_, map}
 use lib.ListN.{length, take, drop}
 use Rattle.syntax.specs.declared.names.VarId.{VarId}
 use Rattle.image_spec.specs.Parse.{each}
-use Rattle.image_spec.specs.Kinds.{clausesOf}
-use Rattle.image_fields.specs.declared.Found.{Found}
 use Rattle.image_directory.specs.declared.Frame.{Frame}
-use Rattle.image_read_nodes.specs.Nodes.{recordAt}
 use Rattle.step_slots.specs.declared.Slot.{Slot}
 use Rattle.step_slots.specs.Slots.{slotBytes}
 use Rattle.step_slots.specs.Views.{slotsAt, allSlots}
 use Rattle.step_spec.specs.Events.{eventHead}
 use Rattle.step_header.specs.declared.Header.{Header}
 use Rattle.step_header.specs.Headers.{heapIn, Holds}
-use Rattle.step_places.specs.Searches.{FindsClause}
 use Rattle.step_rows.specs.declared.Row.{Row}
 use Rattle.step_rows.specs.Rows.{idsIn, Inside}
 use Rattle.step_gather.specs.Gathering.{renamed, shownAs}
@@ -27,13 +23,7 @@ use Rattle.step_write.specs.declared.Made.the-variants.{Nothing}
 use Rattle.step_write.specs.Writing.{Finishes}
 use Rattle.step_enter.specs.declared.Parameters.{Parameters}
 use Rattle.step_enter.specs.declared.Parameters.the-variants.{Absent, Listed}
-use Rattle.step_enter.specs.Entering.{ParametersOf, entered}
-
--- the parameters of the first clause with this tag of the record at index i
-pub record ClauseOf (frame : Frame) (bytes : List ℕ) (i tag : ℕ) (r : Parameters) : Type 0 where
-  pub found : Found
-  pub finds : FindsClause frame bytes (clausesOf (recordAt frame bytes i)) (i + 1) tag found
-  pub reads : ParametersOf frame bytes found r
+use Rattle.step_enter.specs.Entering.{ClauseOf, entered}
 
 -- the clause of a cell that has this tag and k parameters. There is none where the cell is no closure, was made at no record (which does not happen), or has
 -- no such clause

@@ -4,18 +4,16 @@ use image_directory::Frame;
 use image_directory::long;
 use image_kinds::kinds::Kind;
 use image_read_nodes::first;
-use image_read_nodes::parts_of;
 use step_cells::Cell;
 use step_cells::cell_of;
 use step_enter::Parameters;
+use step_enter::clause_of;
 use step_enter::fetch;
-use step_enter::parameters_of;
 use step_gather::gather;
 use step_gather::rename;
 use step_header::Header;
 use step_header::place;
 use step_lookup::slot_of;
-use step_places::search::find_clause;
 use step_rows::Row;
 use step_rows::records::list_row;
 use step_rule::Stepper;
@@ -54,7 +52,14 @@ fn read_tag(image: &[u8], frame: Frame, i: usize) -> u32
 }
 
 // The parameters of the first clause with this tag of the closure in a cell; absent also where they are not k, or the cell is no closure.
-fn clause_of(image: &[u8], frame: Frame, ends: &[u32], cell: Cell, tag: u32, k: usize) -> Parameters
+fn entrance_of(
+    image: &[u8],
+    frame: Frame,
+    ends: &[u32],
+    cell: Cell,
+    tag: u32,
+    k: usize,
+) -> Parameters
     requires { ⌜ Ready frame (now image) × Ends (recordsIn frame (now image)) (now ends) ⌝ }
     ensures { λ r. ⌜ EntranceOf frame (now (image .entry)) cell tag k r ⌝ }
 {
@@ -67,9 +72,7 @@ fn clause_of(image: &[u8], frame: Frame, ends: &[u32], cell: Cell, tag: u32, k: 
     if count <= made {
         return Parameters::Absent;
     }
-    let follows = parts_of(image, frame, made);
-    let found = find_clause(image, frame, ends, made + 1, follows.clauses, tag);
-    match parameters_of(image, frame, found, Kind::CLAUSE) {
+    match clause_of(image, frame, ends, cell.id, tag) {
         Parameters::Absent => Parameters::Absent,
         Parameters::Listed { row, body } => {
             let len = row.len;
@@ -195,7 +198,7 @@ fn source_enter(
         return finish_showing_from(store, events, at, shown, ended(header), scratch, k);
     }
     let cell = cell_of(store, header, value);
-    match clause_of(image, frame, ends, cell, tag, k) {
+    match entrance_of(image, frame, ends, cell, tag, k) {
         Parameters::Absent => Made::Nothing,
         Parameters::Listed { row, body } => {
             enter_clause(
@@ -282,7 +285,7 @@ fn linear_enter(
         return finish_showing(store, events, at, last, ended(header), from, k);
     }
     let cell = cell_of(store, header, value);
-    match clause_of(image, frame, ends, cell, tag, k) {
+    match entrance_of(image, frame, ends, cell, tag, k) {
         Parameters::Absent => Made::Nothing,
         Parameters::Listed { row, body } => {
             fetch(store, from, k, scratch);

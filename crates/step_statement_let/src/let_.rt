@@ -7,6 +7,7 @@ use image_write_bytes::bytes::copy;
 use step_gather::erase;
 use step_gather::gather;
 use step_header::Header;
+use step_header::long_count;
 use step_header::place;
 use step_rows::Row;
 use step_rows::records::list_row;
@@ -114,12 +115,6 @@ fn var_slot(header: Header, id: u32) -> Slot
         id,
         payload: header.heap,
     }
-}
-
-fn long_count(n: usize) -> u64
-    ensures { λ r. ⌜ r ≡ n ⌝ }
-{
-    n as u64
 }
 
 // A cell that holds the values of the args, and var behind it, at the beginning of `scratch`; no, if one is absent.

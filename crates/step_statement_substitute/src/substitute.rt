@@ -4,6 +4,7 @@ use image_directory::long;
 use step_gather::gather;
 use step_gather::rename;
 use step_header::Header;
+use step_header::long_count;
 use step_header::place;
 use step_rows::Row;
 use step_rows::records::source_row;
@@ -67,12 +68,6 @@ fn after(header: Header, k: u64) -> Header
         heap: header.heap,
         entries: k,
     }
-}
-
-fn long_count(n: usize) -> u64
-    ensures { λ r. ⌜ r ≡ n ⌝ }
-{
-    n as u64
 }
 
 // The first k slots of `scratch` instead of the entries.

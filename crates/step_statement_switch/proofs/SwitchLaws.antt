@@ -1,5 +1,5 @@
 -- Switch: what the functions read and write, and the step of either machine. Assumes nothing.
-use Prim.Native.Nat.{ℕ, _+_}
+use Prim.Native.Nat.{ℕ}
 use mathlib.Core.Path.{_≡_, refl, sym, ap, _∙_, subst}
 use mathlib.Core.List.{List, _++_}
 use mathlib.Core.Option.{Option}
@@ -9,10 +9,8 @@ use Rattle.syntax.specs.Context.{Context}
 use Rattle.syntax.specs.declared.names.Name.{Name}
 use Rattle.model.specs.Syntax.{Stmt, Clauses, Prog}
 use Rattle.model.specs.Machine.{Value, Entries, at, Outcome, shows, orHalt, Switch′, findClause, matched}
-use Rattle.image_fields.specs.declared.Found.{Found}
 use Rattle.image_directory.specs.declared.Frame.{Frame}
-use Rattle.image_read_nodes.specs.declared.Follows.{Follows}
-use Rattle.image_read_nodes.specs.Nodes.{recordAt, Followed}
+use Rattle.image_read_nodes.specs.Nodes.{recordAt}
 use Rattle.step_slots.specs.declared.Slot.{Slot}
 use Rattle.step_slots.specs.Slots.{valueSlot}
 use Rattle.step_slots.specs.Views.{slotsAt}
@@ -20,7 +18,7 @@ use Rattle.step_spec.specs.Located.{Machine, Located, stmtIn, project, locatedS
 use Rattle.step_spec.specs.Store.{placeOf, environmentOf}
 use Rattle.step_spec.specs.Events.{eventHead, eventBytes}
 use Rattle.step_header.specs.declared.Header.{Header}
-use Rattle.step_places.specs.Searches.{nameOf, FindsClause}
+use Rattle.step_places.specs.Searches.{nameOf}
 use Rattle.step_rows.specs.declared.Row.{Row}
 use Rattle.step_rows.specs.Rows.{idsIn}
 use Rattle.step_cells.specs.declared.Cell.{Cell}
@@ -31,19 +29,13 @@ use Rattle.step_rule.specs.declared.Stepper.{Stepper}
 use Rattle.step_rule.specs.Rules.{ProgramOf, Stored, resting, Makes}
 use Rattle.step_enter.specs.declared.Parameters.{Parameters}
 use Rattle.step_enter.specs.declared.Parameters.the-variants.{Listed}
-use Rattle.step_enter.specs.Entering.{ParametersOf, Enters}
+use Rattle.step_enter.specs.Entering.{Enters}
 use Rattle.step_enter.proofs.ParameterLaws.{Fitting, fitting, withValues, absent-halts, uneven-halts, enters-with}
 use Rattle.step_enter.proofs.Around.{Around, nothing-makes, enters-makes}
 use Rattle.step_statement_switch.proofs.TheSwitch.{Switching, clause-found, next-is}
-use Rattle.step_statement_switch.specs.Switching.{ClauseOf, ClauseFor, other-cell, no-clause, other-count, the-clause, SwitchesOn, not-switched, switched}
+use Rattle.step_statement_switch.specs.Switching.{ClauseFor, other-cell, no-clause, other-count, the-clause, SwitchesOn, not-switched, switched}
 
 -- ── what is read and written ──
-
-pub clause-of : {frame : Frame} {bytes : List ℕ} {i position tag : ℕ} {f : Follows} {found : Found} {r : Parameters} → i ≡ position → Followed frame bytes i f
-    → FindsClause frame bytes (f .clauses) (i + 1) tag found → ParametersOf frame bytes found r → ClauseOf frame bytes position tag r
-clause-of {frame} {bytes} {i} {position} {tag} {f} {found} {r} e g w q =
-    subst (λ (k : ℕ). ClauseOf frame bytes k tag r) e
-    record { found = found; finds = subst (λ (n : ℕ). FindsClause frame bytes n (i + 1) tag found) (g .clauses) w; reads = q }
 
 -- a clause that is entered has as many parameters as the cell has values
 pub record Enterable (bytes : List ℕ) (cell : Cell) (row : Row) : Type 0 where

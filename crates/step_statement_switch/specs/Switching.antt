@@ -1,17 +1,13 @@
 -- What a Switch on a value reads and writes.
-use Prim.Native.Nat.{ℕ, _+_}
+use Prim.Native.Nat.{ℕ}
 use mathlib.Core.Path.{_≡_}
 use mathlib.Core.List.{List}
-use Rattle.image_spec.specs.Kinds.{clausesOf}
-use Rattle.image_fields.specs.declared.Found.{Found}
 use Rattle.image_directory.specs.declared.Frame.{Frame}
-use Rattle.image_read_nodes.specs.Nodes.{recordAt}
 use Rattle.step_slots.specs.declared.Slot.{Slot}
 use Rattle.step_slots.specs.Views.{slotsAt}
 use Rattle.step_spec.specs.Events.{eventHead}
 use Rattle.step_header.specs.declared.Header.{Header}
 use Rattle.step_header.specs.Headers.{heapIn}
-use Rattle.step_places.specs.Searches.{FindsClause}
 use Rattle.step_rows.specs.declared.Row.{Row}
 use Rattle.step_rows.specs.Rows.{idsIn}
 use Rattle.step_cells.specs.declared.Cell.{Cell}
@@ -21,13 +17,7 @@ use Rattle.step_write.specs.declared.Made.{Made}
 use Rattle.step_write.specs.declared.Made.the-variants.{Nothing}
 use Rattle.step_enter.specs.declared.Parameters.{Parameters}
 use Rattle.step_enter.specs.declared.Parameters.the-variants.{Absent, Listed}
-use Rattle.step_enter.specs.Entering.{ParametersOf, Enters}
-
--- the parameters of the first clause with this tag of the record at index i
-pub record ClauseOf (frame : Frame) (bytes : List ℕ) (i tag : ℕ) (r : Parameters) : Type 0 where
-  pub found : Found
-  pub finds : FindsClause frame bytes (clausesOf (recordAt frame bytes i)) (i + 1) tag found
-  pub reads : ParametersOf frame bytes found r
+use Rattle.step_enter.specs.Entering.{ClauseOf, Enters}
 
 -- the clause of the Switch at index i that is entered for a cell: none where it is not a cell of a Let, where no clause has its tag, or where the clause has
 -- another number of parameters than the cell has values

@@ -3,17 +3,15 @@ use image_directory::Frame;
 use image_directory::long;
 use image_kinds::kinds::Kind;
 use image_read_nodes::first;
-use image_read_nodes::parts_of;
 use step_cells::Cell;
 use step_cells::cell_of;
 use step_enter::Parameters;
+use step_enter::clause_of;
 use step_enter::enter;
 use step_enter::fetch;
-use step_enter::parameters_of;
 use step_header::Header;
 use step_header::place;
 use step_lookup::slot_of;
-use step_places::search::find_clause;
 use step_rule::Stepper;
 use step_slots::Slot;
 use step_slots::read;
@@ -28,18 +26,7 @@ ghost use Rattle.step_spec.specs.Events.{eventHead};
 ghost use Rattle.step_places.specs.Ends.{Ends};
 ghost use Rattle.step_write.specs.Writing.{headBytes};
 ghost use Rattle.step_rule.specs.Rules.{Given, MakesAs};
-ghost use Rattle.step_statement_switch.specs.Switching.{ClauseOf, ClauseFor, Switches};
-
-// The first with this tag of the clauses of the Switch at this place.
-fn clause_of(image: &[u8], frame: Frame, ends: &[u32], position: u32, tag: u32) -> Parameters
-    requires { ⌜ At frame (now image) position 5 × Ends (recordsIn frame (now image)) (now ends) ⌝ }
-    ensures { λ r. ⌜ ClauseOf frame (now (image .entry)) position tag r ⌝ }
-{
-    let i = long(position);
-    let follows = parts_of(image, frame, i);
-    let found = find_clause(image, frame, ends, i + 1, follows.clauses, tag);
-    parameters_of(image, frame, found, Kind::CLAUSE)
-}
+ghost use Rattle.step_statement_switch.specs.Switching.{ClauseFor, Switches};
 
 // The clause that is entered for this cell, by the Switch at this place.
 fn clause_for(image: &[u8], frame: Frame, ends: &[u32], position: u32, cell: Cell) -> Parameters

@@ -2,3 +2,4 @@
 pub mod Turns
 pub mod TurnLaws
 pub mod RestLaws
+pub mod SureLaws

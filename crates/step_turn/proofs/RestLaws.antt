@@ -82,7 +82,7 @@ module _ {stepper : Stepper} {bytes store : List ℕ} {h : Header} (ended : h .e
   goes P l v = goes-on (lawful-in (stepper .linear)) v (bit-clear (l .hasEnded) (λ f. ended (ended-bit (v .reads) ∙ f))) (bit-clear (l .hasStopped) (λ f. stopped (stopped-bit (v .reads) ∙ f)))
 
   module _ {events : List ℕ} {at : ℕ} {store₁ events₁ : List ℕ} {m : Made} (a : MakesAs (machineIn stepper) stepper bytes store events h at store₁ events₁ m) where
-    made-as : (k : Made) → m ≡ k → (P : Prog) (l : Located) → Living (machineIn stepper) P stepper bytes store h l → Makes store events at (resting (locatedStep (machineIn stepper) P l)) store₁ events₁ k
+    pub made-as : (k : Made) → m ≡ k → (P : Prog) (l : Located) → Living (machineIn stepper) P stepper bytes store h l → Makes store events at (resting (locatedStep (machineIn stepper) P l)) store₁ events₁ k
     made-as k e P l v = subst (Makes store events at (resting (locatedStep (machineIn stepper) P l)) store₁ events₁) e (a .makes P l (v .program) (goes P l v))
 
     pub asked-nothing : m ≡ Nothing → Advances (machineIn stepper) stepper bytes store events h at store₁ events₁ Nothing

@@ -76,17 +76,18 @@ module _ {M : Machine} (lawful : Lawful M) {P : Prog} {stepper : Stepper} {bytes
       let wrote : store₁ ≡ sets store 0 (storeBytes l₁) = m .wrote ∙ ap (λ (z : Stepped). sets store 0 (storeBytes (z .1))) q in
       record { read = ap (stateFrom P) wrote ∙ rests r e room; heads = m .heads ∙ ap (λ (z : Stepped). headerOf (rawOf (z .1))) q }
 
-  -- what a rule wrote is a state
+  -- what a rule wrote is the state that its step leads to
   pub record Rests (store₁ : List ℕ) (h₁ : Header) : Type 0 where
-    pub state : Located
-    pub reads : Reads P store₁ h₁ state
+    pub step : Stepped
+    pub is : locatedStep M P l ≡ some step
+    pub reads : Reads P store₁ h₁ (going′ (step .1))
 
   pub made-rests : {events store₁ events₁ : List ℕ} {at n : ℕ} {h₁ : Header} → Makes store events at (resting (locatedStep M P l)) store₁ events₁ (Step h₁ n) → Rests store₁ h₁
   made-rests {events} {store₁} {events₁} {at} {n} {h₁} m = go (locatedStep M P l) refl (made-step m)
     where
       go : (o : Option Stepped) → locatedStep M P l ≡ o → MadeStep store events at (resting o) store₁ events₁ h₁ n → Rests store₁ h₁
       go none e k = let z : _≡_ {A = ℕ} 0 1 = cc (k .is) in absurd (omega arith)
-      go (some r) e k = record { state = going′ (r .1); reads = made-reads r e k }
+      go (some r) e k = record { step = r; is = e; reads = made-reads r e k }
 
   module _ (s : l .hasStopped ≡ false) {events store₁ store₂ events₁ : List ℕ} {at n : ℕ} {h₁ h₂ : Header} (w : Settles M stepper bytes store₁ h₁ store₂ h₂) where
     settled : (r : Stepped) → locatedStep M P l ≡ some r → MadeStep store events at (some (r .0, going′ (r .1))) store₁ events₁ h₁ n → Makes store events at (locatedStep M P l) store₂ events₁ (Step h₂ n)
@@ -141,3 +142,12 @@ module _ {M : Machine} (lawful : Lawful M) {P : Prog} {stepper : Stepper} {bytes
         settled = λ f. sym (flag-is (not-stopped r e) r e) ∙ f;
         short = omega (arith, v .short, ap length w, length-sets store 0 (storeBytes (r .1)));
       }
+
+  -- .. by a turn
+  pub made-living : {events store′ events′ : List ℕ} {at n : ℕ} {h′ : Header} → Makes store events at (locatedStep M P l) store′ events′ (Step h′ n)
+      → (m : MadeStep store events at (locatedStep M P l) store′ events′ h′ n) × Living M P stepper bytes store′ h′ (m .what .1)
+  made-living {events} {at = at} k =
+      let m = made-step k in
+      let b = shownBytes (m .what .0) in
+      let room : length (storeBytes (m .what .1)) ≤ length store = leb-true _ _ (and-left (leb (length (storeBytes (m .what .1))) (length store)) (leb (length b) (length events - at)) (m .room)) in
+      (m, next-living (m .what) (m .is) room (m .wrote) (m .heads))

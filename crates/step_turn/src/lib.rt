@@ -7,6 +7,7 @@ use step_rule::Stepper;
 use step_settle::settle;
 use step_write::Made;
 ghost use Rattle.step_rule.specs.Rules.{machineIn};
+ghost use Rattle.step_order.specs.Sure.{SureIn};
 ghost use Rattle.step_turn.specs.Turning.{Lives, Workplace, Advances};
 
 // The stepper's step from the state in the store, if it has one and there is room for it.
@@ -19,8 +20,9 @@ pub fn advance(
     scratch: &mut [u8],
     header: Header,
     at: usize,
+    sure: bool,
 ) -> Made
-    requires { ⌜ Workplace stepper (now image) (now ends) (now events) (now scratch) at × Lives (machineIn stepper) stepper (now image) (now store) header ⌝ }
+    requires { ⌜ Workplace stepper (now image) (now ends) (now events) (now scratch) at × (Lives (machineIn stepper) stepper (now image) (now store) header × SureIn stepper sure (now store) header) ⌝ }
     ensures { λ r. ⌜ Advances (machineIn stepper) stepper (now (image .entry)) (now (store .entry)) (now (events .entry)) header at (now (store .exit)) (now (events .exit)) r ⌝ }
 {
     let ended = header.ended;
@@ -50,7 +52,7 @@ pub fn advance(
             header: next,
             at: end,
         } => Made::Step {
-            header: settle(image, stepper, ends, store, next),
+            header: settle(image, stepper, ends, store, next, sure),
             at: end,
         },
     }

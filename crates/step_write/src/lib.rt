@@ -2,11 +2,12 @@
 use image_write_bytes::bytes::copy;
 use image_write_bytes::bytes::move_up;
 use image_write_parts::put_byte;
-use image_write_parts::put_number;
+use image_write_parts::store_pair;
 use step_header::Header;
 use step_header::place;
 use step_header::put_header;
 use step_slots::Slot;
+use step_slots::put_four;
 use step_slots::put_long;
 use step_slots::put_slot;
 ghost use mathlib.Core.Path.{_≡_};
@@ -49,13 +50,13 @@ pub fn has_room(store: usize, header: Header, events: usize, at: usize, bytes: u
 }
 
 pub fn put_event(events: &mut [u8], at: usize, event: EventHead) -> usize
-    requires { ⌜ at + 16 < 2 ^ 64 ⌝ }
+    requires { ⌜ at + 16 ≤ length (now events) ⌝ }
     ensures { λ r. ⌜ Puts (now (events .entry)) (now (events .exit)) at r (headBytes event) ⌝ }
 {
     let after_kind = put_byte(events, at, event.kind);
     let after_detail = put_byte(events, after_kind, event.detail);
-    let after_name = put_number(events, after_detail, 2, event.name);
-    let after_count = put_number(events, after_name, 4, event.count);
+    let after_name = store_pair(events, after_detail, event.name);
+    let after_count = put_four(events, after_name, event.count);
     put_long(events, after_count, event.payload)
 }
 
@@ -70,7 +71,7 @@ fn insert(store: &mut [u8], at: usize, n: usize, slots: &[u8], k: usize)
 
 // The event and the header of a step whose slots are written.
 fn seal(store: &mut [u8], events: &mut [u8], at: usize, event: EventHead, header: Header) -> Made
-    requires { ⌜ at + 16 ≤ length (now events) ⌝ }
+    requires { ⌜ (64 ≤ length (now store)) × (at + 16 ≤ length (now events)) ⌝ }
     ensures { λ r. ⌜ Sealed (now (store .entry)) (now (events .entry)) at (headBytes event) header (now (store .exit)) (now (events .exit)) r ⌝ }
 {
     let next = put_event(events, at, event);

@@ -41,7 +41,8 @@ pub struct Call {
     pub function: usize,
     // The record that is annotated, the definition that is started, or the steps that are asked for.
     pub index: usize,
-    // The length of the lent buffer (of a stepper the store), and the byte that it is full of before the call.
+    // The length of the lent buffer, of a stepper that of the store; and the byte that the buffer, of a stepper the event buffer and the
+    // store of a start, is full of before the call.
     pub room: usize,
     pub old: u8,
     pub number: usize,

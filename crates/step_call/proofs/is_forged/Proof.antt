@@ -1,6 +1,6 @@
 -- `is_forged` meets its contract. Assumes nothing.
+use mathlib.Core.Bool.{false≢true}
 use Rattle.step_call.proofs.ForgedLaws.{ended-honest, stopped-honest, source-honest, linear-forged}
-use borrow.Author.Needs.{needs}
 use Rattle.step_call.proofs.is_forged.Statement.{statement}
 use Rattle.step_call.proofs.is_forged.Tie as tie
 use Rattle.step_call.proofs.is_forged.Reads as reads
@@ -14,7 +14,9 @@ returns-2 : tie.Need-returns-2
 returns-2 c = stopped-honest (c .if2 .taken)
 
 stops-requires : tie.Need-stops-requires
-stops-requires c κs = search needs
+stops-requires c κs =
+    let p = c .before .before .before .before .before .before .pre in
+    (p .0, (p .1 .0, (p .1 .1 .0, (p .1 .1 .1, λ t. absurd (false≢true t)))))
 
 returns-3 : tie.Need-returns-3
 returns-3 c =

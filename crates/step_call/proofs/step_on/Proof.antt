@@ -11,6 +11,7 @@ use Rattle.step_call.proofs.step_on.Reads as reads
 use Rattle.step_call.proofs.step_on.Lts as lts
 use Rattle.step_call.proofs.answer.Reads as answer-reads
 use Rattle.step_call.proofs.is_forged.Reads as is-forged-reads
+use Rattle.step_call.proofs.is_sure.Reads as is-sure-reads
 use Rattle.step_open.proofs.open_store.Reads as open-store-reads
 use Rattle.step_places.proofs.ends.fill_ends.Reads as fill-ends-reads
 use Rattle.step_run.proofs.run.Reads as run-reads
@@ -64,6 +65,11 @@ returns-2 c =
     let k = filled (c .before .before .before) in
     forged-steps (opened k .open-store .ensures) (unopened k .if1 .left) (c .before .is-forged .ensures) (c .if2 .taken)
 
+is-sure-requires : tie.Need-is-sure-requires
+is-sure-requires c κs =
+    let k = filled (c .before .before .before .before) in
+    opened-holds (opened k .open-store .ensures) (unopened k .if1 .left) (first k .pre) .1
+
 slice-aggregate-run : tie.Need-slice-aggregate-run
 slice-aggregate-run c = search needs
 
@@ -72,10 +78,11 @@ slice-aggregate-run-2 c = search needs
 
 run-requires : tie.Need-run-requires
 run-requires c κs =
-    let t = c .before .before .before .before in
+    let u = c .before .before .before .before in
+    let t = u .before .before in
     let k = filled (t .before .before .before) in
     let a = first k .pre in
-    (record { ready = a .ready; ends′ = k .fill-ends .ensures; place = omega arith; room = search needs }, opened-lives (opened k .open-store .ensures) (unopened k .if1 .left) (t .before .is-forged .ensures) (t .if2 .left) (short (first k)) a)
+    (record { ready = a .ready; ends′ = k .fill-ends .ensures; place = omega arith; room = search needs }, (opened-lives (opened k .open-store .ensures) (unopened k .if1 .left) (t .before .is-forged .ensures) (t .if2 .left) (short (first k)) a, u .is-sure .ensures))
 
 answer-requires : tie.Need-answer-requires
 answer-requires c κs = search needs
@@ -89,7 +96,7 @@ same-length-4 c = search needs
 returns-3 : tie.Need-returns-3
 returns-3 c =
     let r = c .before .before .before .before .before .before in
-    let t = r .before .before .before .before .before in
+    let t = r .before .before .before .before .before .before .before in
     let k = filled (t .before .before .before) in
     ran-steps (opened k .open-store .ensures) (unopened k .if1 .left) (t .before .is-forged .ensures) (t .if2 .left) (short (first k)) (r .run .ensures) (c .answer .ensures)
 
@@ -106,6 +113,7 @@ step-on-spec =
     is-forged-requires
     same-length-2
     returns-2
+    is-sure-requires
     slice-aggregate-run
     slice-aggregate-run-2
     run-requires

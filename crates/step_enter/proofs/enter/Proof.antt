@@ -7,7 +7,7 @@ use borrow.Author.Needs.{needs}
 use Rattle.step_enter.proofs.enter.Statement.{statement}
 use Rattle.step_enter.proofs.enter.Tie as tie
 
-abbrev to-rename : tie.After-wide → tie.After-rename
+abbrev to-rename : tie.After-long-count → tie.After-rename
 to-rename c = c .before .before .before
 
 abbrev start : tie.After-place → tie.Start
@@ -19,14 +19,14 @@ place-requires c κs = search needs
 rename-requires : tie.Need-rename-requires
 rename-requires c κs = search needs
 
-add-wide : tie.Need-add-wide
-add-wide c = search needs
+add-long-count : tie.Need-add-long-count
+add-long-count c = search needs
 
-add-wide-2 : tie.Need-add-wide-2
-add-wide-2 c = search needs
+add-long-count-2 : tie.Need-add-long-count-2
+add-long-count-2 c = search needs
 
-wide-requires : tie.Need-wide-requires
-wide-requires c κs = search needs
+long-count-requires : tie.Need-long-count-requires
+long-count-requires c κs = search needs
 
 add-from : tie.Need-add-from
 add-from c = search needs
@@ -58,7 +58,7 @@ returns c =
     let s = start k in
     let a = s .args in
     let n = ids-length (now (a .image)) (a .row) in
-    enters-as (idsIn (now (a .image)) (a .row)) (now (a .scratch)) (k .place .ensures) n (s .pre .1 .1 .1 .0) (r .rename .ensures) (w .wide .ensures) (f .finish .ensures)
+    enters-as (idsIn (now (a .image)) (a .row)) (now (a .scratch)) (k .place .ensures) n (s .pre .1 .1 .1 .0) (r .rename .ensures) (w .long-count .ensures) (f .finish .ensures)
 
 pub enter-spec : {M : Type 1} → statement M
 enter-spec =
@@ -66,9 +66,9 @@ enter-spec =
     (tie.spec
     place-requires
     rename-requires
-    add-wide
-    add-wide-2
-    wide-requires
+    add-long-count
+    add-long-count-2
+    long-count-requires
     add-from
     mul-from
     add-from-2

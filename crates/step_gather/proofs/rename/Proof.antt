@@ -33,17 +33,17 @@ loop-holds c = filled-none _ _ _
 id-of-requires : tie.Need-id-of-requires Inv-loop μ-loop
 id-of-requires c κs = (start (c .before) .pre .0, c .loop-test .taken)
 
-mul-put-number : tie.Need-mul-put-number Inv-loop μ-loop
-mul-put-number c = omega arith
+mul-put-four : tie.Need-mul-put-four Inv-loop μ-loop
+mul-put-four c = omega arith
 
-add-put-number : tie.Need-add-put-number Inv-loop μ-loop
-add-put-number c = omega arith
+add-put-four : tie.Need-add-put-four Inv-loop μ-loop
+add-put-four c = omega arith
 
-add-put-number-2 : tie.Need-add-put-number-2 Inv-loop μ-loop
-add-put-number-2 c = omega arith
+add-put-four-2 : tie.Need-add-put-four-2 Inv-loop μ-loop
+add-put-four-2 c = omega arith
 
-put-number-requires : tie.Need-put-number-requires Inv-loop μ-loop
-put-number-requires c κs = omega arith
+put-four-requires : tie.Need-put-four-requires Inv-loop μ-loop
+put-four-requires c κs = omega (arith, filled-same (c .before .before .before .loop .inv))
 
 add-j : tie.Need-add-j Inv-loop μ-loop
 add-j c = omega arith
@@ -58,7 +58,7 @@ loop-again c =
     let s = start l in
     let a = s .args in
     renamed-next (idsIn (now (a .image)) (a .row)) (now (a .slots)) (a .at) (a .row .len) _ (ids-count s) (s .pre .1 .1) (d .before .loop-test .taken) (d .id-of .ensures)
-    (c .before .before .put-number .ensures) (l .loop .inv)
+    (c .before .before .put-four .ensures) (l .loop .inv)
 
 same-length : tie.Need-same-length Inv-loop μ-loop
 same-length c = filled-same (c .before .loop .inv)
@@ -80,10 +80,10 @@ rename-spec =
     μ-loop
     loop-holds
     id-of-requires
-    mul-put-number
-    add-put-number
-    add-put-number-2
-    put-number-requires
+    mul-put-four
+    add-put-four
+    add-put-four-2
+    put-four-requires
     add-j
     loop-less
     loop-again

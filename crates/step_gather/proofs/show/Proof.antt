@@ -54,7 +54,7 @@ add-put-slot : tie.Need-add-put-slot Inv-loop μ-loop
 add-put-slot c = omega arith
 
 put-slot-requires : tie.Need-put-slot-requires Inv-loop μ-loop
-put-slot-requires c κs = omega arith
+put-slot-requires c κs = omega (arith, filled-same (c .before .before .before .before .loop .inv))
 
 add-j : tie.Need-add-j Inv-loop μ-loop
 add-j c = omega arith

@@ -8,11 +8,12 @@ use Rattle.step_header.proofs.put_header.Reads as reads
 use Rattle.step_header.proofs.put_header.Lts as lts
 use Rattle.step_header.proofs.put_zeros.Reads as put-zeros-reads
 use Rattle.image_write_parts.proofs.put_byte.Reads as put-byte-reads
-use Rattle.image_write_parts.proofs.put_number.Reads as put-number-reads
+use Rattle.image_write_parts.proofs.store_pair.Reads as store-pair-reads
+use Rattle.step_slots.proofs.put_four.Reads as put-four-reads
 use Rattle.step_slots.proofs.put_long.Reads as put-long-reads
 
-put-number-requires : tie.Need-put-number-requires
-put-number-requires c κs = search needs
+put-four-requires : tie.Need-put-four-requires
+put-four-requires c κs = search needs
 
 put-byte-requires : tie.Need-put-byte-requires
 put-byte-requires c κs = search needs
@@ -20,8 +21,8 @@ put-byte-requires c κs = search needs
 put-byte-requires-2 : tie.Need-put-byte-requires-2
 put-byte-requires-2 c κs = search needs
 
-put-number-requires-2 : tie.Need-put-number-requires-2
-put-number-requires-2 c κs = search needs
+store-pair-requires : tie.Need-store-pair-requires
+store-pair-requires c κs = search needs
 
 put-long-requires : tie.Need-put-long-requires
 put-long-requires c κs = search needs
@@ -48,10 +49,10 @@ returns c =
     let ended = stopped .before .before .before .before in
     let position = ended .before .before .before .before in
     let h = position .before .before .before .args .h in
-    puts-then {xs = field 4 (h .position)} (position .put-number .ensures)
+    puts-then {xs = field 4 (h .position)} (position .put-four .ensures)
     (puts-then {xs = h .ended ∷ []} (ended .put-byte .ensures)
     (puts-then {xs = h .stopped ∷ []} (stopped .put-byte2 .ensures)
-    (puts-then {xs = field 2 0} (zeros .put-number2 .ensures)
+    (puts-then {xs = field 2 0} (zeros .store-pair .ensures)
     (puts-then {xs = field 8 (h .cells)} (cells .put-long .ensures)
     (puts-then {xs = field 8 (h .heap)} (heap .put-long2 .ensures)
     (puts-then {xs = field 8 (h .entries)} (entries .put-long3 .ensures) (c .before .before .put-zeros .ensures)))))))
@@ -60,10 +61,10 @@ pub put-header-spec : {M : Type 1} → statement M
 put-header-spec =
     tie.close
     (tie.spec
-    put-number-requires
+    put-four-requires
     put-byte-requires
     put-byte-requires-2
-    put-number-requires-2
+    store-pair-requires
     put-long-requires
     put-long-requires-2
     put-long-requires-3

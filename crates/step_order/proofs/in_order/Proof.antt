@@ -7,6 +7,7 @@ use denote.Ref.{now}
 use Rattle.syntax.specs.declared.names.VarId.{VarId}
 use Rattle.image_read_nodes.specs.Nodes.{recordAt, At}
 use Rattle.step_order.specs.Orderly.{orderly}
+use Rattle.step_order.proofs.ListLaws.{sure-row}
 use borrow.Author.Needs.{needs}
 use Rattle.step_order.proofs.in_order.Statement.{statement}
 use Rattle.step_order.proofs.in_order.Tie as tie
@@ -21,7 +22,7 @@ ordered-requires : tie.Need-ordered-requires
 ordered-requires c κs =
     let s = c .before .before .before .before in
     let a = s .args in
-    (subst (λ (i : ℕ). At (a .frame) (now (a .image)) i (a .kind)) (sym (c .before .long .ensures)) (s .pre .0), c .entries-row .ensures .inside)
+    (subst (λ (i : ℕ). At (a .frame) (now (a .image)) i (a .kind)) (sym (c .before .long .ensures)) (s .pre .0), (c .entries-row .ensures .inside, sure-row (now (a .store)) (c .entries-row .result) (c .entries-row .ensures) (s .pre .1 .1)))
 
 returns : tie.Need-returns
 returns c =

@@ -23,7 +23,7 @@ parts-of-requires : tie.Need-parts-of-requires
 parts-of-requires c κs = search needs
 
 in-order-requires : tie.Need-in-order-requires
-in-order-requires c κs = (placed c, start c .pre .1 .1 .0)
+in-order-requires c κs = let p = start c .pre .1 .1 in (placed c, (p .0, p .1 .1))
 
 stops-entering-requires : tie.Need-stops-entering-requires
 stops-entering-requires c κs = let k = c .before .before in (placed k, start k .pre .1 .1)

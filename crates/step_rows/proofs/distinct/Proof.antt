@@ -1,79 +1,19 @@
 -- `distinct` meets its contract. Assumes nothing.
-use Prim.Native.Nat.{ℕ, _+_, _-_}
-use mathlib.Core.Path.{_≡_, sym, ap, ap₂, subst, _∙_}
-use mathlib.Core.Bool.{not}
-use mathlib.Core.List.{List}
-use native.Mathlib.Omega.{arith}
-use lib.ListN.{drop}
-use denote.Ref.{now}
-use Rattle.syntax.specs.Sets.{elem, distinct}
-use Rattle.syntax.specs.declared.names.VarId.{VarId}
-use Rattle.step_rows.specs.Rows.{identified, idsIn, idAt, Inside}
-use Rattle.step_rows.proofs.RowLaws.{ids-behind, inside-behind}
-use Rattle.step_rows.proofs.RowLoops.{Passed, passed-none, passed-next, passed-not, passed-all, distinct-turns}
+use mathlib.Core.Path.{refl, sym}
 use Rattle.step_rows.proofs.distinct.Statement.{statement}
 use Rattle.step_rows.proofs.distinct.Tie as tie
 
-abbrev Inv-loop : tie.InvT-loop
-Inv-loop bytes row len j₀ j = Passed (row .len) (λ k. distinct (drop k (idsIn bytes row))) j
+differ-requires : tie.Need-differ-requires
+differ-requires c κs = (c .before .before .pre, sym (c .if1 .taken))
 
-abbrev μ-loop : tie.MeasureT-loop
-μ-loop bytes row len j₀ j = row .len - j
+returns : tie.Need-returns
+returns c = c .differ .ensures
 
-abbrev to-loop : tie.After-has Inv-loop μ-loop → tie.At-loop Inv-loop μ-loop
-to-loop c = c .before .before .before .before
+differ-requires-2 : tie.Need-differ-requires-2
+differ-requires-2 c κs = (c .before .before .pre, refl)
 
-abbrev start : tie.At-loop Inv-loop μ-loop → tie.Start Inv-loop μ-loop
-start c = c .before .before
-
--- what was asked is the test of place j
-asked : (c : tie.After-has Inv-loop μ-loop) →
-    let a = start (to-loop c) .args in
-    let j = to-loop c .loop .j in
-    elem (idAt (now (a .bytes)) (a .row) j) (drop (j + 1) (idsIn (now (a .bytes)) (a .row))) ≡ c .has .result
-asked c =
-    let a = start (to-loop c) .args in
-    let j = to-loop c .loop .j in
-    let rest = ap (idsIn (now (a .bytes))) (c .before .behind .ensures) ∙ ids-behind (now (a .bytes)) (a .row) (j + 1) in
-    sym (c .has .ensures ∙ ap₂ (λ (n : ℕ) (l : List VarId). elem (identified n) l) (c .before .before .id-of .ensures) rest)
-
-loop-holds : tie.Need-loop-holds Inv-loop μ-loop
-loop-holds c = passed-none
-
-id-of-requires : tie.Need-id-of-requires Inv-loop μ-loop
-id-of-requires c κs = (start (c .before) .pre, c .loop-test .taken)
-
-add-behind : tie.Need-add-behind Inv-loop μ-loop
-add-behind c = omega arith
-
-behind-requires : tie.Need-behind-requires Inv-loop μ-loop
-behind-requires c κs = omega arith
-
-has-requires : tie.Need-has-requires Inv-loop μ-loop
-has-requires c κs =
-    let s = start (c .before .before .before) in
-    subst (Inside (now (s .args .bytes))) (sym (c .behind .ensures)) (inside-behind (now (s .args .bytes)) (s .args .row) (c .before .before .before .loop .j + 1) (s .pre) (omega arith))
-
-returns : tie.Need-returns Inv-loop μ-loop
-returns c =
-    let a = start (to-loop (c .before)) .args in
-    passed-not (distinct-turns (now (a .bytes)) (a .row)) (to-loop (c .before) .loop .inv) (c .before .before .before .before .loop-test .taken) (ap not (asked (c .before) ∙ c .if1 .taken))
-
-add-j : tie.Need-add-j Inv-loop μ-loop
-add-j c = omega arith
-
-loop-less : tie.Need-loop-less Inv-loop μ-loop
-loop-less c = omega arith
-
-loop-again : tie.Need-loop-again Inv-loop μ-loop
-loop-again c =
-    let a = start (to-loop (c .before)) .args in
-    passed-next (distinct-turns (now (a .bytes)) (a .row)) (to-loop (c .before) .loop .inv) (c .before .before .before .before .loop-test .taken) (ap not (asked (c .before) ∙ c .if1 .left))
-
-returns-2 : tie.Need-returns-2 Inv-loop μ-loop
-returns-2 c =
-    let a = start (c .before) .args in
-    passed-all (distinct-turns (now (a .bytes)) (a .row)) (c .before .loop .inv) (c .loop-test .left)
+returns-2 : tie.Need-returns-2
+returns-2 c = c .differ2 .ensures
 
 pub distinct-spec : {M : Type 1} → statement M
-distinct-spec = tie.close (tie.spec Inv-loop μ-loop loop-holds id-of-requires add-behind behind-requires has-requires returns add-j loop-less loop-again returns-2)
+distinct-spec = tie.close (tie.spec differ-requires returns differ-requires-2 returns-2)

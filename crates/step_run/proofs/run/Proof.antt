@@ -4,7 +4,9 @@ use mathlib.Core.Path.{_≡_, refl}
 use native.Mathlib.Omega.{arith}
 use lib.ListN.{length}
 use denote.Ref.{now}
+use Rattle.step_order.specs.Sure.{SureIn}
 use Rattle.step_turn.proofs.RestLaws.{lawful-in}
+use Rattle.step_turn.proofs.SureLaws.{advance-sure}
 use Rattle.step_run.proofs.LoopLaws.{advances-as, Going, going-none, going-next, going-ends, going-fills, going-all}
 use borrow.Author.Needs.{needs}
 use Rattle.step_run.proofs.run.Statement.{statement}
@@ -14,12 +16,12 @@ use Rattle.step_run.proofs.run.Lts as lts
 use Rattle.step_turn.proofs.advance.Reads as advance-reads
 
 abbrev Inv-loop : tie.InvT-loop
-Inv-loop image stepper ends store₀ events₀ scratch₀ steps here₀ length₀ made₀ store events scratch here length′ made =
+Inv-loop image stepper ends store₀ events₀ scratch₀ steps sure here₀ length₀ made₀ store events scratch here length′ made =
     Going (lawful-in (stepper .linear)) stepper image steps store₀ events₀ here₀ made store events here length′
-    × ((length store ≡ length store₀) × ((length events ≡ length events₀) × (length scratch ≡ length scratch₀)))
+    × (SureIn stepper sure store here × ((length store ≡ length store₀) × ((length events ≡ length events₀) × (length scratch ≡ length scratch₀))))
 
 abbrev μ-loop : tie.MeasureT-loop
-μ-loop image stepper ends store₀ events₀ scratch₀ steps here₀ length₀ made₀ store events scratch here length′ made = steps - made
+μ-loop image stepper ends store₀ events₀ scratch₀ steps sure here₀ length₀ made₀ store events scratch here length′ made = steps - made
 
 abbrev start : tie.At-loop Inv-loop μ-loop → tie.Start Inv-loop μ-loop
 start c = c .before .before .before .before .before .before
@@ -35,14 +37,14 @@ loop-holds : tie.Need-loop-holds Inv-loop μ-loop
 loop-holds c =
     let s = c .before .before .before .before .before in
     let a = s .args in
-    (going-none (lawful-in (a .stepper .linear)) (a .stepper) (now (a .image)) (a .steps) (now (a .store)) (now (a .events)) (a .header) (s .pre .1), (refl, (refl, refl)))
+    (going-none (lawful-in (a .stepper .linear)) (a .stepper) (now (a .image)) (a .steps) (now (a .store)) (now (a .events)) (a .header) (s .pre .1 .0), (s .pre .1 .1, (refl, (refl, refl))))
 
 advance-requires : tie.Need-advance-requires Inv-loop μ-loop
 advance-requires c κs =
     let l = c .before .before .before .before in
     let p = start l .pre .0 in
     let g = l .loop .inv in
-    (record { ready = p .ready; ends′ = p .ends′; place = g .0 .inside; room = omega (arith, p .room, g .1 .1 .1) }, g .0 .lives)
+    (record { ready = p .ready; ends′ = p .ends′; place = g .0 .inside; room = omega (arith, p .room, g .1 .1 .1 .1) }, (g .0 .lives, g .1 .0))
 
 enum-told : tie.Need-enum-told Inv-loop μ-loop
 enum-told c = search needs
@@ -99,9 +101,10 @@ loop-again c =
     let k = asked (n .before .before) in
     let t = inside k in
     let a = start (t .before) .args in
-    let g = going-next (lawful-in (a .stepper .linear)) (a .stepper) (now (a .image)) (a .steps) (now (a .store)) (now (a .events)) (a .header) (t .before .loop .inv .0) (t .loop-test .taken)
-    (advances-as (k .advance .ensures) (n .next .given .1)) in
-    (g, (search needs, (search needs, search needs)))
+    let i = t .before .loop .inv in
+    let e = advances-as (k .advance .ensures) (n .next .given .1) in
+    let g = going-next (lawful-in (a .stepper .linear)) (a .stepper) (now (a .image)) (a .steps) (now (a .store)) (now (a .events)) (a .header) (i .0) (t .loop-test .taken) e in
+    (g, (advance-sure e (i .0 .lives) (i .1 .0), (search needs, (search needs, search needs))))
 
 same-length-7 : tie.Need-same-length-7 Inv-loop μ-loop
 same-length-7 c = search needs

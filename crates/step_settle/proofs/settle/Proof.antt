@@ -20,7 +20,10 @@ returns : tie.Need-returns
 returns c = let a = start (c .before) .args in settles-same (λ P l p o s. ended-goes (a .stepper .linear) o (c .if1 .taken))
 
 stops-requires : tie.Need-stops-requires
-stops-requires c κs = search needs
+stops-requires c κs =
+    let t = c .before in
+    let p = start (t .before .before) .pre in
+    (p .0, (p .1 .0, (p .1 .1 .0, (p .1 .1 .1 .0, p .1 .1 .1 .1 (t .if2 .taken)))))
 
 stop-requires : tie.Need-stop-requires
 stop-requires c κs = search needs

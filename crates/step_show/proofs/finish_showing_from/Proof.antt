@@ -1,9 +1,21 @@
 -- `finish_showing_from` meets its contract. Assumes nothing.
+use Prim.Native.Nat.{_+_, _*_}
+use native.Mathlib.Omega.{arith}
 use denote.Ref.{now}
+use Rattle.step_write.proofs.FinishLaws.{Roomy, roomy}
 use Rattle.step_show.proofs.ShownLaws.{showing-full, showing-finishes}
 use borrow.Author.Needs.{needs}
 use Rattle.step_show.proofs.finish_showing_from.Statement.{statement}
 use Rattle.step_show.proofs.finish_showing_from.Tie as tie
+
+abbrev start : tie.After-has-room → tie.Start
+start c = c .before .before .before .before
+
+room : (c : tie.Then1) → let a = start (c .before) .args in Roomy (now (a .store)) (now (a .events)) (a .at) (a .header) (16 + 16 * a .n)
+room c =
+    let asked = c .before in
+    let s = start asked in
+    roomy (16 + 16 * s .args .n) (asked .has-room .result) (s .pre .0) (asked .has-room .ensures) (c .if1 .taken)
 
 mul-has-room : tie.Need-mul-has-room
 mul-has-room c = search needs
@@ -18,10 +30,14 @@ place-requires : tie.Need-place-requires
 place-requires c κs = search needs
 
 put-event-requires : tie.Need-put-event-requires
-put-event-requires c κs = search needs
+put-event-requires c κs = omega (arith, room (c .before .before) .event)
 
 show-requires : tie.Need-show-requires
-show-requires c κs = search needs
+show-requires c κs =
+    let put = c .before .before .before .before in
+    let placed = put .before .before in
+    let s = start (placed .before .before) in
+    omega (arith, room (placed .before) .event, put .put-event .ensures .ends, placed .place .ensures, s .pre .1)
 
 put-header-requires : tie.Need-put-header-requires
 put-header-requires c κs = search needs
@@ -31,9 +47,6 @@ same-length c = search needs
 
 same-length-2 : tie.Need-same-length-2
 same-length-2 c = search needs
-
-abbrev start : tie.After-has-room → tie.Start
-start c = c .before .before .before .before
 
 returns : tie.Need-returns
 returns c =

@@ -1,15 +1,21 @@
 -- `flag` meets its contract. Assumes nothing.
 use mathlib.Core.Path.{sym, _∙_}
+use mathlib.Core.Bool.{false≢true}
 use Rattle.step_start.proofs.FlagLaws.{flags-settled, flags-stopped, flags-clear}
 use borrow.Author.Needs.{needs}
 use Rattle.step_start.proofs.flag.Statement.{statement}
 use Rattle.step_start.proofs.flag.Tie as tie
 
+abbrev start : tie.After-distinct → tie.Start
+start c = c .before .before .before .before .before
+
 distinct-requires : tie.Need-distinct-requires
 distinct-requires c κs = search needs
 
 settle-requires : tie.Need-settle-requires
-settle-requires c κs = search needs
+settle-requires c κs =
+    let p = start (c .before .before) .pre .1 in
+    (p .0, (p .1 .0, (p .1 .1 .0, (p .1 .1 .1, λ _ t. absurd (false≢true t)))))
 
 same-length : tie.Need-same-length
 same-length c = search needs

@@ -6,6 +6,7 @@ use denote.Ref.{now}
 use Rattle.image_read_nodes.specs.Nodes.{At}
 use Rattle.step_settle.proofs.Reading.{reads-holds, reads-inside}
 use Rattle.step_turn.proofs.RestLaws.{ended-rests, stopped-rests, asked-nothing, asked-full, asked-holds, asked-step}
+use Rattle.step_turn.proofs.SureLaws.{asked-sure}
 use borrow.Author.Needs.{needs}
 use Rattle.step_turn.proofs.advance.Statement.{statement}
 use Rattle.step_turn.proofs.advance.Tie as tie
@@ -49,14 +50,14 @@ long-requires c κs = search needs
 parts-of-requires : tie.Need-parts-of-requires
 parts-of-requires c κs =
     let p = start (c .before .before .before .before) .pre in
-    let v = p .1 .living in
+    let v = p .1 .0 .living in
     (p .0 .ready, omega (arith, c .long .ensures, reads-inside (v .reads) (p .0 .ready) (v .program)))
 
 statement-requires : tie.Need-statement-requires
 statement-requires c κs =
     let k = c .before .before .before in
     let p = first k .pre in
-    (record { record′ = placed k; holds = reads-holds (p .1 .living .reads); place = p .0 .place; scratch′ = p .0 .room }, p .0 .ends′)
+    (record { record′ = placed k; holds = reads-holds (p .1 .0 .living .reads); place = p .0 .place; scratch′ = p .0 .room }, p .0 .ends′)
 
 enum-told : tie.Need-enum-told
 enum-told c = search needs
@@ -73,8 +74,9 @@ settle-requires c κs =
     let k = asked (n .before .before) in
     let u = unflagged (read k) in
     let p = first (read k) .pre in
-    let h = asked-holds (u .before .if1 .left) (u .if2 .left) (k .statement .ensures) (n .next .given .1) (p .0 .ready) (p .1) in
-    (p .0 .ready, (h .0, (h .1, p .0 .ends′)))
+    let h = asked-holds (u .before .if1 .left) (u .if2 .left) (k .statement .ensures) (n .next .given .1) (p .0 .ready) (p .1 .0) in
+    let f = asked-sure (u .before .if1 .left) (u .if2 .left) (k .statement .ensures) (n .next .given .1) (p .1 .0) (p .1 .1) in
+    (p .0 .ready, (h .0, (h .1, (p .0 .ends′, f))))
 
 same-length : tie.Need-same-length
 same-length c = search needs

@@ -1,6 +1,7 @@
 -- `invoke` meets its contract. Assumes nothing.
 use Prim.Native.Nat.{ℕ, _-_}
 use mathlib.Core.Path.{_≡_, refl, sym, ap, ap₂, _∙_, subst}
+use mathlib.Core.Bool.{false≢true}
 use mathlib.Core.List.{List, _++_, map-append}
 use lib.ListN.{length}
 use denote.Ref.{now}
@@ -117,7 +118,7 @@ repeats-requires c κs =
     let r = c .before .before .before .before in
     let k = to-cell (to-tag (to-clause r)) in
     let s = start k in
-    (r .list-row .ensures .inside, held-inside (now (s .args .store)) (s .args .header) (s .pre .1 .0) (k .last-cell .ensures) (c .slot-row .ensures))
+    (r .list-row .ensures .inside, (held-inside (now (s .args .store)) (s .args .header) (s .pre .1 .0) (k .last-cell .ensures) (c .slot-row .ensures), λ t. absurd (false≢true t)))
 
 enum-told : tie.Need-enum-told
 enum-told c = search needs

@@ -6,11 +6,13 @@ use Rattle.syntax.specs.declared.names.VarId.{VarId}
 use Rattle.model.specs.Syntax.{Prog}
 use Rattle.model.specs.Linear.{beforeLast, lastValue}
 use Rattle.step_spec.specs.Located.{Machine, Located, isStop}
+use Rattle.step_rows.specs.declared.Row.{Row}
 use Rattle.step_rows.specs.Rows.{idsIn, Inside}
 use Rattle.step_rule.specs.Rules.{ProgramOf, Stored}
 use Rattle.step_cells.proofs.CellLaws.{OfLet}
 use Rattle.step_order.specs.Stopping.{workAt}
-use Rattle.step_order.proofs.ListLaws.{inside-front}
+use Rattle.step_order.specs.Sure.{Sure}
+use Rattle.step_order.proofs.ListLaws.{inside-front, sure-front, sure-row}
 use Rattle.step_order.proofs.EnterLaws.{Enters, missing, fewer, as-many}
 use Rattle.step_order.proofs.StopLaws.{reads-stored, fields-count, front-keys, last-let, switch-goes, switch-enters}
 use borrow.Author.Needs.{needs}
@@ -81,9 +83,13 @@ repeats-requires : tie.Need-repeats-requires
 repeats-requires c κs =
     let e = c .before in
     let r = e .before .before .before in
-    let a = start (to-cell (to-clause r)) .args in
-    let i = inside-front (now (a .store)) (e .entries-row .result) 1 (e .entries-row .ensures .inside) in
-    (subst (Inside (now (a .store))) (sym (c .front .ensures)) i, r .list-row .ensures .inside)
+    let s = start (to-cell (to-clause r)) in
+    let a = s .args in
+    let row = e .entries-row .result in
+    let i = inside-front (now (a .store)) row 1 (e .entries-row .ensures .inside) in
+    let f = sure-front (now (a .store)) row 1 (sure-row (now (a .store)) row (e .entries-row .ensures) (s .pre .1 .1 .1)) in
+    let k = subst (λ (r : Row). Inside (now (a .store)) r × Sure (a .sure) (idsIn (now (a .store)) r)) (sym (c .front .ensures)) (i, f) in
+    (k .0, (r .list-row .ensures .inside, k .1))
 
 enum-told : tie.Need-enum-told
 enum-told c = search needs

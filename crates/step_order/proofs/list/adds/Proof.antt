@@ -11,8 +11,8 @@ use borrow.Author.Needs.{needs}
 use Rattle.step_order.proofs.list.adds.Statement.{statement}
 use Rattle.step_order.proofs.list.adds.Tie as tie
 
-distinct-requires : tie.Need-distinct-requires
-distinct-requires c κs = search needs
+is-distinct-requires : tie.Need-is-distinct-requires
+is-distinct-requires c κs = search needs
 
 has-requires : tie.Need-has-requires
 has-requires c κs = search needs
@@ -24,7 +24,7 @@ asked : (c : tie.After-has) →
 asked c =
     let d = c .before .before in
     let a = d .before .before .args in
-    and-both (d .distinct .ensures) (c .before .if1 .taken) (ap not (c .has .ensures)) ∙ sym (distinct-last (idsIn (now (a .store)) (a .row)) (identified (a .id)))
+    and-both (d .is-distinct .ensures) (c .before .if1 .taken) (ap not (c .has .ensures)) ∙ sym (distinct-last (idsIn (now (a .store)) (a .row)) (identified (a .id)))
 
 returns : tie.Need-returns
 returns c = ap not (sym (c .if2 .taken)) ∙ asked (c .before)
@@ -37,7 +37,7 @@ returns-3 c =
     let d = c .before in
     let a = d .before .before .args in
     let l = idsIn (now (a .store)) (a .row) in
-    and-not (d .distinct .ensures) (not (elem (identified (a .id)) l)) (c .if1 .left) ∙ sym (distinct-last l (identified (a .id)))
+    and-not (d .is-distinct .ensures) (not (elem (identified (a .id)) l)) (c .if1 .left) ∙ sym (distinct-last l (identified (a .id)))
 
 pub adds-spec : {M : Type 1} → statement M
-adds-spec = tie.close (tie.spec distinct-requires has-requires returns returns-2 returns-3)
+adds-spec = tie.close (tie.spec is-distinct-requires has-requires returns returns-2 returns-3)

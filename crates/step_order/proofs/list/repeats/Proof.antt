@@ -13,20 +13,20 @@ use borrow.Author.Needs.{needs}
 use Rattle.step_order.proofs.list.repeats.Statement.{statement}
 use Rattle.step_order.proofs.list.repeats.Tie as tie
 
-abbrev start : tie.After-distinct → tie.Start
+abbrev start : tie.After-is-distinct → tie.Start
 start c = c .before .before .before
 
-abbrev ids : tie.After-distinct → List VarId
+abbrev ids : tie.After-is-distinct → List VarId
 ids c = idsIn (now (start c .args .bytes)) (start c .args .row)
 
-abbrev others : tie.After-distinct → List VarId
+abbrev others : tie.After-is-distinct → List VarId
 others c = idsIn (now (start c .args .others)) (start c .args .other-row)
+
+is-distinct-requires : tie.Need-is-distinct-requires
+is-distinct-requires c κs = search needs
 
 distinct-requires : tie.Need-distinct-requires
 distinct-requires c κs = search needs
-
-distinct-requires-2 : tie.Need-distinct-requires-2
-distinct-requires-2 c κs = search needs
 
 disjoint-requires : tie.Need-disjoint-requires
 disjoint-requires c κs = search needs
@@ -36,7 +36,7 @@ asked : (c : tie.After-disjoint) → let d = c .before .before .before .before i
 asked c =
     let b = c .before .before in
     let d = b .before .before in
-    ap not (and-both (d .distinct .ensures) (b .before .if1 .taken) (and-both (b .distinct2 .ensures) (c .before .if2 .taken) (c .disjoint .ensures)) ∙ sym (distinct-append (ids d) (others d)))
+    ap not (and-both (d .is-distinct .ensures) (b .before .if1 .taken) (and-both (b .distinct .ensures) (c .before .if2 .taken) (c .disjoint .ensures)) ∙ sym (distinct-append (ids d) (others d)))
 
 returns : tie.Need-returns
 returns c = ap not (sym (c .if3 .taken)) ∙ asked (c .before)
@@ -48,19 +48,19 @@ returns-3 : tie.Need-returns-3
 returns-3 c =
     let b = c .before in
     let d = b .before .before in
-    ap not (and-both (d .distinct .ensures) (b .before .if1 .taken) (and-not (b .distinct2 .ensures) (apart (ids d) (others d)) (c .if2 .left)) ∙ sym (distinct-append (ids d) (others d)))
+    ap not (and-both (d .is-distinct .ensures) (b .before .if1 .taken) (and-not (b .distinct .ensures) (apart (ids d) (others d)) (c .if2 .left)) ∙ sym (distinct-append (ids d) (others d)))
 
 returns-4 : tie.Need-returns-4
 returns-4 c =
     let d = c .before in
-    ap not (and-not (d .distinct .ensures) (distinct (others d) && apart (ids d) (others d)) (c .if1 .left) ∙ sym (distinct-append (ids d) (others d)))
+    ap not (and-not (d .is-distinct .ensures) (distinct (others d) && apart (ids d) (others d)) (c .if1 .left) ∙ sym (distinct-append (ids d) (others d)))
 
 pub repeats-spec : {M : Type 1} → statement M
 repeats-spec =
     tie.close
     (tie.spec
+    is-distinct-requires
     distinct-requires
-    distinct-requires-2
     disjoint-requires
     returns
     returns-2

@@ -5,9 +5,11 @@ use lib.ListN.{length}
 use denote.Ref.{now}
 use Rattle.syntax.specs.declared.names.VarId.{VarId}
 use Rattle.model.specs.Linear.{beforeLast}
+use Rattle.step_rows.specs.declared.Row.{Row}
 use Rattle.step_rows.specs.Rows.{identified, idsIn, Inside}
 use Rattle.step_order.specs.Orderly.{added}
-use Rattle.step_order.proofs.ListLaws.{and-both, and-not, before-front, inside-front}
+use Rattle.step_order.specs.Sure.{Sure}
+use Rattle.step_order.proofs.ListLaws.{and-both, and-not, before-front, inside-front, sure-front}
 use borrow.Author.Needs.{needs}
 use Rattle.step_order.proofs.list.replaces.Statement.{statement}
 use Rattle.step_order.proofs.list.replaces.Tie as tie
@@ -21,7 +23,9 @@ front-requires c κs = search needs
 adds-requires : tie.Need-adds-requires
 adds-requires c κs =
     let s = c .before .before .before .before .before in
-    subst (Inside (now (s .args .store))) (sym (c .front .ensures)) (inside-front (now (s .args .store)) (s .args .row) (s .args .listed .len) (s .pre .1))
+    let a = s .args in
+    subst (λ (r : Row). Inside (now (a .store)) r × Sure (a .sure) (idsIn (now (a .store)) r)) (sym (c .front .ensures))
+    (inside-front (now (a .store)) (a .row) (a .listed .len) (s .pre .1 .0), sure-front (now (a .store)) (a .row) (a .listed .len) (s .pre .1 .1))
 
 returns : tie.Need-returns
 returns c =

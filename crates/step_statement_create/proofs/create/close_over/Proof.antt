@@ -17,7 +17,7 @@ use Rattle.step_statement_create.proofs.create.cell_slot.Reads as cell-
 use Rattle.step_statement_create.proofs.create.event.Reads as event-reads
 use Rattle.step_statement_create.proofs.create.pack.Reads as pack-reads
 use Rattle.step_statement_create.proofs.create.var_slot.Reads as var-slot-reads
-use Rattle.step_statement_create.proofs.create.wide.Reads as wide-reads
+use Rattle.step_header.proofs.long_count.Reads as long-count-reads
 use Rattle.step_write.proofs.finish_before.Reads as finish-before-reads
 
 abbrev start : tie.After-place2 → tie.Start
@@ -38,7 +38,7 @@ next-is : (c : tie.After-after) → let a = start (c .before .before .before) .a
 next-is c =
     let b = c .before .before .before in
     let a = start b .args in
-    c .after .ensures ∙ ap₂ {C = Header} (λ (j n : ℕ). closed (a .header) (a .create .next) j n) (c .before .before .wide .ensures) (c .before .wide2 .ensures ∙ kept-is b)
+    c .after .ensures ∙ ap₂ {C = Header} (λ (j n : ℕ). closed (a .header) (a .create .next) j n) (c .before .before .long-count .ensures) (c .before .long-count2 .ensures ∙ kept-is b)
 
 place-requires : tie.Need-place-requires
 place-requires c κs = search needs
@@ -64,11 +64,11 @@ mul-last c = search needs
 add-last : tie.Need-add-last
 add-last c = search needs
 
-wide-requires : tie.Need-wide-requires
-wide-requires c κs = search needs
+long-count-requires : tie.Need-long-count-requires
+long-count-requires c κs = search needs
 
-wide-requires-2 : tie.Need-wide-requires-2
-wide-requires-2 c κs = search needs
+long-count-requires-2 : tie.Need-long-count-requires-2
+long-count-requires-2 c κs = search needs
 
 after-requires : tie.Need-after-requires
 after-requires c κs = search needs
@@ -129,8 +129,8 @@ close-over-spec =
     add-from
     mul-last
     add-last
-    wide-requires
-    wide-requires-2
+    long-count-requires
+    long-count-requires-2
     after-requires
     cell-slot-requires
     var-slot-requires

@@ -17,14 +17,14 @@ use Rattle.step_statement_invoke.proofs.invoke.linear_enter.Tie as tie
 abbrev start : tie.After-frame → tie.Start
 start c = c .before .before .before .before .before .before
 
-abbrev to-place : tie.After-clause-of → tie.After-place
+abbrev to-place : tie.After-entrance-of → tie.After-place
 to-place c = c .before .before .before .before
 
-abbrev begin : tie.After-clause-of → tie.Start
+abbrev begin : tie.After-entrance-of → tie.Start
 begin c = start (to-place c .before)
 
 -- the clause that was found
-abbrev to-clause : tie.After-known-told → tie.After-clause-of
+abbrev to-clause : tie.After-known-told → tie.After-entrance-of
 to-clause c = c .before .before .before
 
 entered : (c : tie.After-known-told) →
@@ -32,7 +32,7 @@ entered : (c : tie.After-known-told) →
     let a = begin f .args in
     let g = c .before .row .given .0 in
     Entered (a .stepper .frame) (now (a .image)) (f .before .cell-of .result) (a .tag) (a .k) (g .0) (g .1 .0)
-entered c = entered-by (to-clause c .clause-of .ensures) (c .before .row .given .1)
+entered c = entered-by (to-clause c .entrance-of .ensures) (c .before .row .given .1)
 
 -- the first k entries, where the code reads them
 values-are : (c : tie.After-place) →
@@ -92,8 +92,8 @@ returns c =
 cell-of-requires : tie.Need-cell-of-requires
 cell-of-requires c κs = search needs
 
-clause-of-requires : tie.Need-clause-of-requires
-clause-of-requires c κs = search needs
+entrance-of-requires : tie.Need-entrance-of-requires
+entrance-of-requires c κs = search needs
 
 enum-told : tie.Need-enum-told
 enum-told c = search needs
@@ -126,7 +126,7 @@ returns-2 c =
     let f = c .before .before in
     let d = f .before in
     let a = begin f .args in
-    nothing-as (f .clause-of .ensures) (d .cell-of .ensures) (slots-count (now (a .store)) (64 + 16 * a .header .heap) (a .k)) (c .enum-told .given .1) (d .before .before .if1 .left)
+    nothing-as (f .entrance-of .ensures) (d .cell-of .ensures) (slots-count (now (a .store)) (64 + 16 * a .header .heap) (a .k)) (c .enum-told .given .1) (d .before .before .if1 .left)
 
 same-length-4 : tie.Need-same-length-4
 same-length-4 c = search needs
@@ -145,7 +145,7 @@ returns-3 c =
     let f = to-clause t in
     let a = begin f .args in
     let q = ap (slotsAt (d .fetch .last .1 .1 .1 .0) 0) (entered t .count) ∙ (d .fetch .ensures ∙ values-are (to-place f)) in
-    closure-as (f .clause-of .ensures) (f .before .cell-of .ensures) (slots-count (now (a .store)) (64 + 16 * a .header .heap) (a .k)) (t .before .row .given .1) q (e .enter-clause .ensures)
+    closure-as (f .entrance-of .ensures) (f .before .cell-of .ensures) (slots-count (now (a .store)) (64 + 16 * a .header .heap) (a .k)) (t .before .row .given .1) q (e .enter-clause .ensures)
 
 pub linear-enter-spec : {M : Type 1} → statement M
 linear-enter-spec =
@@ -161,7 +161,7 @@ linear-enter-spec =
     same-length-2
     returns
     cell-of-requires
-    clause-of-requires
+    entrance-of-requires
     enum-told
     enum-known-row
     fetch-requires

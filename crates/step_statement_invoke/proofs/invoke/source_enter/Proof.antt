@@ -13,11 +13,11 @@ use Rattle.step_statement_invoke.proofs.invoke.source_enter.Tie as tie
 abbrev start : tie.After-frame → tie.Start
 start c = c .before .before .before .before .before .before
 
-abbrev begin : tie.After-clause-of → tie.Start
+abbrev begin : tie.After-entrance-of → tie.Start
 begin c = start (c .before .before .before .before)
 
 -- the clause that was found
-abbrev to-clause : tie.After-known-told → tie.After-clause-of
+abbrev to-clause : tie.After-known-told → tie.After-entrance-of
 to-clause c = c .before .before .before
 
 entered : (c : tie.After-known-told) →
@@ -25,7 +25,7 @@ entered : (c : tie.After-known-told) →
     let a = begin f .args in
     let g = c .before .row .given .0 in
     Entered (a .stepper .frame) (now (a .image)) (f .before .cell-of .result) (a .tag) (a .k) (g .0) (g .1 .0)
-entered c = entered-by (to-clause c .clause-of .ensures) (c .before .row .given .1)
+entered c = entered-by (to-clause c .entrance-of .ensures) (c .before .row .given .1)
 
 last-event-requires : tie.Need-last-event-requires
 last-event-requires c κs = search needs
@@ -67,8 +67,8 @@ returns c =
 cell-of-requires : tie.Need-cell-of-requires
 cell-of-requires c κs = search needs
 
-clause-of-requires : tie.Need-clause-of-requires
-clause-of-requires c κs = search needs
+entrance-of-requires : tie.Need-entrance-of-requires
+entrance-of-requires c κs = search needs
 
 enum-told : tie.Need-enum-told
 enum-told c = search needs
@@ -93,7 +93,7 @@ returns-2 c =
     let f = c .before .before in
     let d = f .before in
     let a = begin f .args in
-    nothing-as (f .clause-of .ensures) (d .cell-of .ensures) (slots-count (now (a .scratch)) 0 (a .k)) (c .enum-told .given .1) (d .before .before .if1 .left)
+    nothing-as (f .entrance-of .ensures) (d .cell-of .ensures) (slots-count (now (a .scratch)) 0 (a .k)) (c .enum-told .given .1) (d .before .before .if1 .left)
 
 same-length-5 : tie.Need-same-length-5
 same-length-5 c = search needs
@@ -111,7 +111,7 @@ returns-3 c =
     let f = to-clause t in
     let a = begin f .args in
     let q = ap (slotsAt (now (a .scratch)) 0) (entered t .count) in
-    closure-as (f .clause-of .ensures) (f .before .cell-of .ensures) (slots-count (now (a .scratch)) 0 (a .k)) (t .before .row .given .1) q (e .enter-clause .ensures)
+    closure-as (f .entrance-of .ensures) (f .before .cell-of .ensures) (slots-count (now (a .scratch)) 0 (a .k)) (t .before .row .given .1) q (e .enter-clause .ensures)
 
 pub source-enter-spec : {M : Type 1} → statement M
 source-enter-spec =
@@ -125,7 +125,7 @@ source-enter-spec =
     same-length-3
     returns
     cell-of-requires
-    clause-of-requires
+    entrance-of-requires
     enum-told
     enum-known-row
     enter-clause-requires

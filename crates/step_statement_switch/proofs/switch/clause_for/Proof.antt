@@ -3,7 +3,8 @@ use mathlib.Core.Path.{subst}
 use denote.Ref.{now}
 use Rattle.step_enter.specs.declared.Parameters.{Parameters}
 use Rattle.step_enter.specs.declared.Parameters.the-variants.{Listed}
-use Rattle.step_statement_switch.specs.Switching.{ClauseOf, other-cell, no-clause, other-count, the-clause}
+use Rattle.step_enter.specs.Entering.{ClauseOf}
+use Rattle.step_statement_switch.specs.Switching.{other-cell, no-clause, other-count, the-clause}
 use borrow.Author.Needs.{needs}
 use Rattle.step_statement_switch.proofs.switch.clause_for.Statement.{statement}
 use Rattle.step_statement_switch.proofs.switch.clause_for.Tie as tie

@@ -1,8 +1,8 @@
 -- `clause_of` meets its contract. Assumes nothing.
-use Rattle.step_statement_switch.proofs.SwitchLaws as laws
+use Rattle.step_enter.proofs.ParameterLaws as laws
 use borrow.Author.Needs.{needs}
-use Rattle.step_statement_switch.proofs.switch.clause_of.Statement.{statement}
-use Rattle.step_statement_switch.proofs.switch.clause_of.Tie as tie
+use Rattle.step_enter.proofs.clause_of.Statement.{statement}
+use Rattle.step_enter.proofs.clause_of.Tie as tie
 
 long-requires : tie.Need-long-requires
 long-requires c κs = search needs
