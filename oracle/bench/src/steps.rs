@@ -2,6 +2,7 @@
 
 pub mod calls;
 pub mod figures;
+pub mod floor;
 pub mod machines;
 pub mod programs;
 pub mod report;
@@ -91,6 +92,7 @@ impl Bench {
         let sets = runs::over_entries(&self.scale);
         let timed = self.timed(&sets, &[Path::Step, Path::Nothing, Path::Machine])?;
         self.report.entries(&self.scale, &sets, &timed);
+        self.report.floor(&self.scale, self.rounds);
         Ok(())
     }
 

@@ -60,6 +60,7 @@ const FUNCTIONS: [&str; 8] = [
 ];
 /// The answers are 0 to 15.
 const ANSWERS: usize = 16;
+
 /// An image and the calls to make on it.
 pub struct Vector {
     pub image: Vec<u8>,

@@ -2,6 +2,7 @@
 
 use super::calls::Calls;
 use super::figures::{Figures, KINDS};
+use super::floor;
 use super::machines::values;
 use super::rounds::{Path, Timed};
 use super::runs::{Run, Scale, Set};
@@ -156,6 +157,20 @@ impl Report {
             row.push(format!("{:.2}", each(middle, last)));
             table.row(row);
         }
+        table.print(self.markdown);
+    }
+
+    /// What the writing of a step alone takes, by entries.
+    pub fn floor(&self, scale: &Scale, rounds: usize) {
+        let mut heads = vec!["ns a step".to_string()];
+        heads.extend(scale.entries.iter().map(u32::to_string));
+        let mut table = Table::new(&words(&heads));
+        let mut row = vec!["writing alone, by entries".to_string()];
+        let times = scale.entries.iter();
+        row.extend(
+            times.map(|&entries| format!("{:.1}", floor::per_step(entries as usize, rounds))),
+        );
+        table.row(row);
         table.print(self.markdown);
     }
 

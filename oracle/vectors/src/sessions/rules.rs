@@ -88,40 +88,24 @@ fn calls() -> Vec<Row> {
         label: label(name),
         args,
     };
-    let two =
-        |params, first, second| prog(9, vec![def(0, params, first), def(1, exts(3, 4), second)]);
-    let doubled = vec![ext(3), ext(3)];
+    // the first definition has these parameters and calls that label with them
+    let two = |params, name, second| {
+        let first = def(0, exts(1, params), of(name, exts(1, params)));
+        prog(9, vec![first, second])
+    };
+    let second = || def(1, exts(3, 4), exit(4));
+    let doubled = def(1, vec![ext(3), ext(3)], exit(3));
+    let same_label = vec![
+        def(0, exts(1, 1), call(Vec::new())),
+        def(0, Vec::new(), exit(1)),
+    ];
     vec![
-        (
-            two(exts(1, 2), of(1, exts(1, 2)), exit(4)),
-            vec![Int(1), Outside(2)],
-        ),
-        (two(exts(1, 1), of(1, exts(1, 1)), exit(4)), vec![Int(1)]),
-        (
-            two(exts(1, 2), of(2, exts(1, 2)), exit(4)),
-            vec![Int(1), Int(2)],
-        ),
-        (
-            prog(
-                9,
-                vec![
-                    def(0, exts(1, 2), of(1, exts(1, 2))),
-                    def(1, doubled, exit(3)),
-                ],
-            ),
-            vec![Int(1), Int(2)],
-        ),
+        (two(2, 1, second()), vec![Int(1), Outside(2)]),
+        (two(1, 1, second()), vec![Int(1)]),
+        (two(2, 2, second()), vec![Int(1), Int(2)]),
+        (two(2, 1, doubled), vec![Int(1), Int(2)]),
         // the first of two labels counts
-        (
-            prog(
-                9,
-                vec![
-                    def(0, exts(1, 1), call(Vec::new())),
-                    def(0, Vec::new(), exit(1)),
-                ],
-            ),
-            vec![Int(1)],
-        ),
+        (prog(9, same_label), vec![Int(1)]),
     ]
 }
 
