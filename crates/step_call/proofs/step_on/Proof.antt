@@ -81,8 +81,10 @@ run-requires c κs =
     let u = c .before .before .before .before in
     let t = u .before .before in
     let k = filled (t .before .before .before) in
-    let a = first k .pre in
-    (record { ready = a .ready; ends′ = k .fill-ends .ensures; place = omega arith; room = search needs }, (opened-lives (opened k .open-store .ensures) (unopened k .if1 .left) (t .before .is-forged .ensures) (t .if2 .left) (short (first k)) a, u .is-sure .ensures))
+    let a = first k .pre in (
+      record { ready = a .ready; ends′ = k .fill-ends .ensures; place = omega arith; room = search needs },
+      (opened-lives (opened k .open-store .ensures) (unopened k .if1 .left) (t .before .is-forged .ensures) (t .if2 .left) (short (first k)) a, u .is-sure .ensures),
+    )
 
 answer-requires : tie.Need-answer-requires
 answer-requires c κs = search needs

@@ -21,8 +21,10 @@ entries-row-requires c κs = search needs
 ordered-requires : tie.Need-ordered-requires
 ordered-requires c κs =
     let s = c .before .before .before .before in
-    let a = s .args in
-    (subst (λ (i : ℕ). At (a .frame) (now (a .image)) i (a .kind)) (sym (c .before .long .ensures)) (s .pre .0), (c .entries-row .ensures .inside, sure-row (now (a .store)) (c .entries-row .result) (c .entries-row .ensures) (s .pre .1 .1)))
+    let a = s .args in (
+      subst (λ (i : ℕ). At (a .frame) (now (a .image)) i (a .kind)) (sym (c .before .long .ensures)) (s .pre .0),
+      (c .entries-row .ensures .inside, sure-row (now (a .store)) (c .entries-row .result) (c .entries-row .ensures) (s .pre .1 .1)),
+    )
 
 returns : tie.Need-returns
 returns c =
