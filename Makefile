@@ -33,16 +33,18 @@ differential: $(archive)
 # The command bin/axcut: proves the program and all below it, builds it and tries it.
 tool: $(program)
 
-# Where a change left the program as it was, rt does not write it again.
 $(program): $(sources)
-	rt check tool_command
-	touch $@
+	cd crates/tool_command && rt run -- --version
+	mkdir -p $(@D)
+	cp crates/tool_command/out/tool_command $@
 
 # The library for C and Rust.
 library: $(archive)
 
 $(archive): $(library_sources)
-	rt staticlib axcut
+	cd crates/axcut_c && rt lib
+	mkdir -p $(@D)
+	cp crates/axcut_c/out/libaxcut_c.a $@
 
 # The tests of the Rust crate.
 bindings: $(archive)

@@ -1,7 +1,7 @@
 #!/usr/bin/env python3
 """Brings this repository's own definitions and lemmas to the spelling of today's libraries: words in snake case, a dash between two names alone.
 
-usage: tools/respell.py [ROOT]      once, right after /opt/rattle/port/port.py, in the tree that it left
+usage: tools/respell.py [ROOT]      once, right after the kit's script for older repositories, in the tree that it left
        tools/respell.py --by FILE ROOT      the same by a table that was printed
        tools/respell.py --table     prints the table, old name, tab, new name, and writes nothing
 

@@ -30,7 +30,7 @@ use scope_records::flat::{Alone, all_records};
 use syntax::sets::IdSet;
 
 // The index that the walk has come to, and the place past what was written.
-#[derive(Drop)]
+#[derive(Clone, Copy)]
 pub struct Written {
     pub next: usize,
     pub end: usize,

@@ -1,3 +1,5 @@
 // Annotation: the free variables of what follows a record.
+#![tactic(auto)]
+
 pub mod annotate;
 pub mod walk;

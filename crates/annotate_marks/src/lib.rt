@@ -1,4 +1,6 @@
 // Rows of marks by ID: what is used and not bound is marked, and the marked IDs are written in ascending order.
+#![tactic(auto)]
+
 ghost use Rattle.std.specs.Prelude.{◌≡◌, ◌+◌, ◌*◌, ◌≤◌, ◌<◌, ◌^◌, length};
 ghost use Rattle.syntax.specs.Arrays.{set_of};
 ghost use Rattle.image_spec.specs.Parse.{each, field};

@@ -1,4 +1,6 @@
 // The IDs that the record at an index uses, in their order, and the scope with what it binds.
+#![tactic(auto)]
+
 ghost use Rattle.std.specs.Prelude.{◌≡◌, true, ◌∷◌, [], ◌++◌, ◌+◌, ◌≤◌, length};
 ghost use Rattle.syntax.specs.Arrays.{set_of, SetHolds};
 ghost use Rattle.syntax.specs.Context.{ids};

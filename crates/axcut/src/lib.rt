@@ -1,4 +1,7 @@
-// The exported functions. Each returns the number of its answer, 0 for acceptance, and sets what it is lent to report in on every call.
+// The functions of the library. Each returns the number of its answer, 0 for acceptance, and sets what it is lent to report in on every call.
+// axcut_c exports them to C.
+#![tactic(auto)]
+
 ghost use Rattle.std.specs.Prelude.{◌≡◌, []};
 ghost use Rattle.image_spec.specs.Layout.{layout1};
 ghost use Rattle.image_spec.specs.Answers.{Reports};
@@ -18,24 +21,21 @@ use step_call::step;
 use step_start::start;
 
 // Questions 1 to 5.
-#[unsafe(no_mangle)]
-pub extern "C" fn axcut_read(image: &[u8], length: &mut usize, max_id: &mut u32) -> u32
+pub fn axcut_read(image: &[u8], length: &mut usize, max_id: &mut u32) -> u32
     ensures { Reports (read_call image.now) result length.new max_id.new }
 {
     tell(read(image), length, max_id)
 }
 
 // Questions 1 to 10.
-#[unsafe(no_mangle)]
-pub extern "C" fn axcut_check(image: &[u8], length: &mut usize, max_id: &mut u32) -> u32
+pub fn axcut_check(image: &[u8], length: &mut usize, max_id: &mut u32) -> u32
     ensures { Reports (check_call image.now) result length.new max_id.new }
 {
     tell(check(image, Layout::one()), length, max_id)
 }
 
 // Questions 1 to 7, 13 and 12. Writes the annotation of the record with this index.
-#[unsafe(no_mangle)]
-pub extern "C" fn axcut_annotate(
+pub fn axcut_annotate(
     image: &[u8],
     record: usize,
     out: &mut [u8],
@@ -48,26 +48,14 @@ pub extern "C" fn axcut_annotate(
 }
 
 // Questions 1 to 12. Writes the linearized image.
-#[unsafe(no_mangle)]
-pub extern "C" fn axcut_linearize(
-    image: &[u8],
-    out: &mut [u8],
-    length: &mut usize,
-    max_id: &mut u32,
-) -> u32
+pub fn axcut_linearize(image: &[u8], out: &mut [u8], length: &mut usize, max_id: &mut u32) -> u32
     ensures { Told (linearize_call image.now out.old) result length.new max_id.new out.old out.new }
 {
     tell(linearize(image, Layout::one(), out), length, max_id)
 }
 
 // Questions 1 to 10, 14 and 15. Writes the state before the first step of the source machine to the store.
-#[unsafe(no_mangle)]
-pub extern "C" fn axcut_source_start(
-    image: &[u8],
-    definition: usize,
-    values: &[u8],
-    store: &mut [u8],
-) -> u32
+pub fn axcut_source_start(image: &[u8], definition: usize, values: &[u8], store: &mut [u8]) -> u32
     ensures { unchanged result store.new [] ≡ start_call (source_stepper layout1) image.now definition values.now store.old }
 {
     number_of(start(image, Layout::one(), false, definition, values, store))
@@ -75,8 +63,7 @@ pub extern "C" fn axcut_source_start(
 
 // Questions 1 to 10, 14 and 15. At most so many steps of the source machine from the state in the store; the events go to the beginning of
 // their buffer.
-#[unsafe(no_mangle)]
-pub extern "C" fn axcut_source_step(
+pub fn axcut_source_step(
     image: &[u8],
     steps: u64,
     store: &mut [u8],
@@ -94,21 +81,14 @@ pub extern "C" fn axcut_source_step(
 }
 
 // Questions 1 to 5, 14 and 15. As axcut_source_start, for the linear machine.
-#[unsafe(no_mangle)]
-pub extern "C" fn axcut_linear_start(
-    image: &[u8],
-    definition: usize,
-    values: &[u8],
-    store: &mut [u8],
-) -> u32
+pub fn axcut_linear_start(image: &[u8], definition: usize, values: &[u8], store: &mut [u8]) -> u32
     ensures { unchanged result store.new [] ≡ start_call (linear_stepper layout1) image.now definition values.now store.old }
 {
     number_of(start(image, Layout::one(), true, definition, values, store))
 }
 
 // Questions 1 to 5, 14 and 15. As axcut_source_step, for the linear machine.
-#[unsafe(no_mangle)]
-pub extern "C" fn axcut_linear_step(
+pub fn axcut_linear_step(
     image: &[u8],
     steps: u64,
     store: &mut [u8],

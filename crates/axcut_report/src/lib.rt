@@ -1,4 +1,6 @@
 // How the exported functions report: the number of an answer, and what they are lent to report in.
+#![tactic(auto)]
+
 ghost use Rattle.std.specs.Prelude.{◌≡◌, []};
 ghost use Rattle.image_spec.specs.Answers.{Reports, report};
 ghost use Rattle.step_answer_spec.specs.Saying.{result_of};

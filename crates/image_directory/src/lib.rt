@@ -1,4 +1,6 @@
 // The directory of an image: the pairs that tile its bytes (question 3), and the loop over its records (question 4).
+#![tactic(auto)]
+
 ghost use Rattle.std.specs.Prelude.{◌≡◌, true, ◌+◌, ◌≤◌, ◌<◌};
 ghost use Rattle.image_spec.specs.Image.{tiled_from};
 ghost use Rattle.image_directory.specs.Slots.{Width, slot_at, formed_from};
@@ -7,7 +9,7 @@ use image_fields::number;
 use image_kinds::form::record_formed;
 
 // The widths of an image's fields, its number of records, and where its directory and its records begin.
-#[derive(Drop)]
+#[derive(Clone, Copy)]
 pub struct Frame {
     pub id: usize,
     pub place: usize,
@@ -34,7 +36,7 @@ impl Frame {
 }
 
 // A pair of the directory, or none where the bytes end.
-#[derive(Drop)]
+#[derive(Clone, Copy)]
 pub enum Slot {
     Here { offset: usize, size: usize },
     Short,

@@ -1,4 +1,6 @@
 // The fields of an image: reading a number, and going past each part of a record.
+#![tactic(auto)]
+
 ghost use Rattle.std.specs.Prelude.{◌≡◌, true, ◌+◌, ◌≤◌, ◌<◌, leb, length, drop};
 ghost use Rattle.image_spec.specs.Parse.{got, number, code, zeros, times, counted, marked};
 ghost use Rattle.image_spec.specs.Fields.{max_count, identifier, type, binding, pair, list};
@@ -8,7 +10,7 @@ ghost use Rattle.image_fields.specs.declared.Found.TheVariants.{At};
 use image_spec::Layout;
 
 // A position in a slice, or nothing where what was looked for is not there.
-#[derive(Drop)]
+#[derive(Clone, Copy)]
 pub enum Found {
     At(usize),
     Nothing,

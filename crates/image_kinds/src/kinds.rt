@@ -5,7 +5,7 @@ ghost use Rattle.image_kinds.specs.Table.{IsKind};
 
 use image_fields::count;
 
-#[derive(Drop)]
+#[derive(Clone, Copy)]
 pub struct Kind {
     // The bytes of the fixed part (what stands before a list, a mark or a count, the kind byte too) without its IDs, and its IDs.
     pub plain: u8,

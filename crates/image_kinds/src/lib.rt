@@ -1,3 +1,5 @@
 // The records of an image: the table of their kinds, and question 4 of one record.
+#![tactic(auto)]
+
 pub mod form;
 pub mod kinds;

@@ -1,4 +1,6 @@
 // Questions 1 to 5 of an image.
+#![tactic(auto)]
+
 ghost use Rattle.std.specs.Prelude.{◌≡◌};
 ghost use Rattle.image_spec.specs.Layout.{layout1};
 ghost use Rattle.image_spec.specs.Reading.{reading, answer_of};
@@ -10,7 +12,7 @@ use image_shape::shaped;
 use image_spec::{Answer, Layout, Refusal};
 
 // An image that is accepted: where its records are, how many definitions they are, and its max_id.
-#[derive(Drop)]
+#[derive(Clone, Copy)]
 pub enum Opened {
     Image {
         frame: Frame,

@@ -1,4 +1,6 @@
 // The record at an index of an image that was opened: its kind, what follows it, and its identifiers.
+#![tactic(auto)]
+
 ghost use Rattle.std.specs.Prelude.{◌≡◌, true, ◌<◌};
 ghost use Rattle.image_spec.specs.Fields.{list_bytes, ListOk};
 ghost use Rattle.image_directory.specs.Slots.{Ready};
@@ -14,7 +16,7 @@ use image_shape::{Node, look};
 use syntax::names::Identifier;
 
 // The kind of a record, and what follows it: clauses, then bodies.
-#[derive(Drop)]
+#[derive(Clone, Copy)]
 pub struct Follows {
     pub kind: u8,
     pub clauses: usize,

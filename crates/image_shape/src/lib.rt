@@ -1,4 +1,6 @@
 // Question 5: the walk over an image's records, in pre-order, with a bound on the depth.
+#![tactic(auto)]
+
 ghost use Rattle.std.specs.Prelude.{◌≡◌, ◌+◌, ◌<◌, length, drop};
 ghost use Rattle.image_spec.specs.Parse.{times};
 ghost use Rattle.image_spec.specs.Shape.{stmt, clauses, definitions};
@@ -13,7 +15,7 @@ use image_kinds::kinds::Kind;
 use image_spec::Layout;
 
 // A record as the walk sees it.
-#[derive(Drop)]
+#[derive(Clone, Copy)]
 pub enum Node {
     Is { kind: u8, clauses: u8 },
     End,
@@ -71,7 +73,7 @@ fn head(image: &[u8], frame: Frame, wanted: u8, f: Found) -> Found
 }
 
 // What follows the record of a statement: clauses, then bodies, from place `next` on.
-#[derive(Drop)]
+#[derive(Clone, Copy)]
 pub enum Parts {
     Follow {
         clauses: usize,

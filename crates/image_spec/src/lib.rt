@@ -1,10 +1,12 @@
 // The image of a program: its layout, and the answers to a call. The format itself is defined in specs/.
+#![tactic(auto)]
+
 ghost use Rattle.std.specs.Prelude.{◌≡◌};
 ghost use Rattle.image_spec.specs.Layout.{layout1};
 ghost use Rattle.image_spec.specs.Answers.{number_of};
 
 // What the fields of an image measure.
-#[derive(Drop)]
+#[derive(Clone, Copy)]
 pub struct Layout {
     pub number: u32,
     // The bytes of an ID.
@@ -44,7 +46,7 @@ impl Layout {
 }
 
 // The first question that is answered no, in document 01's order.
-#[derive(Drop)]
+#[derive(Clone, Copy)]
 pub enum Refusal {
     Size,
     LayoutNumber,
@@ -85,7 +87,7 @@ impl Refusal {
 }
 
 // The answer to a call: the bytes that were written and the max_id to report, or the question that refused it.
-#[derive(Drop)]
+#[derive(Clone, Copy)]
 pub enum Answer {
     Accepted { length: usize, max_id: u32 },
     Refused(Refusal),

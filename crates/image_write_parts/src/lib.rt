@@ -1,4 +1,6 @@
 // Writes the parts of records into a lent buffer. Each function answers the place past what it wrote; a byte past the buffer's end is left out.
+#![tactic(auto)]
+
 ghost use Rattle.std.specs.Prelude.{◌≡◌, ◌∷◌, [], true, ◌+◌, ◌/◌, ◌%◌, ◌≤◌, ◌<◌, ◌^◌, length};
 ghost use Rattle.image_spec.specs.Parse.{field};
 ghost use Rattle.image_spec.specs.Fields.{chirality_code_lem, operator_code_lem, sort_code_lem, newline_code_lem, integer_bytes, identifier_bytes, type_bytes, binding_bytes};

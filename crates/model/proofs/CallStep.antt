@@ -32,6 +32,8 @@ module _ (P : Prog) (K K' : Cells) (cells : SameCells P.max_id K K') where
       → Matches P.max_id
       (or_halt o λ d. or_halt (pair_up (ids d.context) vs) λ ε'. shows (Call' label) (at d.body ε' K))
       (or_halt o' λ d. or_halt (pair_up (ids d.context) vs) λ l'. shows_unless_twice (Call' label) d.body l' K')
+  entered label vs none (some d') x'' = elim x'' [ ]
+  entered label vs (some d) none x3 = elim x3 [ ]
   entered label vs none none neither = tt
   entered label vs (some d) (some d') (both r) = go (pair? (ids d.context) vs)
     where

@@ -48,6 +48,9 @@ same_at M (c ∷ K) (c' ∷ K') (suc i) s = same_at M K K' i s.1
 
 -- a Switch finds the same on both sides
 as_xtor_lem : (M : ℕ) (i : ℕ) (o o' : Option Cell) → SameAt M o o' → as_xtor i o ≡ as_xtor i o'
+as_xtor_lem M i none (some _) x3 = elim x3 [ ]
+as_xtor_lem M i (some (xtor t vs)) none x5 = elim x5 [ ]
+as_xtor_lem M i (some (closure ε cs)) none x6 = elim x6 [ ]
 as_xtor_lem M i none none nothing = refl
 as_xtor_lem M i (some (xtor t vs)) (some (xtor t' vs')) (there h) = ap₂ (λ (x : Name) (y : List Value). some (i, x, y)) h.0 h.1
 as_xtor_lem M i (some (xtor t vs)) (some (closure l cs')) (there h) = absurd h
@@ -66,6 +69,9 @@ pub data SameTarget (M : ℕ) : Option Target → Option Target → Type 0 where
   same-clo : (i : ℕ) {ε l : Entries} {cs cs' : Clauses} → AtClauses M cs ε cs' l → SameTarget M (some (clo i ε cs)) (some (clo i l cs'))
 
 as_closure_lem : (M : ℕ) (i : ℕ) (o o' : Option Cell) → SameAt M o o' → SameTarget M (as_closure i o) (as_closure i o')
+as_closure_lem M i none (some _) x3 = elim x3 [ ]
+as_closure_lem M i (some (xtor t vs)) none x5 = elim x5 [ ]
+as_closure_lem M i (some (closure ε cs)) none x6 = elim x6 [ ]
 as_closure_lem M i none none nothing = no_target
 as_closure_lem M i (some (xtor t vs)) (some (xtor t' vs')) (there h) = no_target
 as_closure_lem M i (some (xtor t vs)) (some (closure l cs')) (there h) = absurd h
@@ -84,6 +90,8 @@ module _ (M : ℕ) (K K' : Cells) (cells : SameCells M K K') {fv Δ : List VarId
   pub opened : (o o' : Option (Context × Stmt)) → SameClause M fv Δ before ρ Γ m o o'
       → Matches M (or_halt o λ c. or_halt (pair_up (ids c.0) vs) λ new. shows e (at c.1 (new ++ ε) K))
       (or_halt o' λ c. or_halt (pair_up (ids c.0) vs) λ new. shows_unless_twice e c.1 (cond before (new ++ l) (l ++ new)) K')
+  opened none (some c') x'' = elim x'' [ ]
+  opened (some c) none x3 = elim x3 [ ]
   opened none none neither = tt
   opened (some c) (some c') (both r) = go (pair? (ids c.0) vs)
     where

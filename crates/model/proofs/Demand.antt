@@ -19,6 +19,8 @@ use Rattle.model.proofs.Runs.{agree}
 
 module _ (P : Prog) (acc : ScopedProg P) where
   begin : (vs : List Given) (o o' : Option Def) → SameDef P.max_id o o' → Starts P (source_start_at o vs) (linear_start_at o' vs)
+  begin vs none (some d') x'' = elim x'' [ ]
+  begin vs (some d) none x3 = elim x3 [ ]
   begin vs none none neither = neither-begins
   begin vs (some d) (some d') (both r) = go (pair? (ids d.context) (map value vs))
     where

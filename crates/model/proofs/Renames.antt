@@ -35,6 +35,13 @@ rename_id-⨾ ρ σ x = go (ρ x)
 count-vars : (N T : Context) → length N ≡ length T → length (ids N) ≡ length (vars T)
 count-vars N T e = length-map N id_of ∙ e ∙ sym (length-map T (λ (b : ContextBinding). b.var))
 
+-- the first variable of N becomes the first of T, another one what the rest makes of it
+rename_first : (b c : ContextBinding) (N T : Context) (y : VarId) → same_var_id y (id_of b) ≡ true → rename_id (renaming (b ∷ N) (c ∷ T)) y ≡ id_of c
+rename_first b c N T y e = rw e
+
+rename_later : (b c : ContextBinding) (N T : Context) (y : VarId) → same_var_id y (id_of b) ≡ false → rename_id (renaming (b ∷ N) (c ∷ T)) y ≡ rename_id (renaming N T) y
+rename_later b c N T y e = rw e
+
 -- a variable of N becomes one of T
 renaming_in : (N T : Context) (y : VarId) → length N ≡ length T → y ∈ ids N → rename_id (renaming N T) y ∈ ids T
 renaming_in [] T y e h = absurd h
@@ -42,9 +49,10 @@ renaming_in (b ∷ N) [] y e h = absurd (omega arith)
 renaming_in (b ∷ N) (c ∷ T) y e h = go (λ k. renaming_in N T y (omega arith) k) (same? y (id_of b)) h
   where
     go : (y ∈ ids N → rename_id (renaming N T) y ∈ ids T) → Answers (same_var_id y (id_of b)) (y ≡ id_of b) → y ∈ ids (b ∷ N) → rename_id (renaming (b ∷ N) (c ∷ T)) y ∈ ids (c ∷ T)
-    go ih (inl p) k = rw p.0 (inl refl)
+    go ih (inl p) k = inl (rename_first b c N T y p.0)
     go ih (inr p) (inl q) = absurd (p.1 q)
-    go ih (inr p) (inr k) = rw p.0 (inr (ih k))
+    go ih (inr p) (inr k) =
+        inr (subst (λ (z : VarId). z ∈ ids T) (sym (rename_later b c N T y p.0)) (ih k))
 
 -- and keeps its value
 moved_value : (N T : Context) (us : List Value) (y : VarId) → length N ≡ length T → length N ≡ length us → Distinct (ids T) → y ∈ ids N
@@ -59,9 +67,13 @@ moved_value (b ∷ N) (c ∷ T) (u ∷ us) y e h d k = go (λ q. moved_value N T
 
     go : (y ∈ ids N → lookup (rename_id (renaming N T) y) (zip (ids T) us) ≡ lookup y (zip (ids N) us)) → Answers (same_var_id y (id_of b)) (y ≡ id_of b) → y ∈ ids (b ∷ N)
         → lookup (rename_id (renaming (b ∷ N) (c ∷ T)) y) (zip (ids (c ∷ T)) (u ∷ us)) ≡ lookup y (zip (ids (b ∷ N)) (u ∷ us))
-    go ih (inl p) q = rw p.0 (lookup-same (id_of c) u (zip (ids T) us))
+    go ih (inl p) q =
+        let held : lookup y (zip (ids (b ∷ N)) (u ∷ us)) ≡ some u = rw p.0 in
+        ap (λ (z : VarId). lookup z (zip (ids (c ∷ T)) (u ∷ us))) (rename_first b c N T y p.0) ∙ lookup-same (id_of c) u (zip (ids T) us) ∙ sym held
     go ih (inr p) (inl q) = absurd (p.1 q)
-    go ih (inr p) (inr q) = rw p.0 (lookup-other (rename_id (renaming N T) y) (id_of c) u (zip (ids T) us) (away q) ∙ ih q)
+    go ih (inr p) (inr q) =
+        let held : lookup y (zip (ids (b ∷ N)) (u ∷ us)) ≡ lookup y (zip (ids N) us) = rw p.0 in
+        ap (λ (z : VarId). lookup z (zip (ids (c ∷ T)) (u ∷ us))) (rename_later b c N T y p.0) ∙ lookup-other (rename_id (renaming N T) y) (id_of c) u (zip (ids T) us) (away q) ∙ ih q ∙ sym held
 
 -- the context under fresh names, and the renaming made to match, are as the pass keeps them
 module _ {M : ℕ} {Δ : List VarId} {ρ : Renaming} {N : Context} {m : ℕ} (f : Good M Δ ρ N m) {C : List VarId} (T : Context) (m₁ : ℕ) (g : Renamed N C m T m₁) where

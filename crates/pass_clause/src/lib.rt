@@ -1,2 +1,4 @@
 // clause.rs: what stands before a body.
+#![tactic(auto)]
+
 pub mod clause;

@@ -1,4 +1,5 @@
 // The context at work: up to 64 entries by value with a count, and what the rules do to it.
+#![tactic(auto)]
 
 ghost use Rattle.std.specs.Prelude.{◌≡◌, ◌∷◌, [], ◌++◌, ◌+◌, ◌≤◌, ◌<◌};
 ghost use Rattle.syntax.specs.Context.{ids, same_context};
@@ -14,7 +15,7 @@ use syntax::context::{ContextBinding, TypingContext};
 use syntax::names::{Identifier, VarId};
 use syntax::sets::IdSet;
 
-#[derive(Drop)]
+#[derive(Clone, Copy)]
 pub struct Held {
     pub entries: [FlatEntry; TypingContext::MAX],
     pub len: usize,

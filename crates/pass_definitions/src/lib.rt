@@ -1,3 +1,5 @@
 // The definitions of a program: one by one, and one after the other.
+#![tactic(auto)]
+
 pub mod def;
 pub mod program;

@@ -1,2 +1,4 @@
 // The statement, clause or definition at hand, by its kind.
+#![tactic(auto)]
+
 pub mod step;

@@ -10,7 +10,7 @@ use syntax::context::{Chirality, ContextBinding, FlatBinding};
 use syntax::names::{Identifier, Name, VarId};
 
 // An entry as it stands in an array: its parts side by side, so that none of an element's bytes is unused and a context is quick to copy.
-#[derive(Drop)]
+#[derive(Clone, Copy)]
 pub struct FlatEntry {
     pub id: VarId,
     pub source: VarId,

@@ -1,4 +1,6 @@
 // The end of linearization (questions 11 and 12): the records are written, and the header and the directory come before them.
+#![tactic(auto)]
+
 ghost use Rattle.std.specs.Prelude.{◌+◌, ◌-◌, ◌≤◌, ◌<◌, ◌≡◌, length, take, drop};
 ghost use Rattle.std.proofs.lemmas.List.Edits.{sets};
 ghost use Rattle.image_spec.specs.Layout.{body_at};

@@ -1,4 +1,6 @@
 // program.rs: linearization of a whole image (questions 1 to 12).
+#![tactic(auto)]
+
 ghost use Rattle.std.specs.Prelude.{◌*◌, ◌≤◌, length};
 ghost use Rattle.model.specs.Pass.{linearize};
 ghost use Rattle.image_directory.specs.Slots.{records_in};

@@ -1,4 +1,6 @@
 // The record at an index of an image, read whole.
+#![tactic(auto)]
+
 ghost use Rattle.std.specs.Prelude.{◌≡◌, true};
 ghost use Rattle.image_spec.specs.Parse.{mark, Marked};
 ghost use Rattle.image_spec.specs.Fields.{identifier_bytes, IdentifierOk};
@@ -18,13 +20,13 @@ use syntax::names::Identifier;
 use syntax::op::BinOp;
 use syntax::types::Ty;
 
-#[derive(Drop)]
+#[derive(Clone, Copy)]
 pub struct CallRecord {
     pub label: Identifier,
     pub args: TypingContext,
 }
 
-#[derive(Drop)]
+#[derive(Clone, Copy)]
 pub struct LetRecord {
     pub var: Identifier,
     pub ty: Ty,
@@ -32,7 +34,7 @@ pub struct LetRecord {
     pub args: TypingContext,
 }
 
-#[derive(Drop)]
+#[derive(Clone, Copy)]
 pub struct SwitchRecord {
     pub var: Identifier,
     pub ty: Ty,
@@ -40,14 +42,14 @@ pub struct SwitchRecord {
 }
 
 // A Create without an environment.
-#[derive(Drop)]
+#[derive(Clone, Copy)]
 pub struct CreateRecord {
     pub var: Identifier,
     pub ty: Ty,
     pub clauses: u8,
 }
 
-#[derive(Drop)]
+#[derive(Clone, Copy)]
 pub struct InvokeRecord {
     pub var: Identifier,
     pub tag: Identifier,
@@ -55,13 +57,13 @@ pub struct InvokeRecord {
     pub args: TypingContext,
 }
 
-#[derive(Drop)]
+#[derive(Clone, Copy)]
 pub struct LiteralRecord {
     pub lit: i64,
     pub var: Identifier,
 }
 
-#[derive(Drop)]
+#[derive(Clone, Copy)]
 pub struct OpRecord {
     pub fst: Identifier,
     pub op: BinOp,
@@ -70,32 +72,32 @@ pub struct OpRecord {
 }
 
 // The second operand of an IfC.
-#[derive(Drop)]
+#[derive(Clone, Copy)]
 pub enum Second {
     None,
     Some(Identifier),
 }
 
-#[derive(Drop)]
+#[derive(Clone, Copy)]
 pub struct IfCRecord {
     pub sort: IfSort,
     pub fst: Identifier,
     pub snd: Second,
 }
 
-#[derive(Drop)]
+#[derive(Clone, Copy)]
 pub struct PrintRecord {
     pub newline: bool,
     pub var: Identifier,
 }
 
-#[derive(Drop)]
+#[derive(Clone, Copy)]
 pub struct ExitRecord {
     pub var: Identifier,
 }
 
 // An identifier and a list: what a definition, a Call and a clause are.
-#[derive(Drop)]
+#[derive(Clone, Copy)]
 pub struct NameAndList {
     pub name: Identifier,
     pub list: TypingContext,

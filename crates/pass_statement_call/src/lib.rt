@@ -1,2 +1,4 @@
 // The statement Call, in its file of the Rust's name.
+#![tactic(auto)]
+
 pub mod call;

@@ -15,7 +15,7 @@ use pass_records::{Second, ifc};
 use syntax::names::{Identifier, Name, VarId};
 
 // The second operand as it is written. It counts only if it is marked.
-#[derive(Drop)]
+#[derive(Clone, Copy)]
 pub struct Operand {
     pub marked: bool,
     pub var: Identifier,

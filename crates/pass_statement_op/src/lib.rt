@@ -1,2 +1,4 @@
 // The statement Op, in its file of the Rust's name.
+#![tactic(auto)]
+
 pub mod op;

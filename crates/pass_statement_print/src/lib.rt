@@ -1,2 +1,4 @@
 // The statement PrintI64, in its file of the Rust's name.
+#![tactic(auto)]
+
 pub mod print;

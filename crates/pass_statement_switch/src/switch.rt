@@ -67,7 +67,7 @@ pub fn open(
 }
 
 // A variable under the name that it has from here on, and the max_id then.
-#[derive(Drop)]
+#[derive(Clone, Copy)]
 pub struct FreshVar {
     pub binding: ContextBinding,
     pub max_id: u32,

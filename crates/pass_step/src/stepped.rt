@@ -2,7 +2,7 @@
 use image_write_directory::progress::Progress;
 use pass_context::Held;
 
-#[derive(Drop)]
+#[derive(Clone, Copy)]
 pub struct Stepped {
     pub context: Held,
     pub in_scope: u8,
@@ -11,7 +11,7 @@ pub struct Stepped {
 
 // What clauses begin with: their context, whether the context is right already, and where they are written, behind the place of what comes before
 // them.
-#[derive(Drop)]
+#[derive(Clone, Copy)]
 pub struct Opened {
     pub context: Held,
     pub right: bool,
@@ -19,7 +19,7 @@ pub struct Opened {
 }
 
 // What a statement's clauses and its next have free, as masks over the places in scope.
-#[derive(Drop)]
+#[derive(Clone, Copy)]
 pub struct FreeVars {
     pub clauses: u64,
     pub next: u64,

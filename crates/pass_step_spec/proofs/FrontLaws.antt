@@ -1,4 +1,4 @@
--- What a step writes before the clauses: `front-form`, and how much it is: `front-records`, `front_bytes`. Assumes nothing.
+-- What a step writes before the clauses: `front-form`, and how much it is: `front-records`, `front-bytes`. Assumes nothing.
 use Prim.Native.Nat.{ℕ, suc, ◌+◌, ◌*◌}
 use native.Mathlib.Nat.{suc-mul, zero-mul}
 use native.Mathlib.Omega.{arith}
@@ -170,9 +170,9 @@ module _ (r : Record) (fc fn : List VarId) (W : Work) (n m : ℕ) where
   front-records = let f = front-form r fc fn W n m in ap length f.form ∙ arranged-records (right_of r fc fn W) f.targets (wanted r fc fn W) f.own
 
   -- and their bytes
-  pub front_bytes : (w : ℕ) → length (each (record_bytes w) (step_of r fc fn W n m).front) ≡ front_bytes w r fc fn W
+  pub front-bytes : (w : ℕ) → length (each (record_bytes w) (step_of r fc fn W n m).front) ≡ front_bytes w r fc fn W
   unfolding front_bytes
-  front_bytes w =
+  front-bytes w =
       let f = front-form r fc fn W n m in
       ap (λ (l : List Record). length (each (record_bytes w) l)) f.form
       ∙ arranged-bytes w (right_of r fc fn W) f.targets (wanted r fc fn W) f.own f.count

@@ -34,7 +34,7 @@ use Rattle.pass_work_spec.proofs.Lengths.{owns-length, joined_length}
 use Rattle.pass_step_spec.specs.Steps.{environment, step_of, clause_context, params_first, work_bodies}
 use Rattle.pass_step_spec.specs.Fronts.{wanted, right_of, front_records, list_size, pairs_size, option_size, tail_size, front_bytes}
 use Rattle.pass_step_spec.proofs.WorkViews.{free_in_clauses, free_in_bodies, clauses_done, step_done, work_view, clause-view, def_done}
-use Rattle.pass_step_spec.proofs.FrontLaws.{list_length, record_length, front-records, front_bytes}
+use Rattle.pass_step_spec.proofs.FrontLaws.{list_length, record_length, front-records, front-bytes}
 use Rattle.pass_step_spec.proofs.StepBounds.{environment-fewer, wanted-short, clauses-fewer, bodies-longer}
 
 -- ── sizes in step ──
@@ -251,7 +251,7 @@ module _ (w : ℕ) (v : w ≤ 8) where
         let fc = free_in_clauses t in
         let fn = free_in_bodies t in
         let q = small-says Δ t a in
-        let bytes = front_bytes r fc fn W n m w in
+        let bytes = front-bytes r fc fn W n m w in
         record { least = omega (arith, bytes, front-least r fc fn W); most = omega (arith, bytes, front-most fc fn W (le_trans h q.1) t q.0) };
     clause = λ x Γ Δ a. named-sized (clause' x Γ) Γ Δ a (omega arith) refl;
     definition = λ x Γ Δ a. named-sized (definition x Γ) Γ Δ a (omega arith) refl;

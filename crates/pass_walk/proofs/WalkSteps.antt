@@ -31,7 +31,7 @@ use Rattle.pass_context.specs.declared.Held.{Held}
 use Rattle.pass_step_spec.specs.Steps.{Step, step_of, clause_context, params_first, work_bodies}
 use Rattle.pass_step_spec.specs.Fronts.{front_records, front_bytes}
 use Rattle.pass_step_spec.proofs.WorkViews.{free_in_clauses, free_in_bodies, clauses_done, step_done, bodies_done}
-use Rattle.pass_step_spec.proofs.FrontLaws.{front-records, front_bytes}
+use Rattle.pass_step_spec.proofs.FrontLaws.{front-records, front-bytes}
 use Rattle.pass_step.specs.Drawn.{drawn_to}
 use Rattle.pass_step.specs.Stepping.{RoomAt, Steps, Opens, OpensAs}
 use Rattle.pass_step.specs.declared.stepped.Stepped.{Stepped}
@@ -92,7 +92,7 @@ module _ {g : Frame} {s rows : List ℕ} {d i : ℕ} {held : Held} {n : ℕ} {p 
     -- behind the place of the step's records
     behind-at : o.progress.at ≡ p.at + length (each (record_bytes g.id) S.front)
     behind-at = x.opens.at ∙ ap (λ (z : ℕ). p.at + z)
-        (ap (λ (r : Record). front_bytes g.id r (free_in_clauses here) (free_in_bodies here) W) (is_record h) ∙ sym (front_bytes (record_of here) (free_in_clauses here) (free_in_bodies here) W n C.1 g.id))
+        (ap (λ (r : Record). front_bytes g.id r (free_in_clauses here) (free_in_bodies here) W) (is_record h) ∙ sym (front-bytes (record_of here) (free_in_clauses here) (free_in_bodies here) W n C.1 g.id))
 
     behind-count : o.progress.count ≡ p.count + length S.front
     behind-count = x.opens.count ∙ ap (λ (z : ℕ). p.count + z)

@@ -1,2 +1,4 @@
 // Linearization over the records of an image, with the Rust's names. The statements are in crates of their own.
+#![tactic(auto)]
+
 pub mod walk;

@@ -25,7 +25,7 @@ use pass_step::stepped::FreeVars;
 use syntax::names::VarId;
 
 // Where the walk has come to, and how far the output has.
-#[derive(Drop)]
+#[derive(Clone, Copy)]
 pub struct Linearized {
     pub next: usize,
     pub progress: Progress,

@@ -1,9 +1,11 @@
 // The context at work: what linearization has at hand at a statement.
+#![tactic(auto)]
+
 use syntax::context::ContextBinding;
 use syntax::names::VarId;
 
 // A binding of the context at work.
-#[derive(Drop)]
+#[derive(Clone, Copy)]
 pub struct Entry {
     pub binding: ContextBinding,
     // The source's variable that it stands for.

@@ -1,2 +1,4 @@
 // What the record at an index uses and binds.
+#![tactic(auto)]
+
 pub mod nodes;

@@ -11,14 +11,14 @@ use syntax::context::TypingContext;
 use syntax::names::VarId;
 
 // What was used, as a mask over the places in scope, and the verdict.
-#[derive(Drop)]
+#[derive(Clone, Copy)]
 pub struct Using {
     pub mask: u64,
     pub verdict: Verdict,
 }
 
 // How many are in scope, and the verdict with which the scope was reached.
-#[derive(Drop)]
+#[derive(Clone, Copy)]
 pub struct Entering {
     pub n: usize,
     pub verdict: Verdict,

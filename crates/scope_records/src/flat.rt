@@ -13,7 +13,7 @@ use image_read_parts::{byte, offset};
 use image_shape::{Node, look};
 
 // What is asked of each record alone.
-#[derive(Drop)]
+#[derive(Clone, Copy)]
 pub enum Alone {
     // Question 6: that it is no Substitute, and has no environment.
     Plain,

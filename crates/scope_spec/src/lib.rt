@@ -1,7 +1,8 @@
 // The scope check (questions 6 to 10).
+#![tactic(auto)]
 
 // What the walk over the statements has found so far: yes, for each thing that it looks at.
-#[derive(Drop)]
+#[derive(Clone, Copy)]
 pub struct Verdict {
     // No scope has more than 64 bindings (a part of question 7).
     pub room: bool,

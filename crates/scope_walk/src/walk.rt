@@ -26,7 +26,7 @@ use scope_places::scoping::{Entering, Using};
 use scope_spec::Verdict;
 
 // Where the walk has come to, its verdict so far, and the free variables of what it came through, as a mask over the places in scope.
-#[derive(Drop)]
+#[derive(Clone, Copy)]
 pub struct Walked {
     pub next: usize,
     pub verdict: Verdict,

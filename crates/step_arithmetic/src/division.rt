@@ -18,7 +18,7 @@ pub fn has_quotient(a: i64, b: i64) -> bool
 }
 
 // What an Op gives, or that it gives nothing and the machine has no next step.
-#[derive(Drop)]
+#[derive(Clone, Copy)]
 pub enum Value {
     Int(i64),
     NoStep,

@@ -1,4 +1,6 @@
 // What Op and IfC compute on 64-bit integers: sums, differences and products that wrap, division with no value at its edges, comparisons.
+#![tactic(auto)]
+
 pub mod comparison;
 pub mod division;
 pub mod operation;

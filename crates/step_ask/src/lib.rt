@@ -1,4 +1,6 @@
 // The questions that a stepper asks first: 1 to 10 of a source, 1 to 5 of a linear image.
+#![tactic(auto)]
+
 ghost use Rattle.image_open.specs.Opening.{Known};
 ghost use Rattle.image_open.proofs.OpenedLaws.{IsOpened};
 ghost use Rattle.std.specs.Prelude.{false};
@@ -10,7 +12,7 @@ use image_spec::{Answer, Layout, Refusal};
 use scope_check::check::check_image;
 use step_rule::Stepper;
 
-#[derive(Drop)]
+#[derive(Clone, Copy)]
 pub enum Asked {
     Image(Stepper),
     Closed(Refusal),

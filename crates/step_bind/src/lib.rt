@@ -1,4 +1,6 @@
 // An integer under a new variable: what Literal and Op of either machine write.
+#![tactic(auto)]
+
 ghost use Rattle.std.specs.Prelude.{◌≡◌, cond, ◌+◌, ◌*◌, ◌≤◌, ◌<◌, ◌^◌, length};
 ghost use Rattle.step_header.specs.Headers.{Holds};
 ghost use Rattle.step_bind.specs.Binding.{Binds};

@@ -1,4 +1,6 @@
 // A call for steps: questions first, then 14, then the steps.
+#![tactic(auto)]
+
 ghost use Rattle.std.specs.Prelude.{◌≡◌, ◌<◌};
 ghost use Rattle.image_directory.specs.Slots.{Ready, records_in};
 ghost use Rattle.image_open.specs.Opening.{Known};

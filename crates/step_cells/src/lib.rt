@@ -1,4 +1,6 @@
 // The cell that a value refers to, in the slots of a store's cells: what Switch and Invoke look into.
+#![tactic(auto)]
+
 ghost use Rattle.std.specs.Prelude.{◌≡◌, true, ◌+◌, ◌*◌, ◌≤◌, ◌<◌, length, drop};
 ghost use Rattle.step_slots.specs.Views.{slots_at, all_slots};
 ghost use Rattle.step_spec.specs.Store.{leading};
@@ -10,7 +12,7 @@ use step_slots::{Slot, read};
 
 // A cell: its own slot (sort 3 with a tag, or 4 with the place of a Create's record; its number), the byte where what it holds begins, and how
 // many slots that is. No cell is of sort 5.
-#[derive(Drop)]
+#[derive(Clone, Copy)]
 pub struct Cell {
     pub sort: u8,
     pub id: u32,

@@ -1,4 +1,6 @@
 // The rule of the statement at hand, by its kind.
+#![tactic(auto)]
+
 ghost use Rattle.std.specs.Prelude.{◌<◌};
 ghost use Rattle.image_directory.specs.Slots.{records_in};
 ghost use Rattle.step_spec.specs.Located.{source_machine, linear_machine};

@@ -1,4 +1,6 @@
 // A clause or a definition that is entered: its parameters, and the entries that they become. What Switch and Call of either machine end with.
+#![tactic(auto)]
+
 ghost use Rattle.std.specs.Prelude.{◌≡◌, true, ◌+◌, ◌*◌, ◌≤◌, ◌<◌, length};
 ghost use Rattle.image_directory.specs.Slots.{Ready, records_in};
 ghost use Rattle.image_read_nodes.specs.Nodes.{has_list};
@@ -25,7 +27,7 @@ use step_rows::records::list_row;
 use step_write::{EventHead, Made, finish};
 
 // What is entered: the IDs of its parameters and the place of its body; or that there is none.
-#[derive(Drop)]
+#[derive(Clone, Copy)]
 pub enum Parameters {
     Absent,
     Listed { row: Row, body: u32 },

@@ -1,4 +1,6 @@
 // The entries of an environment in a store: looked up by ID.
+#![tactic(auto)]
+
 ghost use Rattle.std.specs.Prelude.{◌≡◌, true, ◌+◌, ◌*◌, ◌≤◌, length};
 ghost use Rattle.step_slots.specs.Views.{slots_at, all_slots};
 ghost use Rattle.step_entries.specs.Named.{named};

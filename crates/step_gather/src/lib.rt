@@ -1,4 +1,6 @@
 // The values of several variables: looked up, under other IDs, and as an event shows them.
+#![tactic(auto)]
+
 ghost use Rattle.std.specs.Prelude.{◌≡◌, true, map, ◌+◌, ◌*◌, ◌≤◌, length};
 ghost use Rattle.std.proofs.lemmas.List.Edits.{sets};
 ghost use Rattle.image_spec.specs.Parse.{each};

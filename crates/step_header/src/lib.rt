@@ -1,4 +1,6 @@
 // The first 64 bytes of a store: position, flags and counts.
+#![tactic(auto)]
+
 ghost use Rattle.std.specs.Prelude.{◌≡◌, ◌+◌, ◌≤◌, length, drop, replicate};
 ghost use Rattle.image_spec.specs.Parse.{got, only_if};
 ghost use Rattle.image_write_parts.specs.Puts.{Puts};
@@ -10,7 +12,7 @@ use image_write_parts::{put_byte, store_pair};
 use step_slots::{all_zero, long_at, put_four, put_long};
 
 // The place of the statement's record, the flags (0 or 1), how many cells, slots of cells and entries there are.
-#[derive(Drop)]
+#[derive(Clone, Copy)]
 pub struct Header {
     pub position: u32,
     pub ended: u8,

@@ -1,4 +1,6 @@
 // What a variable has in the environment of a state: its slot, or its integer.
+#![tactic(auto)]
+
 ghost use Rattle.std.specs.Prelude.{◌≡◌};
 ghost use Rattle.step_arithmetic.specs.Results.{value_of};
 ghost use Rattle.step_header.specs.Headers.{entries_in, Holds};

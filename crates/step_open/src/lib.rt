@@ -1,4 +1,6 @@
 // Question 14 of a store: the header of the state that it begins with.
+#![tactic(auto)]
+
 ghost use Rattle.std.specs.Prelude.{◌≡◌, ◌&&◌, ◌+◌, ◌*◌, ◌≤◌, leb, length};
 ghost use Rattle.model.specs.Syntax.{Prog};
 ghost use Rattle.image_directory.specs.Slots.{Ready};

@@ -1,4 +1,6 @@
 // Whether the linear machine stops at the statement at hand: because of the IDs that the statement shows, or of those that it brings.
+#![tactic(auto)]
+
 pub mod entering;
 pub mod list;
 pub mod parts;

@@ -82,6 +82,8 @@ module _ (P : Prog) (place : ℕ) (values store store' : List ℕ) (longer : len
 
   started_too : {M : ℕ} (o o' : Option Def) → nth place P.defs ≡ o → nth place (linearize P).defs ≡ o' → SameDef M o o'
       → (start_at source_machine P place o values store).number ≡ 0 → (start_at linear_machine (linearize P) place o' values store').number ≡ 0
+  started_too {M = M} none (some d') f f' x8 e = elim x8 [ ]
+  started_too {M = M} (some d) none f f' x6 e = elim x6 [ ]
   started_too none none f f' neither e = impossible 13 e
   started_too (some d) (some d') f f' (both r) e = rw (← r.context) (go (givens (length d.context) values) e)
     where

@@ -141,7 +141,9 @@ head-nth : {kind d n : ℕ} {rs : List Record} {ends : List ℕ} (k i : ℕ) (es
 unfolding hops definition_place
 head-nth k i [] t h s = absurd (omega (arith, s.count))
 head-nth zero i (e ∷ es) t h s = let p = head-parts e es s in found e.name (ap head_of p.head) p.body refl
-head-nth (suc k) i (e ∷ es) t h s = let p = head-parts e es s in rw (head-next e es t s) (head-nth k (i + 1 + length (flatten e.body)) es t (omega arith) p.rest)
+head-nth {kind = kind} {d = d} {n = n} {rs = rs} {ends = ends} (suc k) i (e ∷ es) t h s =
+    let p = head-parts e es s in
+    rw (head-next e es t s) (head-nth {kind = kind} {d = d} {n = n - 1} {rs = rs} {ends = ends} k (i + 1 + length (flatten e.body)) es t (omega arith) p.rest)
 
 nth_past : (k : ℕ) (es : List Def) → length es ≤ k → nth k es ≡ none
 nth_past k [] h = refl

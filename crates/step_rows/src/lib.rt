@@ -1,4 +1,6 @@
 // Rows of variable IDs: those of a list in an image, of the pairs of a Substitute, and of slots in a store.
+#![tactic(auto)]
+
 pub mod records;
 
 ghost use Rattle.std.specs.Prelude.{◌≡◌, ◌+◌, ◌*◌, ◌≤◌, ◌<◌, ◌^◌};
@@ -11,7 +13,7 @@ use image_fields::number;
 
 // Numbers at equal distances in bytes: len elements of stride bytes each, the first at from, each with a number of width bytes that stands
 // offset bytes into it.
-#[derive(Drop)]
+#[derive(Clone, Copy)]
 pub struct Row {
     pub from: usize,
     pub stride: usize,

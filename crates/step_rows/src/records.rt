@@ -17,7 +17,7 @@ use image_read_nodes::list_at;
 use image_read_parts::offset;
 
 // The IDs of a Create's environment, or that it has none.
-#[derive(Drop)]
+#[derive(Clone, Copy)]
 pub enum Environment {
     Absent,
     Listed(Row),

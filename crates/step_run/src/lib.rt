@@ -1,4 +1,6 @@
 // Steps one after another.
+#![tactic(auto)]
+
 ghost use Rattle.step_rule.specs.Rules.{machine_in};
 ghost use Rattle.step_order.specs.Sure.{SureIn};
 ghost use Rattle.step_turn.specs.Turning.{Lives, Workplace};
@@ -10,7 +12,7 @@ use step_turn::advance;
 use step_write::Made;
 
 // How many steps were made, how many bytes their events took, and whether the next one had no room.
-#[derive(Drop)]
+#[derive(Clone, Copy)]
 pub struct Ran {
     pub steps: u64,
     pub length: usize,

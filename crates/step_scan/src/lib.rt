@@ -1,4 +1,6 @@
 // Question 14: is a store the bytes of a state? One pass over its slots.
+#![tactic(auto)]
+
 ghost use Rattle.std.specs.Prelude.{◌≡◌, List, ◌+◌, ◌*◌, ◌≤◌, ◌<◌, length, drop};
 ghost use Rattle.model.specs.Syntax.{Prog};
 ghost use Rattle.image_directory.specs.Slots.{Ready, records_in};

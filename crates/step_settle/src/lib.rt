@@ -1,4 +1,6 @@
 // The stopped flag of a state that was just written: set where the machine stops there.
+#![tactic(auto)]
+
 ghost use Rattle.std.specs.Prelude.{◌≡◌, ◌≤◌, ◌<◌, length, set};
 ghost use Rattle.image_directory.specs.Slots.{Ready, records_in};
 ghost use Rattle.step_header.specs.Headers.{Holds};

@@ -1,4 +1,6 @@
 // The step that ends a run with an outside number: its event is shown with argument values behind it, and of the state only the header is written.
+#![tactic(auto)]
+
 ghost use Rattle.std.specs.Prelude.{[], ◌+◌, ◌*◌, ◌≤◌, ◌<◌, ◌^◌, length};
 ghost use Rattle.step_slots.specs.Views.{slots_at};
 ghost use Rattle.step_header.specs.Headers.{heap_in};

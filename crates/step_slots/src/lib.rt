@@ -1,4 +1,6 @@
 // The slots of a store: sixteen bytes for a cell, an entry or a value.
+#![tactic(auto)]
+
 ghost use Rattle.std.specs.Prelude.{◌≡◌, ◌∷◌, [], ◌+◌, ◌*◌, ◌/◌, ◌%◌, ◌≤◌, ◌^◌, length, drop};
 ghost use Rattle.image_spec.specs.Parse.{got, number, field, zeros, only_if};
 ghost use Rattle.image_write_parts.specs.Puts.{Puts};
@@ -10,7 +12,7 @@ use image_write_parts::store_pair;
 
 // What the sixteen bytes hold: a sort (0 an integer, 1 a cell, 2 an outside number, 3 a cell of a Let, 4 a cell of a Create), an ID, a tag or a
 // place, and 64 bits.
-#[derive(Drop)]
+#[derive(Clone, Copy)]
 pub struct Slot {
     pub sort: u8,
     pub id: u32,

@@ -2,14 +2,14 @@
 use Prim.Native.Nat.{ℕ, ◌≤◌}
 use mathlib.Core.Path.{◌≡◌, refl, sym, subst}
 use mathlib.Core.Bool.{Bool, true, false, false≢true}
-use mathlib.Core.List.{List, [], map}
+use mathlib.Core.List.{List, [], ◌∷◌, map}
 use mathlib.Core.Option.{Option, none, some}
 use native.Mathlib.Omega.{arith}
 use lib.ListN.{length, drop, length-append}
 use Rattle.syntax.specs.Context.{ids}
 use Rattle.syntax.specs.Sets.{distinct}
 use Rattle.model.specs.Syntax.{Stmt, Def, Prog}
-use Rattle.model.specs.Machine.{Entries, keys, State, at, Event, Outcome, shows, silent, halts, stops, nth, pair_up, Given, value, Start, begun, no_start, stopped}
+use Rattle.model.specs.Machine.{ended, Entries, keys, State, at, Event, Outcome, shows, silent, halts, stops, nth, pair_up, Given, value, Start, begun, no_start, stopped}
 use Rattle.model.specs.Source.{source_begun, source_start_at, source_start}
 use Rattle.model.specs.Linear.{stopped_if_twice, linear_begun, linear_start_at, linear_start}
 use Rattle.image_spec.specs.Parse.{All}
@@ -135,6 +135,10 @@ module _ (M : Machine) (F : Followed M) (P : Prog) (shallow : All DefOk P.defs) 
   begin n t ε f s = (record { is = rw (stmt_is s) refl; ended_is = refl; stopped_is = refl }, record { here = stands_as P _ t s; cells = tt })
 
   starts : (n : ℕ) (s : Start) → Opens P n s → SameStart M P (start_of M P n s) s × StartPlaced (start_of M P n s)
+  starts n (begun (at t ε (◌∷◌ _ _))) h = elim h [ ]
+  starts n (begun (ended _ _ _)) h = elim h [ ]
+  starts n (stopped (at t ε (◌∷◌ _ _))) h = elim h [ ]
+  starts n (stopped (ended _ _ _)) h = elim h [ ]
   starts n (begun (at t ε [])) (opens-begun h) = let b = begin n t ε _ h in (both-begin b.0, b.1)
   starts n no_start opens-nothing = (neither-begins, tt)
   starts n (stopped (at t ε [])) (opens_stopped h) = let b = begin n t ε true h in (both_stopped b.0, b.1)

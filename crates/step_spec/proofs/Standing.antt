@@ -86,7 +86,7 @@ unfolding clause_place
 clause-stands tag end c e s = let z : ◌≡◌ {A = ℕ} 0 1 = cc in absurd (omega arith)
 clause-stands {d} {n} {rs} {i} tag (clause x Γ body rest) c e s =
     let p = clause-parts x Γ body rest s in
-    go (same_name tag x.name) e p.body (λ f. clause-stands tag rest c f p.rest)
+    go (same_name tag x.name) e p.body (λ f. clause-stands {n = n - 1} tag rest c f p.rest)
   where
     go : (b : Bool) → cond b (some (Γ, body)) (find_clause_lem tag rest) ≡ some c → StmtStands d rs (i + 1) body
         → (find_clause_lem tag rest ≡ some c → StmtStands d rs (clause_place tag rest (i + 1 + length (flatten body))) c.1)
@@ -129,7 +129,7 @@ all-stand P h = record { begins = record { rest = []; split = sym (append-nil _)
 label-from : {rs : List Record} {i : ℕ} (f : Name) (ds : List Def) (d : Def) → find_def f ds ≡ some d → DefsStand rs i ds → StmtStands max_depth rs (label_place f ds i) d.body
 unfolding label_place
 label-from f [] d e s = let z : ◌≡◌ {A = ℕ} 0 1 = cc in absurd (omega arith)
-label-from {rs} {i} f (x ∷ ds) d e s = let p = def-parts x ds s in go (same_name f x.name.name) e p.body (λ k. label-from f ds d k p.rest)
+label-from {rs} {i} f (x ∷ ds) d e s = let p = def-parts x ds s in go (same_name f x.name.name) e p.body (λ k. label-from {i = i + 1 + length (flatten x.body)} f ds d k p.rest)
   where
     go : (b : Bool) → cond b (some x) (find_def f ds) ≡ some d → StmtStands max_depth rs (i + 1) x.body
         → (find_def f ds ≡ some d → StmtStands max_depth rs (label_place f ds (i + 1 + length (flatten x.body))) d.body)
@@ -145,7 +145,7 @@ unfolding definition_place
 definition-from zero [] d e s = let z : ◌≡◌ {A = ℕ} 0 1 = cc in absurd (omega arith)
 definition-from (suc n) [] d e s = let z : ◌≡◌ {A = ℕ} 0 1 = cc in absurd (omega arith)
 definition-from {rs} {i} zero (x ∷ ds) d e s = let q : x ≡ d = cc in subst (λ (z : Def). StmtStands max_depth rs (i + 1) z.body) q (def-parts x ds s).body
-definition-from (suc n) (x ∷ ds) d e s = definition-from n ds d e (def-parts x ds s).rest
+definition-from {i = i} (suc n) (x ∷ ds) d e s = definition-from {i = i + 1 + length (flatten x.body)} n ds d e (def-parts x ds s).rest
 
 pub definition-stands : (P : Prog) → All DefOk P.defs → (n : ℕ) (d : Def) → nth n P.defs ≡ some d → StmtStands max_depth (records_in P) (definition_place n P.defs 0) d.body
 definition-stands P h n d e = definition-from n P.defs d e (all-stand P h)

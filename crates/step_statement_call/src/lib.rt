@@ -1,2 +1,4 @@
 // Call, a step of either machine.
+#![tactic(auto)]
+
 pub mod call;

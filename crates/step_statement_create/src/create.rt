@@ -24,7 +24,7 @@ use step_slots::{Slot, put_slot};
 use step_write::{EventHead, Made, finish_before, finish_holding};
 
 // What is read of a Create: the ID of its var, and the place of its body.
-#[derive(Drop)]
+#[derive(Clone, Copy)]
 pub struct Parts {
     pub id: u32,
     pub next: u32,

@@ -1,2 +1,4 @@
 // Create, a step of either machine.
+#![tactic(auto)]
+
 pub mod create;

@@ -1,2 +1,4 @@
 // Exit, a step of either machine.
+#![tactic(auto)]
+
 pub mod exit;

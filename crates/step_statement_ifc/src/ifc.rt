@@ -26,7 +26,7 @@ use step_write::{EventHead, Made};
 use syntax::ifc::IfSort;
 
 // Which branch is taken, or that there is no next step.
-#[derive(Drop)]
+#[derive(Clone, Copy)]
 pub enum Branch {
     NoStep,
     Then,

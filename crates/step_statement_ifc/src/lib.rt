@@ -1,2 +1,4 @@
 // IfC, a step of either machine.
+#![tactic(auto)]
+
 pub mod ifc;

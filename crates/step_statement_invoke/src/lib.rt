@@ -1,2 +1,4 @@
 // Invoke, a step of either machine.
+#![tactic(auto)]
+
 pub mod invoke;

@@ -26,7 +26,7 @@ use step_tags::tag_of;
 use step_write::{EventHead, Made, finish, finish_before};
 
 // What is read of a Let: the ID of its var, the name of its tag, and the row of its args.
-#[derive(Drop)]
+#[derive(Clone, Copy)]
 pub struct Parts {
     pub id: u32,
     pub tag: u32,

@@ -1,2 +1,4 @@
 // Let, a step of either machine.
+#![tactic(auto)]
+
 pub mod let_;

@@ -1,2 +1,4 @@
 // Literal, a step of either machine.
+#![tactic(auto)]
+
 pub mod literal;

@@ -1,2 +1,4 @@
 // Op, a step of either machine.
+#![tactic(auto)]
+
 pub mod op;

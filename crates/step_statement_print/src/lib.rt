@@ -1,2 +1,4 @@
 // PrintI64, a step of either machine.
+#![tactic(auto)]
+
 pub mod print;

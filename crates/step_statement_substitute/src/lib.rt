@@ -1,2 +1,4 @@
 // Substitute, a step of the linear machine.
+#![tactic(auto)]
+
 pub mod substitute;

@@ -16,7 +16,7 @@ use step_rule::Stepper;
 use step_write::{Made, finish_silent};
 
 // What is read of a Substitute: the IDs that it gives, and those that it takes the values from.
-#[derive(Drop)]
+#[derive(Clone, Copy)]
 pub struct Parts {
     pub targets: Row,
     pub sources: Row,

@@ -62,9 +62,9 @@ module _ {P : Prog} {store : List ℕ} {h : Header} {l : Located} (o : Stored li
           meets o x.0.0 x.1 w (last_fits (length l.cells) l.environment x.1 (viewed o).fits.environment w) (sym t) refl
 
   -- all others stay, and none is behind them
-  before_last : Around l.cells store h (h.entries - 1) 0 (before_last 1 l.environment) []
+  before_others : Around l.cells store h (h.entries - 1) 0 (before_last 1 l.environment) []
   unfolding environment_of
-  before_last = record { within = omega arith; first = before-slots o 1; others = refl; count = refl }
+  before_others = record { within = omega arith; first = before-slots o 1; others = refl; count = refl }
 
   -- ── the step ──
 
@@ -97,5 +97,5 @@ module _ {P : Prog} {store : List ℕ} {h : Header} {l : Located} (o : Stored li
     linear-makes {heap} {n} {at'} {value} {events} {store'} {events'} {m} e f s v w =
         let t = the_switch p o a in
         let k : 64 + 16 * (heap + (n - 1)) ≡ 64 + 16 * (h.heap + (h.entries - 1)) = ap₂ {C = ℕ} (λ (i j : ℕ). 64 + 16 * (i + (j - 1))) e f in
-        switches-makes p o t (works t) (last_met (omega (arith, f, s)) k v) before_last
+        switches-makes p o t (works t) (last_met (omega (arith, f, s)) k v) before_others
         (subst (λ (j : ℕ). Switches stepper.frame bytes store events h at' value (j - 1) 0 store' events' m) f w)

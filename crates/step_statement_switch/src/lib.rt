@@ -1,2 +1,4 @@
 // Switch, a step of either machine.
+#![tactic(auto)]
+
 pub mod switch;

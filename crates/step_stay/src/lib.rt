@@ -1,4 +1,6 @@
 // A step that leaves cells and environment as they are: what IfC, PrintI64 and Exit of either machine write.
+#![tactic(auto)]
+
 ghost use Rattle.std.specs.Prelude.{◌≤◌, length};
 ghost use Rattle.step_header.specs.Headers.{Holds};
 ghost use Rattle.step_write.specs.Writing.{head_bytes};

@@ -1,4 +1,6 @@
 // The tag of a Let or an Invoke.
+#![tactic(auto)]
+
 ghost use Rattle.std.specs.Prelude.{◌≡◌, true, ◌≤◌};
 ghost use Rattle.image_read_nodes.specs.Nodes.{record_at, At};
 ghost use Rattle.step_tags.specs.Tags.{has_tag, tag_at, tag_in};

@@ -1,4 +1,6 @@
 // One turn: the step of the statement at hand, and the stopped flag of the state that it leads to.
+#![tactic(auto)]
+
 ghost use Rattle.step_rule.specs.Rules.{machine_in};
 ghost use Rattle.step_order.specs.Sure.{SureIn};
 ghost use Rattle.step_turn.specs.Turning.{Lives, Workplace, Advances};

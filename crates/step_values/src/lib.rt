@@ -1,4 +1,6 @@
 // The values of a start: one slot for each parameter, an integer or an outside number, without an ID.
+#![tactic(auto)]
+
 ghost use Rattle.std.specs.Prelude.{◌≡◌, ◌*◌, ◌≤◌, length};
 ghost use Rattle.step_slots.specs.Views.{slots_at};
 ghost use Rattle.step_spec.specs.Store.{every_slot};

@@ -1,4 +1,6 @@
 // What a step writes: its event, and the state after it over the one before; or nothing, where there is no room for both.
+#![tactic(auto)]
+
 ghost use Rattle.std.specs.Prelude.{◌≡◌, [], ◌++◌, ◌&&◌, ◌+◌, ◌-◌, ◌*◌, ◌≤◌, ◌<◌, ◌^◌, leb, length, take, drop};
 ghost use Rattle.std.proofs.lemmas.List.Edits.{sets};
 ghost use Rattle.image_write_parts.specs.Puts.{Puts};
@@ -11,7 +13,7 @@ use step_header::{Header, place, put_header};
 use step_slots::{Slot, put_four, put_long, put_slot};
 
 // What became of a step: there is none; it has no room; or the header of the state after it, and the place behind its event.
-#[derive(Drop)]
+#[derive(Clone, Copy)]
 pub enum Made {
     Nothing,
     Full,
@@ -19,7 +21,7 @@ pub enum Made {
 }
 
 // The sixteen bytes that an event begins with.
-#[derive(Drop)]
+#[derive(Clone, Copy)]
 pub struct EventHead {
     pub kind: u8,
     pub detail: u8,

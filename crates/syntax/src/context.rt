@@ -10,14 +10,14 @@ use crate::names::{Identifier, Name, VarId};
 use crate::sets::IdSet;
 use crate::types::Ty;
 
-#[derive(Drop)]
+#[derive(Clone, Copy)]
 pub enum Chirality {
     Prd,
     Cns,
     Ext,
 }
 
-#[derive(Drop)]
+#[derive(Clone, Copy)]
 pub struct ContextBinding {
     pub var: Identifier,
     pub chi: Chirality,
@@ -25,7 +25,7 @@ pub struct ContextBinding {
 }
 
 // A binding as it stands in an array: its parts side by side, which is 16 bytes and not 24, so that a context is quick to copy.
-#[derive(Drop)]
+#[derive(Clone, Copy)]
 pub struct FlatBinding {
     pub id: VarId,
     pub ty_id: VarId,
@@ -38,14 +38,14 @@ pub struct FlatBinding {
     pub unused: u16,
 }
 
-#[derive(Drop)]
+#[derive(Clone, Copy)]
 pub struct TypingContext {
     pub bindings: [FlatBinding; TypingContext::MAX],
     pub len: usize,
 }
 
 // A renamed context, and the max_id after it.
-#[derive(Drop)]
+#[derive(Clone, Copy)]
 pub struct Freshened {
     pub context: TypingContext,
     pub max_id: VarId,

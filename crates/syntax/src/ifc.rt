@@ -1,5 +1,5 @@
 // ifc.rs: the comparisons, in the Rust's order.
-#[derive(Drop)]
+#[derive(Clone, Copy)]
 pub enum IfSort {
     Equal,
     NotEqual,

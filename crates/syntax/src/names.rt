@@ -4,14 +4,14 @@ ghost use Rattle.syntax.specs.Names.{same_name, same_var_id, same_identifier};
 ghost use Rattle.syntax.specs.Fresh.{fresh, fresh_identifier};
 
 // The number of one spelling. A label, a tag or a type is known by it alone.
-#[derive(Drop)]
+#[derive(Clone, Copy)]
 pub struct Name(pub u16);
 
 // A variable is known by this alone.
-#[derive(Drop)]
+#[derive(Clone, Copy)]
 pub struct VarId(pub u32);
 
-#[derive(Drop)]
+#[derive(Clone, Copy)]
 pub struct Identifier {
     pub name: Name,
     pub id: VarId,

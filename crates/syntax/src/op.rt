@@ -1,5 +1,5 @@
 // op.rs: the arithmetic operators, in the Rust's order.
-#[derive(Drop)]
+#[derive(Clone, Copy)]
 pub enum BinOp {
     Div,
     Prod,

@@ -5,7 +5,7 @@ ghost use Rattle.syntax.specs.Arrays.{set_of, SetHolds};
 
 use crate::names::VarId;
 
-#[derive(Drop)]
+#[derive(Clone, Copy)]
 pub struct IdSet {
     pub ids: [VarId; IdSet::MAX],
     pub len: usize,

@@ -4,7 +4,7 @@ ghost use Rattle.syntax.specs.Types.{same_ty, declared_ty, identifier_of};
 
 use crate::names::{Identifier, Name, VarId};
 
-#[derive(Drop)]
+#[derive(Clone, Copy)]
 pub enum Ty {
     I64,
     Decl(Identifier),

@@ -1,4 +1,6 @@
 // substitute.rs: the rearrangement of a context, up to 128 pairs in an order.
+#![tactic(auto)]
+
 ghost use Rattle.std.specs.Prelude.{◌≡◌};
 ghost use Rattle.syntax.specs.Flat.{binding_of};
 ghost use Rattle.syntax_substitution.specs.Pairs.{empty_flat_pair, pair_of};
@@ -7,14 +9,14 @@ use syntax::context::{Chirality, ContextBinding, FlatBinding};
 use syntax::names::{Identifier, Name, VarId};
 
 // The target takes the value of the source.
-#[derive(Drop)]
+#[derive(Clone, Copy)]
 pub struct Pair {
     pub target: ContextBinding,
     pub source: Identifier,
 }
 
 // A pair as it stands in an array: its parts side by side, so that none of an element's bytes is unused.
-#[derive(Drop)]
+#[derive(Clone, Copy)]
 pub struct FlatPair {
     pub id: VarId,
     pub ty_id: VarId,
@@ -27,7 +29,7 @@ pub struct FlatPair {
     pub declared: bool,
 }
 
-#[derive(Drop)]
+#[derive(Clone, Copy)]
 pub struct Substitution {
     pub pairs: [FlatPair; Substitution::MAX],
     pub len: usize,

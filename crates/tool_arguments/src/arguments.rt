@@ -1,11 +1,13 @@
 // The command line.
 use crate::lines::line_of;
+use crate::word::{count, word};
 use crate::{command, fault, step_arguments};
 use check::same;
+use std::env::Env;
 use try_building::build::plus;
 use try_building::text::{byte, hex, number};
 
-#[derive(Drop)]
+#[derive(Clone, Copy)]
 pub struct Arguments {
     pub command: usize,
     // The arguments that name the image, the output, the spellings and the store, 0 where there is none.
@@ -247,15 +249,15 @@ fn is_option(word: &[u8]) -> bool {
 }
 
 // The command that argument i names.
-fn command_at(i: usize) -> usize {
-    let mut word = io::buffer();
-    let n = os::arg(i, &mut word);
-    command::of(&word[..n])
+fn command_at(env: &impl Env, i: usize) -> usize {
+    let mut text = io::buffer();
+    let n = word(env, i, &mut text);
+    command::of(&text[..n])
 }
 
-fn first(i: usize) -> Arguments {
-    let start = Arguments::of(command_at(i));
-    if os::arg_count() <= i {
+fn first(env: &impl Env, i: usize) -> Arguments {
+    let start = Arguments::of(command_at(env, i));
+    if count(env) <= i {
         return start.wrong(fault::NO_COMMAND, 0);
     }
     if start.command == command::NONE {
@@ -267,21 +269,19 @@ fn first(i: usize) -> Arguments {
     start
 }
 
-fn next(before: Arguments, i: usize) -> Arguments {
-    let mut word = io::buffer();
-    let n = os::arg(i, &mut word);
-    if os::errno() != 0 {
-        return before.wrong(fault::UNREADABLE, 0);
+fn next(env: &impl Env, before: Arguments, i: usize) -> Arguments {
+    let mut text = io::buffer();
+    match env.arg(i, &mut text) {
+        Ok(n) => before.with(&text[..n], i),
+        Err(_) => before.wrong(fault::UNREADABLE, 0),
     }
-    before.with(&word[..n], i)
 }
 
 // The arguments from a place on.
-pub fn gather(from: usize) -> Arguments {
-    let mut got = first(from);
-    let count = os::arg_count();
-    for i in plus(from, 1)..count {
-        got = next(got, i);
+pub fn gather(env: &impl Env, from: usize) -> Arguments {
+    let mut got = first(env, from);
+    for i in plus(from, 1)..count(env) {
+        got = next(env, got, i);
     }
     got.complete()
 }

@@ -1,5 +1,7 @@
 // The values that a start gives to parameters: a word for each, a signed integer, or outside: and a number up to 255.
+use crate::word::{count, word};
 use check::same;
+use std::env::Env;
 use try_building::build::{low, plus, store, store2};
 use try_building::text::{byte, number};
 
@@ -8,7 +10,7 @@ const SLOT: usize = 16;
 
 const MOST: usize = 256;
 
-#[derive(Drop)]
+#[derive(Clone, Copy)]
 pub struct Value {
     // Is the word a value?
     pub good: bool,
@@ -91,20 +93,20 @@ fn slot(j: usize) -> usize {
 }
 
 // Puts down the value that argument i is.
-fn take_one(i: usize, out: &mut [u8], at: usize) {
-    let mut word = io::buffer();
-    let n = os::arg(i, &mut word);
-    Value::of(&word[..n]).put(out, at);
+fn take_one(env: &impl Env, i: usize, out: &mut [u8], at: usize) {
+    let mut text = io::buffer();
+    let n = word(env, i, &mut text);
+    Value::of(&text[..n]).put(out, at);
 }
 
 // Puts down the values that the arguments from a place on are, none where that is 0, and answers how many bytes they have.
-pub fn take(from: usize, out: &mut [u8]) -> usize {
+pub fn take(env: &impl Env, from: usize, out: &mut [u8]) -> usize {
     if from == 0 {
         return 0;
     }
     let mut n = 0;
-    for i in from..os::arg_count() {
-        take_one(i, out, slot(n));
+    for i in from..count(env) {
+        take_one(env, i, out, slot(n));
         n = plus(n, 1);
     }
     slot(n)

@@ -1,187 +1,221 @@
 // Files: reading one whole, and writing one of which nothing is left where that fails.
+ghost use Rattle.std.specs.Prelude.{◌≤◌, length};
+
 use crate::words::failed;
 use check::same;
-use libc::{STDIN_FILENO, STDOUT_FILENO};
+use std::fs;
+use std::fs::{File, OpenOptions};
+use std::io::{Error, ErrorKind, Read};
+use tool_arguments::word::word;
+use tool_listing::page::Output;
 use try_building::build::plus;
 
 // The most reads of a file. Each takes a byte or more.
 const READS: usize = 1000000;
 
-#[derive(Drop)]
+#[derive(Clone, Copy)]
 pub enum Taken {
     Bytes(usize),
     Failed,
 }
 
-#[derive(Drop)]
-enum Got {
-    More(usize),
-    End,
-    Failed,
-}
-
-// One read, behind the first n bytes.
-fn read(fd: i32, buf: &mut [u8], n: usize) -> Got {
+// One read, behind the first n bytes. It gives no byte where the buffer is full or the input ends.
+fn read<R: Read>(from: &mut R, buf: &mut [u8], n: usize) -> std::io::Result<usize> {
     if buf.len() <= n {
-        return Got::End;
+        return Ok(0);
     }
-    let got = libc::read(fd, &mut buf[n..]);
-    if got < 0 {
-        return Got::Failed;
-    }
-    if got == 0 {
-        return Got::End;
-    }
-    Got::More(io::count(got, buf))
+    from.read(&mut buf[n..])
 }
 
 // Reads until the buffer is full or the input ends.
-fn fill(fd: i32, buf: &mut [u8]) -> Taken {
+fn fill<R: Read>(from: &mut R, buf: &mut [u8]) -> std::io::Result<usize> {
     let mut n = 0;
     for _ in 0..READS {
-        match read(fd, buf, n) {
-            Got::More(more) => n = plus(n, more),
-            Got::End => return Taken::Bytes(n),
-            Got::Failed => return Taken::Failed,
+        let more = read(from, buf, n)?;
+        if more == 0 {
+            return Ok(n);
         }
+        n = plus(n, more);
     }
-    Taken::Bytes(n)
+    Ok(n)
 }
 
-fn fill_from(fd: i32, path: &[u8], buf: &mut [u8]) -> Taken {
-    let taken = fill(fd, buf);
-    match taken {
-        Taken::Bytes(n) => Taken::Bytes(n),
-        Taken::Failed => {
-            failed(path);
+fn fill_from<R: Read>(rt: &HostRuntime, from: &mut R, path: &[u8], buf: &mut [u8]) -> Taken {
+    match fill(from, buf) {
+        Ok(n) => Taken::Bytes(n),
+        Err(e) => {
+            failed(rt, path, e);
             Taken::Failed
         }
     }
 }
 
-fn take_standard(buf: &mut [u8]) -> Taken {
-    fill_from(STDIN_FILENO, b"standard input", buf)
+fn take_standard(rt: &HostRuntime, buf: &mut [u8]) -> Taken {
+    let mut input = rt.reader();
+    fill_from(rt, &mut input, b"standard input", buf)
 }
 
-fn take_path(path: &[u8], buf: &mut [u8]) -> Taken {
+// The name of a file, which std takes as text.
+pub fn name(path: &[u8]) -> std::io::Result<&str> {
+    match str::from_utf8(path) {
+        Ok(name) => Ok(name),
+        Err(_) => Err(Error::new(ErrorKind::InvalidInput, "the name of a file is not UTF-8")),
+    }
+}
+
+fn open_read(rt: &HostRuntime, path: &[u8]) -> std::io::Result<File> {
+    File::open(rt, name(path)?)
+}
+
+fn take_path(rt: &HostRuntime, path: &[u8], buf: &mut [u8]) -> Taken {
     if same(path, b"-") {
-        return take_standard(buf);
+        return take_standard(rt, buf);
     }
-    let fd = os::open_read(path);
-    if fd < 0 {
-        failed(path);
-        return Taken::Failed;
+    match open_read(rt, path) {
+        Ok(file) => {
+            let mut from = file;
+            fill_from(rt, &mut from, path, buf)
+        }
+        Err(e) => {
+            failed(rt, path, e);
+            Taken::Failed
+        }
     }
-    let taken = fill_from(fd, path, buf);
-    libc::close(fd);
-    taken
 }
 
 // Reads the file that argument i names, or standard input where i is 0 or the argument is -.
-pub fn take(i: usize, buf: &mut [u8]) -> Taken {
+pub fn take(rt: &HostRuntime, i: usize, buf: &mut [u8]) -> Taken {
     if i == 0 {
-        return take_standard(buf);
+        return take_standard(rt, buf);
     }
     let mut path = io::buffer();
-    let n = os::arg(i, &mut path);
-    take_path(&path[..n], buf)
+    let n = word(rt, i, &mut path);
+    take_path(rt, &path[..n], buf)
 }
 
-#[derive(Drop)]
-pub struct Output {
-    // -1 where it could not be opened.
-    pub fd: i32,
+// What is known of an output beside where it goes.
+#[derive(Clone, Copy)]
+pub struct Known {
     // Was there no such file before?
-    pub made: bool,
+    made: bool,
     // The argument that names it, or 0 for standard output.
-    pub at: usize,
+    at: usize,
     // Is it standard output, and was asked for?
-    pub asked: bool,
+    asked: bool,
 }
 
-impl Output {
-    fn standard(asked: bool) -> Output {
-        Output {
-            fd: STDOUT_FILENO,
+impl Known {
+    // Standard output, asked for or not.
+    pub fn standard(asked: bool) -> Known {
+        Known {
             made: false,
             at: 0,
             asked,
         }
     }
+}
+
+#[derive(Drop)]
+pub struct Opened {
+    pub output: Output,
+    pub known: Known,
+}
+
+impl Opened {
+    fn standard(rt: &HostRuntime, asked: bool) -> Opened {
+        Opened {
+            output: Output::standard(rt.stdout()),
+            known: Known::standard(asked),
+        }
+    }
+
+    fn file(rt: &HostRuntime, file: File, made: bool, at: usize) -> Opened {
+        Opened {
+            output: Output {
+                file: Some(file),
+                standard: rt.stdout(),
+            },
+            known: Known {
+                made,
+                at,
+                asked: false,
+            },
+        }
+    }
 
     // May an image go to it? To a terminal only as standard output that was asked for.
-    pub fn takes_images(self) -> bool {
-        if self.asked {
+    pub fn takes_images(&self) -> bool {
+        if self.known.asked {
             return true;
         }
-        libc::isatty(self.fd) == 0
+        !self.output.is_terminal()
     }
+}
+
+// Makes a file that is not there yet.
+pub fn create(rt: &HostRuntime, path: &[u8]) -> std::io::Result<File> {
+    OpenOptions::new()
+        .write(true)
+        .create_new(true)
+        .open(rt, name(path)?)
+}
+
+fn overwrite(rt: &HostRuntime, path: &[u8]) -> std::io::Result<File> {
+    File::create(rt, name(path)?)
 }
 
 // Opens a file that is there already.
-fn reopen(path: &[u8], at: usize) -> Output {
-    let fd = os::open_overwrite(path);
-    if fd < 0 {
-        failed(path);
-    }
-    Output {
-        fd,
-        made: false,
-        at,
-        asked: false,
+fn reopen(rt: &HostRuntime, path: &[u8], at: usize) -> Option<Opened> {
+    match overwrite(rt, path) {
+        Ok(file) => Some(Opened::file(rt, file, false, at)),
+        Err(e) => {
+            failed(rt, path, e);
+            None
+        }
     }
 }
 
-fn open_path(path: &[u8], at: usize) -> Output {
+fn open_path(rt: &HostRuntime, path: &[u8], at: usize) -> Option<Opened> {
     if same(path, b"-") {
-        return Output::standard(true);
+        return Some(Opened::standard(rt, true));
     }
-    let fd = os::create(path);
-    if fd < 0 {
-        return reopen(path, at);
-    }
-    Output {
-        fd,
-        made: true,
-        at,
-        asked: false,
+    match create(rt, path) {
+        Ok(file) => Some(Opened::file(rt, file, true, at)),
+        Err(_) => reopen(rt, path, at),
     }
 }
 
 // Opens the file that argument i names, or standard output where i is 0 or the argument is -.
-pub fn open(i: usize) -> Output {
+pub fn open(rt: &HostRuntime, i: usize) -> Option<Opened> {
     if i == 0 {
-        return Output::standard(false);
+        return Some(Opened::standard(rt, false));
     }
     let mut path = io::buffer();
-    let n = os::arg(i, &mut path);
-    open_path(&path[..n], i)
+    let n = word(rt, i, &mut path);
+    open_path(rt, &path[..n], i)
+}
+
+pub fn unlink(rt: &HostRuntime, path: &[u8]) -> std::io::Result<()> {
+    fs::remove_file(rt, name(path)?)
 }
 
 // Removes the file, where it was made anew.
-fn remove(output: Output) {
-    let mut path = io::buffer();
-    let n = os::arg(output.at, &mut path);
-    if output.made {
-        os::unlink(&path[..n]);
+fn remove(rt: &HostRuntime, known: Known) {
+    if known.made {
+        let mut path = io::buffer();
+        let n = word(rt, known.at, &mut path);
+        let _ = unlink(rt, &path[..n]);
     }
 }
 
-fn close_file(fd: i32) -> bool {
-    if fd == STDOUT_FILENO {
-        return true;
+// Ends an output of which all was written, or not, for this reason. Answers whether it is whole.
+pub fn close(rt: &HostRuntime, known: Known, trouble: Option<Error>) -> bool {
+    match trouble {
+        None => true,
+        Some(e) => {
+            failed(rt, b"the output cannot be written", e);
+            remove(rt, known);
+            false
+        }
     }
-    libc::close(fd) == 0
-}
-
-// Closes an output to which all was written, or not. Answers whether it is whole.
-pub fn close(output: Output, well: bool) -> bool {
-    if !well {
-        failed(b"the output cannot be written");
-    }
-    let whole = close_file(output.fd) && well;
-    if !whole {
-        remove(output);
-    }
-    whole
 }

@@ -1,13 +1,14 @@
 // The whole listing, with the annotations that the library gives.
+use std::io::Error;
 use tool_listing::annotation::{is_annotated, sets};
 use tool_listing::fields::{begin, records};
 use tool_listing::line::View;
-use tool_listing::page::{Page, choose, flush};
+use tool_listing::page::{Output, Page, Room, choose, finish};
 use tool_listing::walk::{Walk, begin_line, end_line, start};
 use try_building::text::byte;
 
 // The free variables of a record.
-fn free(page: Page, room: &mut [u8], image: &[u8], k: usize, kind: u8) -> Page {
+fn free(page: Page, room: &mut Room, image: &[u8], k: usize, kind: u8) -> Page {
     let mut found = [0u8; 65536];
     let mut length: usize = 0;
     let mut max_id: u32 = 0;
@@ -19,12 +20,12 @@ fn free(page: Page, room: &mut [u8], image: &[u8], k: usize, kind: u8) -> Page {
 }
 
 // What stands before an annotation: it is behind the index where that is there.
-fn before_sets(page: Page, room: &mut [u8], view: View) -> Page {
+fn before_sets(page: Page, room: &mut Room, view: View) -> Page {
     choose(page, room, b"  // \n: ", view.records as usize)
 }
 
 // The remark behind a line: the annotation.
-fn annotated(page: Page, room: &mut [u8], image: &[u8], view: View, k: usize) -> Page {
+fn annotated(page: Page, room: &mut Room, image: &[u8], view: View, k: usize) -> Page {
     let kind = byte(image, begin(image, k));
     if view.annotations {
         if is_annotated(kind) {
@@ -34,13 +35,13 @@ fn annotated(page: Page, room: &mut [u8], image: &[u8], view: View, k: usize) ->
     page
 }
 
-fn step(w: Walk, room: &mut [u8], book: &[u8], image: &[u8], view: View, k: usize) -> Walk {
+fn step(w: Walk, room: &mut Room, book: &[u8], image: &[u8], view: View, k: usize) -> Walk {
     let mut next = begin_line(w, room, book, image, view, k);
     next.page = annotated(next.page, room, image, view, k);
     end_line(next, room, image, k)
 }
 
-fn steps(w: Walk, room: &mut [u8], book: &[u8], image: &[u8], view: View) -> Walk {
+fn steps(w: Walk, room: &mut Room, book: &[u8], image: &[u8], view: View) -> Walk {
     let mut next = w;
     for k in 0..records(image) {
         next = step(next, room, book, image, view, k);
@@ -48,15 +49,16 @@ fn steps(w: Walk, room: &mut [u8], book: &[u8], image: &[u8], view: View) -> Wal
     next
 }
 
-// Writes the listing of an image with this max_id, and answers whether all was written. The room may have any size but 0.
+// Writes the listing of an image with this max_id, and answers why something is not written, if it is not.
 pub fn listing(
-    fd: i32,
-    room: &mut [u8],
+    output: Output,
     book: &[u8],
     image: &[u8],
     view: View,
     max_id: u32,
-) -> bool {
-    let end = steps(start(fd, room, max_id), room, book, image, view);
-    !flush(end.page, room).failed
+) -> Option<Error> {
+    let mut room = Room::new(output);
+    let begun = start(&mut room, max_id);
+    let end = steps(begun, &mut room, book, image, view);
+    finish(end.page, &mut room)
 }

@@ -1,56 +1,88 @@
 // The file of a store. It is written under another name and then takes the place of the one before, so that it is whole at any time.
+ghost use Rattle.std.specs.Prelude.{◌≤◌, length};
+
+use crate::files::{create, name, unlink};
 use crate::words::failed;
-use libc::SEEK_END;
+use std::fs;
+use std::fs::{File, OpenOptions};
+use std::io::{ErrorKind, Seek, SeekFrom, Write};
+use tool_arguments::word::word;
 use try_building::build::{plus, store};
 
 // Can what is there be replaced? Only a file that may be written: no device, no directory.
-fn is_file(fd: i32) -> bool {
-    let end = libc::lseek(fd, 0, SEEK_END);
-    if end < 0 {
-        return false;
-    }
-    libc::ftruncate(fd, end) == 0
+fn is_file(file: &mut File) -> std::io::Result<()> {
+    let end = file.seek(SeekFrom::End(0))?;
+    file.set_len(end)
 }
 
-fn may_replace(path: &[u8]) -> bool {
-    let fd = os::open_update(path);
-    if fd < 0 {
-        return os::errno() == libc::ENOENT;
-    }
-    let so = is_file(fd);
-    libc::close(fd);
-    so
+fn open_update(rt: &HostRuntime, path: &[u8]) -> std::io::Result<File> {
+    OpenOptions::new()
+        .read(true)
+        .write(true)
+        .open(rt, name(path)?)
 }
 
-fn write(fd: i32, bytes: &[u8]) -> bool {
-    let well = io::write_all(fd, bytes);
-    let closed = libc::close(fd) == 0;
-    well && closed
+fn may_replace(rt: &HostRuntime, path: &[u8]) -> std::io::Result<()> {
+    match open_update(rt, path) {
+        Ok(file) => {
+            let mut there = file;
+            is_file(&mut there)
+        }
+        Err(e) => {
+            if e.kind() == ErrorKind::NotFound {
+                return Ok(());
+            }
+            Err(e)
+        }
+    }
+}
+
+// Writes all of the bytes, and closes the file.
+fn write(file: File, bytes: &[u8]) -> std::io::Result<()> {
+    let mut to = file;
+    to.write_all(bytes)
+}
+
+fn rename(
+    rt: &HostRuntime,
+    path: &[u8],
+    new: &[u8],
+    written: std::io::Result<()>,
+) -> std::io::Result<()> {
+    written?;
+    fs::rename(rt, name(new)?, name(path)?)
 }
 
 // Puts the new file in the place of the other one.
-fn replace(path: &[u8], new: &[u8], written: bool) -> bool {
-    if written {
-        if os::rename(new, path) == 0 {
-            return true;
+fn replace(rt: &HostRuntime, path: &[u8], new: &[u8], written: std::io::Result<()>) -> bool {
+    match rename(rt, path, new, written) {
+        Ok(()) => true,
+        Err(e) => {
+            failed(rt, path, e);
+            let _ = unlink(rt, new);
+            false
         }
     }
-    failed(path);
-    os::unlink(new);
-    false
 }
 
-fn save_as(path: &[u8], new: &[u8], bytes: &[u8]) -> bool {
-    if !may_replace(path) {
-        failed(path);
-        return false;
+fn save_new(rt: &HostRuntime, path: &[u8], new: &[u8], bytes: &[u8]) -> bool {
+    match create(rt, new) {
+        Ok(file) => replace(rt, path, new, write(file, bytes)),
+        Err(e) => {
+            failed(rt, new, e);
+            false
+        }
     }
-    let fd = os::create(new);
-    if fd < 0 {
-        failed(new);
-        return false;
+}
+
+fn save_as(rt: &HostRuntime, path: &[u8], new: &[u8], bytes: &[u8]) -> bool {
+    match may_replace(rt, path) {
+        Ok(()) => save_new(rt, path, new, bytes),
+        Err(e) => {
+            failed(rt, path, e);
+            false
+        }
     }
-    replace(path, new, write(fd, bytes))
 }
 
 // Puts .new behind the first n bytes.
@@ -62,19 +94,19 @@ fn behind(path: &mut [u8], n: usize) -> usize {
     plus(n, 4)
 }
 
-fn save_beside(path: &[u8], new: &[u8], n: usize, bytes: &[u8]) -> bool {
+fn save_beside(rt: &HostRuntime, path: &[u8], new: &[u8], n: usize, bytes: &[u8]) -> bool {
     if n <= new.len() {
-        return save_as(path, &new[0..n], bytes);
+        return save_as(rt, path, &new[0..n], bytes);
     }
     false
 }
 
 // Writes the bytes of a store to the file that argument i names. Answers whether they are there; if not, what was there is as it was.
-pub fn save(i: usize, bytes: &[u8]) -> bool {
+pub fn save(rt: &HostRuntime, i: usize, bytes: &[u8]) -> bool {
     let mut path = io::buffer();
-    let n = os::arg(i, &mut path);
+    let n = word(rt, i, &mut path);
     let mut new = io::buffer();
-    let m = os::arg(i, &mut new);
+    let m = word(rt, i, &mut new);
     let end = behind(&mut new, m);
-    save_beside(&path[..n], &new, end, bytes)
+    save_beside(rt, &path[..n], &new, end, bytes)
 }

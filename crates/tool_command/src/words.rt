@@ -1,8 +1,14 @@
 // What the tool says: its usage, refusals, and what was wrong with a command line.
 use check::same;
-use libc::STDERR_FILENO;
+use std::io::Error;
 use tool_arguments::lines::say_line;
+use tool_arguments::word::word;
 use tool_finding::place::Place;
+
+// The descriptors of the standard output and of standard error.
+pub const STDOUT: i32 = 1;
+
+pub const STDERR: i32 = 2;
 
 fn say(fd: i32, text: &[u8]) {
     io::write_all(fd, text);
@@ -53,35 +59,49 @@ pub fn version(fd: i32) {
     say(fd, b"axcut 0.1.0, image layout 1\n");
 }
 
-// A call that failed, and why.
-pub fn failed(what: &[u8]) {
-    say(STDERR_FILENO, b"axcut: ");
-    os::fail(what);
+// Why a call failed, without the number of the system's error.
+fn say_error(text: &str) {
+    match text.split_once(" (os error ") {
+        Some((reason, _)) => say(STDERR, reason.as_bytes()),
+        None => say(STDERR, text.as_bytes()),
+    }
 }
 
-fn say_argument(i: usize) {
-    let mut word = io::buffer();
-    let n = os::arg(i, &mut word);
-    say(STDERR_FILENO, &word[..n]);
+// A call that failed, and why.
+pub fn failed(rt: &HostRuntime, what: &[u8], error: Error) {
+    say(STDERR, b"axcut: ");
+    say(STDERR, what);
+    say(STDERR, b": ");
+    match format!(in rt.alloc(); "{error}") {
+        Ok(text) => say_error(text.as_str()),
+        Err(_) => say(STDERR, b"no memory is left"),
+    }
+    say(STDERR, b"\n");
+}
+
+fn say_argument(rt: &HostRuntime, i: usize) {
+    let mut text = io::buffer();
+    let n = word(rt, i, &mut text);
+    say(STDERR, &text[..n]);
 }
 
 // The file that argument i names, and a colon.
-fn say_file(i: usize) {
-    let mut word = io::buffer();
-    let n = os::arg(i, &mut word);
-    say(STDERR_FILENO, b"axcut: ");
-    if i == 0 || same(&word[..n], b"-") {
-        say(STDERR_FILENO, b"standard input: ");
+fn say_file(rt: &HostRuntime, i: usize) {
+    let mut text = io::buffer();
+    let n = word(rt, i, &mut text);
+    say(STDERR, b"axcut: ");
+    if i == 0 || same(&text[..n], b"-") {
+        say(STDERR, b"standard input: ");
     } else {
-        say(STDERR_FILENO, &word[..n]);
-        say(STDERR_FILENO, b": ");
+        say(STDERR, &text[..n]);
+        say(STDERR, b": ");
     }
 }
 
 // What is wrong where the answer to a question is no.
 fn say_reason(number: usize) {
     say_line(
-        STDERR_FILENO,
+        STDERR,
         b"\
 it has not 8 to 65,535 bytes
 the layout number is not 1
@@ -105,53 +125,53 @@ it is not a state of this image
 }
 
 fn say_number(n: usize) {
-    io::print_decimal(STDERR_FILENO, n as u64);
+    io::print_decimal(STDERR, n as u64);
 }
 
 fn say_id(place: Place) {
     if place.has_id {
-        say(STDERR_FILENO, b", ID ");
+        say(STDERR, b", ID ");
         say_number(place.id);
     }
-    say(STDERR_FILENO, b")");
+    say(STDERR, b")");
 }
 
 fn say_place(place: Place) {
     if place.has_record {
-        say(STDERR_FILENO, b" (record ");
+        say(STDERR, b" (record ");
         say_number(place.record);
         say_id(place);
     }
-    say(STDERR_FILENO, b"\n");
+    say(STDERR, b"\n");
 }
 
 // The file that argument i names, and the number that it is refused with.
-fn say_refused(i: usize, number: u32) {
-    say_file(i);
-    say(STDERR_FILENO, b"refused ");
+fn say_refused(rt: &HostRuntime, i: usize, number: u32) {
+    say_file(rt, i);
+    say(STDERR, b"refused ");
     say_number(number as usize);
-    say(STDERR_FILENO, b": ");
+    say(STDERR, b": ");
 }
 
 // A refusal of the image that argument i names: the number, what is wrong, and where.
-pub fn refused(i: usize, number: u32, place: Place) {
-    say_refused(i, number);
+pub fn refused(rt: &HostRuntime, i: usize, number: u32, place: Place) {
+    say_refused(rt, i, number);
     say_reason(number as usize);
     say_place(place);
 }
 
 // A refusal of the store that argument i names. Of a store, 14 is another thing than of a start.
-pub fn refused_store(i: usize, number: u32) {
+pub fn refused_store(rt: &HostRuntime, i: usize, number: u32) {
     let reason = if number == 14 { 16 } else { number as usize };
-    say_refused(i, number);
+    say_refused(rt, i, number);
     say_reason(reason);
-    say(STDERR_FILENO, b"\n");
+    say(STDERR, b"\n");
 }
 
 // What is wrong with a command line, by the numbers of fault.rt.
 fn say_fault(fault: usize) {
     say_line(
-        STDERR_FILENO,
+        STDERR,
         b"\
 a command is missing\n\
 no such command: \n\
@@ -173,42 +193,39 @@ step: not a value: \n",
 }
 
 // A fault of the command line, and the argument that it is in, where i is not 0.
-pub fn wrong(fault: usize, i: usize) {
-    say(STDERR_FILENO, b"axcut: ");
+pub fn wrong(rt: &HostRuntime, fault: usize, i: usize) {
+    say(STDERR, b"axcut: ");
     say_fault(fault);
     if 0 < i {
-        say_argument(i);
+        say_argument(rt, i);
     }
-    say(STDERR_FILENO, b"\nTry 'axcut --help'.\n");
+    say(STDERR, b"\nTry 'axcut --help'.\n");
 }
 
 // An image is not written to a terminal unasked.
 pub fn terminal() {
     say(
-        STDERR_FILENO,
+        STDERR,
         b"axcut: the output is an image: name a file with -o FILE, or -o - for this terminal\n",
     );
 }
 
 // A text of spellings, which argument i names, with a line that is none.
-pub fn faulty_line(i: usize, line: usize) {
-    say_file(i);
-    say(
-        STDERR_FILENO,
-        b"not a name number, a space and a spelling: line ",
-    );
+pub fn faulty_line(rt: &HostRuntime, i: usize, line: usize) {
+    say_file(rt, i);
+    say(STDERR, b"not a name number, a space and a spelling: line ");
     say_number(line);
-    say(STDERR_FILENO, b"\n");
+    say(STDERR, b"\n");
 }
 
 // A store, which argument i names, that does not fit.
-pub fn too_large(i: usize) {
-    say_file(i);
-    say(STDERR_FILENO, b"a store of more than 983,040 bytes\n");
+pub fn too_large(rt: &HostRuntime, i: usize) {
+    say_file(rt, i);
+    say(STDERR, b"a store of more than 983,040 bytes\n");
 }
 
 // A text of spellings, which argument i names, that does not fit.
-pub fn too_long(i: usize) {
-    say_file(i);
-    say(STDERR_FILENO, b"spellings of more than 262,143 bytes\n");
+pub fn too_long(rt: &HostRuntime, i: usize) {
+    say_file(rt, i);
+    say(STDERR, b"spellings of more than 262,143 bytes\n");
 }

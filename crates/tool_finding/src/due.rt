@@ -1,7 +1,7 @@
 // What is still to come while the records of an image are walked, the next one last.
 use try_building::build::plus;
 
-#[derive(Drop)]
+#[derive(Clone, Copy)]
 pub struct Due {
     // Due::DEFINITION, STATEMENT or CLAUSE.
     pub what: u8,
@@ -82,7 +82,7 @@ impl Due {
     }
 }
 
-#[derive(Drop)]
+#[derive(Clone, Copy)]
 pub struct Dues {
     pub list: [Due; 256],
     pub len: usize,

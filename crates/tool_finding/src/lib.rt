@@ -1,4 +1,6 @@
 // Where a refused image is wrong: the record and the variable that a refusal is about.
+#![tactic(auto)]
+
 pub mod asking;
 pub mod due;
 pub mod finding;

@@ -1,6 +1,6 @@
 // What a refusal is about: a record, and the ID of a variable there, or nothing of both.
 
-#[derive(Drop)]
+#[derive(Clone, Copy)]
 pub struct Place {
     pub record: usize,
     pub has_record: bool,

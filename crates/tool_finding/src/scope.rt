@@ -2,7 +2,7 @@
 use crate::due::Due;
 use tool_listing::parts::{count_at, id, item};
 
-#[derive(Drop)]
+#[derive(Clone, Copy)]
 pub struct Scope {
     pub ids: [usize; 64],
     pub len: usize,

@@ -7,7 +7,7 @@ use tool_listing::fields::records;
 use tool_listing::parts::{Record, id};
 use try_building::build::plus;
 
-#[derive(Drop)]
+#[derive(Clone, Copy)]
 pub struct Walk {
     // How many definitions there were.
     pub definitions: usize,

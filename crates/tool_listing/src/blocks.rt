@@ -1,6 +1,6 @@
 // The blocks that are open while a listing is written, the innermost last, and what is still to come in each.
 
-#[derive(Drop)]
+#[derive(Clone, Copy)]
 pub struct Block {
     // The kind of the record that opened it, or Block::ELSE.
     pub kind: u8,
@@ -24,7 +24,7 @@ impl Block {
     }
 }
 
-#[derive(Drop)]
+#[derive(Clone, Copy)]
 pub struct Blocks {
     pub open: [Block; 512],
     pub depth: usize,

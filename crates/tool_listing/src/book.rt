@@ -1,11 +1,11 @@
 // A book of spellings: for each name number the place of its spelling, four bytes each, and then a text whose lines have a name number of
 // at most 20 digits, a space and a spelling. An empty line, or one that begins with #, is a remark. A book without bytes has no spellings.
-use crate::page::{Page, decimal, line_from, put};
+use crate::page::{Page, Room, decimal, line_from, put};
 use try_building::build::{low, plus};
 use try_building::text::{byte, next_line, number, word};
 
 // How far a book is read.
-#[derive(Drop)]
+#[derive(Clone, Copy)]
 pub struct Book {
     // Where a line begins, and which one it is, from 1.
     pub at: usize,
@@ -98,7 +98,7 @@ pub fn index(book: &mut [u8]) -> usize {
 }
 
 // A name: its spelling, or n and its number.
-pub fn name(page: Page, room: &mut [u8], book: &[u8], number: usize) -> Page {
+pub fn name(page: Page, room: &mut Room, book: &[u8], number: usize) -> Page {
     if number < Book::NUMBERS {
         let place = word(book, 4 * number);
         if 0 < place {

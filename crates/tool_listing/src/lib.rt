@@ -14,6 +14,8 @@
 //
 // n3_5 is the variable with name number 3 and ID 5; a label, a tag or a type is its name alone, with the ID behind it where that is not 0.
 // A book of spellings puts words for n3.
+#![tactic(auto)]
+
 pub mod annotation;
 pub mod blocks;
 pub mod book;

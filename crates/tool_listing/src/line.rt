@@ -2,12 +2,12 @@
 // (one hexadecimal digit), and the other letters are those of `field`.
 use crate::lists::{environment, list, pairs};
 use crate::names::{label, ty, variable};
-use crate::page::{Page, choose, line_place, put, say, signed};
+use crate::page::{Page, Room, choose, line_place, put, say, signed};
 use try_building::build::plus;
 use try_building::text::{byte, double, hex, wide};
 
 // What is asked of a listing.
-#[derive(Drop)]
+#[derive(Clone, Copy)]
 pub struct View {
     // Chirality and type also where a variable is used.
     pub types: bool,
@@ -18,12 +18,12 @@ pub struct View {
 }
 
 // The sign of an operator, by its code, or of a comparison, by its code and 5.
-fn sign(page: Page, room: &mut [u8], k: usize) -> Page {
+fn sign(page: Page, room: &mut Room, k: usize) -> Page {
     choose(page, room, b"/\n*\n%\n+\n-\n==\n!=\n<\n<=\n>\n>=", k)
 }
 
 // What IfC compares with: a variable, or 0.
-fn second(page: Page, room: &mut [u8], book: &[u8], image: &[u8], at: usize) -> Page {
+fn second(page: Page, room: &mut Room, book: &[u8], image: &[u8], at: usize) -> Page {
     if byte(image, at) == 0 {
         return put(page, room, b'0');
     }
@@ -31,7 +31,7 @@ fn second(page: Page, room: &mut [u8], book: &[u8], image: &[u8], at: usize) -> 
 }
 
 // What stands in the word of a PrintI64 that ends its line.
-fn newline(page: Page, room: &mut [u8], mark: u8) -> Page {
+fn newline(page: Page, room: &mut Room, mark: u8) -> Page {
     if mark == 0 {
         return page;
     }
@@ -40,7 +40,7 @@ fn newline(page: Page, room: &mut [u8], mark: u8) -> Page {
 
 fn field(
     page: Page,
-    room: &mut [u8],
+    room: &mut Room,
     book: &[u8],
     image: &[u8],
     whole: bool,
@@ -74,7 +74,7 @@ fn follows(layout: &[u8], i: usize, back: usize) -> bool {
 // What byte i of a layout stands for: itself, a field, or part of one that was there already.
 fn piece(
     page: Page,
-    room: &mut [u8],
+    room: &mut Room,
     book: &[u8],
     image: &[u8],
     whole: bool,
@@ -97,7 +97,7 @@ fn piece(
 // The pieces of a layout, which goes from a place to the end of its line.
 fn pieces(
     page: Page,
-    room: &mut [u8],
+    room: &mut Room,
     book: &[u8],
     image: &[u8],
     whole: bool,
@@ -118,7 +118,7 @@ fn pieces(
 // The line of the record of a kind that begins at a place, with all types or not.
 pub fn line(
     page: Page,
-    room: &mut [u8],
+    room: &mut Room,
     book: &[u8],
     image: &[u8],
     whole: bool,

@@ -1,7 +1,7 @@
 // Lists: bindings, the pairs of a Substitute, and the IDs of a set.
 use crate::fields::count;
 use crate::names::{binding, variable};
-use crate::page::{Page, decimal, put, say};
+use crate::page::{Page, Room, decimal, put, say};
 use try_building::build::plus;
 use try_building::text::{byte, half};
 
@@ -12,14 +12,14 @@ const BINDING: usize = 10;
 
 const PAIR: usize = 14;
 
-fn pair(page: Page, room: &mut [u8], book: &[u8], image: &[u8], at: usize, whole: bool) -> Page {
+fn pair(page: Page, room: &mut Room, book: &[u8], image: &[u8], at: usize, whole: bool) -> Page {
     let target = binding(page, room, book, image, at, whole);
     variable(say(target, room, b" := "), room, book, image, plus(at, 10))
 }
 
 fn item(
     page: Page,
-    room: &mut [u8],
+    room: &mut Room,
     book: &[u8],
     image: &[u8],
     at: usize,
@@ -34,7 +34,7 @@ fn item(
 }
 
 // What stands before item j.
-pub fn comma(page: Page, room: &mut [u8], j: usize) -> Page {
+pub fn comma(page: Page, room: &mut Room, j: usize) -> Page {
     if j == 0 {
         return page;
     }
@@ -44,7 +44,7 @@ pub fn comma(page: Page, room: &mut [u8], j: usize) -> Page {
 // n items of this size from a place on.
 pub fn items(
     page: Page,
-    room: &mut [u8],
+    room: &mut Room,
     book: &[u8],
     image: &[u8],
     from: usize,
@@ -63,7 +63,7 @@ pub fn items(
 
 pub fn list(
     page: Page,
-    room: &mut [u8],
+    room: &mut Room,
     book: &[u8],
     image: &[u8],
     at: usize,
@@ -78,7 +78,7 @@ pub fn list(
 // An environment and a space behind it, or nothing where there is none.
 pub fn environment(
     page: Page,
-    room: &mut [u8],
+    room: &mut Room,
     book: &[u8],
     image: &[u8],
     at: usize,
@@ -94,7 +94,7 @@ pub fn environment(
 // A space and the pairs, or nothing where there is none.
 pub fn pairs(
     page: Page,
-    room: &mut [u8],
+    room: &mut Room,
     book: &[u8],
     image: &[u8],
     at: usize,

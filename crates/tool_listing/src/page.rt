@@ -1,10 +1,61 @@
-// Text on its way out. It is gathered in a room that the caller lends, and written whenever the room is full.
+// Text on its way out. It is gathered in a room, and written whenever the room is full.
+use std::fs::File;
+use std::io::{Error, ErrorKind, IsTerminal, Stdout, Write};
 use try_building::text::next_line;
 
+// Where text or an image goes to: a file, or the standard output where there is none.
 #[derive(Drop)]
+pub struct Output {
+    pub file: Option<File>,
+    pub standard: Stdout,
+}
+
+impl Output {
+    // The standard output.
+    pub fn standard(standard: Stdout) -> Output {
+        Output {
+            file: None,
+            standard,
+        }
+    }
+
+    // Writes all of the bytes.
+    pub fn write(&mut self, bytes: &[u8]) -> std::io::Result<()> {
+        match &mut self.file {
+            Some(file) => file.write_all(bytes),
+            None => self.standard.write_all(bytes),
+        }
+    }
+
+    pub fn is_terminal(&self) -> bool {
+        match &self.file {
+            Some(file) => file.is_terminal(),
+            None => self.standard.is_terminal(),
+        }
+    }
+}
+
+// Where text is gathered, and where it goes to.
+#[derive(Drop)]
+pub struct Room {
+    output: Output,
+    bytes: [u8; 65536],
+    // Why a write has failed, if one has.
+    trouble: Option<Error>,
+}
+
+impl Room {
+    pub fn new(output: Output) -> Room {
+        Room {
+            output,
+            bytes: [0; 65536],
+            trouble: None,
+        }
+    }
+}
+
+#[derive(Clone, Copy)]
 pub struct Page {
-    // Where it is written to.
-    pub fd: i32,
     // How much of the room is taken.
     pub at: usize,
     // Has a write failed? Then nothing more is written.
@@ -12,9 +63,8 @@ pub struct Page {
 }
 
 impl Page {
-    pub fn start(fd: i32) -> Page {
+    pub fn start() -> Page {
         Page {
-            fd,
             at: 0,
             failed: false,
         }
@@ -29,33 +79,50 @@ impl Page {
     }
 }
 
-fn write(fd: i32, room: &[u8], n: usize) -> bool {
-    if n <= room.len() {
-        return io::write_all(fd, &room[0..n]);
+// Writes the first n bytes.
+fn write_first(room: &mut Room, n: usize) -> std::io::Result<()> {
+    if n <= room.bytes.len() {
+        return room.output.write(&room.bytes[..n]);
     }
-    false
+    Err(Error::from(ErrorKind::WriteZero))
+}
+
+fn write(room: &mut Room, n: usize) -> bool {
+    match write_first(room, n) {
+        Ok(()) => true,
+        Err(e) => {
+            room.trouble = Some(e);
+            false
+        }
+    }
 }
 
 // Writes what was gathered.
-pub fn flush(page: Page, room: &[u8]) -> Page {
+pub fn flush(page: Page, room: &mut Room) -> Page {
     if page.failed {
         return page.wrote(false);
     }
-    page.wrote(write(page.fd, room, page.at))
+    page.wrote(write(room, page.at))
 }
 
-fn with_space(page: Page, room: &[u8]) -> Page {
-    if page.at < room.len() {
+// Writes what was gathered, and answers why something was not written, if it was not.
+pub fn finish(page: Page, room: &mut Room) -> Option<Error> {
+    flush(page, room);
+    room.trouble
+}
+
+fn with_space(page: Page, room: &mut Room) -> Page {
+    if page.at < room.bytes.len() {
         return page;
     }
     flush(page, room)
 }
 
-pub fn put(page: Page, room: &mut [u8], b: u8) -> Page {
+pub fn put(page: Page, room: &mut Room, b: u8) -> Page {
     let mut next = with_space(page, room);
     let at = next.at;
-    if at < room.len() {
-        room[at] = b;
+    if at < room.bytes.len() {
+        room.bytes[at] = b;
         next.at = at + 1;
     }
     next
@@ -66,7 +133,7 @@ fn ends(b: u8) -> bool {
 }
 
 // The text from a place to the end of its line.
-pub fn line_from(page: Page, room: &mut [u8], text: &[u8], from: usize) -> Page {
+pub fn line_from(page: Page, room: &mut Room, text: &[u8], from: usize) -> Page {
     let mut next = page;
     for i in from..text.len() {
         if ends(text[i]) {
@@ -77,7 +144,7 @@ pub fn line_from(page: Page, room: &mut [u8], text: &[u8], from: usize) -> Page 
     next
 }
 
-pub fn say(page: Page, room: &mut [u8], text: &[u8]) -> Page {
+pub fn say(page: Page, room: &mut Room, text: &[u8]) -> Page {
     line_from(page, room, text, 0)
 }
 
@@ -91,18 +158,18 @@ pub fn line_place(text: &[u8], k: usize) -> usize {
 }
 
 // Line k of a text.
-pub fn choose(page: Page, room: &mut [u8], text: &[u8], k: usize) -> Page {
+pub fn choose(page: Page, room: &mut Room, text: &[u8], k: usize) -> Page {
     line_from(page, room, text, line_place(text, k))
 }
 
-pub fn decimal(page: Page, room: &mut [u8], n: u64) -> Page {
+pub fn decimal(page: Page, room: &mut Room, n: u64) -> Page {
     let mut digits = [0u8; 20];
     let k = io::decimal(n, &mut digits);
     say(page, room, &digits[..k])
 }
 
 // The signed number that these bits are.
-pub fn signed(page: Page, room: &mut [u8], bits: u64) -> Page {
+pub fn signed(page: Page, room: &mut Room, bits: u64) -> Page {
     if bits < 9223372036854775808 {
         return decimal(page, room, bits);
     }
@@ -111,7 +178,7 @@ pub fn signed(page: Page, room: &mut [u8], bits: u64) -> Page {
 }
 
 // Two spaces for each level; there are at most 512.
-pub fn indent(page: Page, room: &mut [u8], levels: usize) -> Page {
+pub fn indent(page: Page, room: &mut Room, levels: usize) -> Page {
     let spaces = [b' '; 1024];
     if levels <= 512 {
         return line_from(page, room, &spaces, 1024 - 2 * levels);

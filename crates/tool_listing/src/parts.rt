@@ -3,7 +3,7 @@ use crate::fields::{begin, count, half, last};
 use try_building::build::plus;
 use try_building::text::{byte, wide};
 
-#[derive(Drop)]
+#[derive(Clone, Copy)]
 pub struct Record {
     // Its index, where it begins, and its kind.
     pub index: usize,

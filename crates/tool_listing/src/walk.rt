@@ -2,10 +2,10 @@
 use crate::blocks::{Block, Blocks};
 use crate::fields::{begin, last};
 use crate::line::{View, line};
-use crate::page::{Page, decimal, indent, put, say};
+use crate::page::{Page, Room, decimal, indent, put, say};
 use try_building::text::{byte, wide};
 
-#[derive(Drop)]
+#[derive(Clone, Copy)]
 pub struct Walk {
     pub page: Page,
     pub blocks: Blocks,
@@ -14,7 +14,7 @@ pub struct Walk {
 }
 
 // What ends a block of this kind.
-fn brace(page: Page, room: &mut [u8], kind: u8) -> Page {
+fn brace(page: Page, room: &mut Room, kind: u8) -> Page {
     match kind {
         Block::THEN => say(page, room, b"} else {"),
         Block::CREATE => say(page, room, b"};"),
@@ -50,7 +50,7 @@ fn behind(page: Page, outer: Blocks, kind: u8) -> Walk {
 }
 
 // Closes the innermost block.
-fn close(w: Walk, room: &mut [u8]) -> Walk {
+fn close(w: Walk, room: &mut Room) -> Walk {
     let kind = w.blocks.last().kind;
     let outer = w.blocks.pop();
     let indented = indent(w.page, room, outer.depth);
@@ -59,7 +59,7 @@ fn close(w: Walk, room: &mut [u8]) -> Walk {
 }
 
 // Closes each block that the statement at hand ends.
-fn settle(w: Walk, room: &mut [u8]) -> Walk {
+fn settle(w: Walk, room: &mut Room) -> Walk {
     let mut next = w;
     for _ in 0..Blocks::MAX {
         if !next.ended || next.blocks.depth == 0 {
@@ -96,7 +96,7 @@ fn is_ended(kind: u8, clauses: u8) -> bool {
 }
 
 // The remark behind a line: the record's index.
-fn numbered(page: Page, room: &mut [u8], view: View, k: usize) -> Page {
+fn numbered(page: Page, room: &mut Room, view: View, k: usize) -> Page {
     if view.records {
         return decimal(say(page, room, b"  // "), room, k as u64);
     }
@@ -104,7 +104,7 @@ fn numbered(page: Page, room: &mut [u8], view: View, k: usize) -> Page {
 }
 
 // What stands before a line: an empty line before a definition, and spaces.
-fn front(page: Page, room: &mut [u8], kind: u8, levels: usize) -> Page {
+fn front(page: Page, room: &mut Room, kind: u8, levels: usize) -> Page {
     if kind == Block::DEFINITION {
         return put(page, room, b'\n');
     }
@@ -114,7 +114,7 @@ fn front(page: Page, room: &mut [u8], kind: u8, levels: usize) -> Page {
 // A record's line, with its index.
 pub fn begin_line(
     w: Walk,
-    room: &mut [u8],
+    room: &mut Room,
     book: &[u8],
     image: &[u8],
     view: View,
@@ -130,7 +130,7 @@ pub fn begin_line(
 }
 
 // The end of a record's line, and the braces that are due behind it.
-pub fn end_line(w: Walk, room: &mut [u8], image: &[u8], k: usize) -> Walk {
+pub fn end_line(w: Walk, room: &mut Room, image: &[u8], k: usize) -> Walk {
     let kind = byte(image, begin(image, k));
     let clauses = last(image, k);
     let mut next = w;
@@ -141,8 +141,8 @@ pub fn end_line(w: Walk, room: &mut [u8], image: &[u8], k: usize) -> Walk {
 }
 
 // The listing of an image with this max_id, before its first record.
-pub fn start(fd: i32, room: &mut [u8], max_id: u32) -> Walk {
-    let named = say(Page::start(fd), room, b"max_id ");
+pub fn start(room: &mut Room, max_id: u32) -> Walk {
+    let named = say(Page::start(), room, b"max_id ");
     Walk {
         page: put(decimal(named, room, max_id as u64), room, b'\n'),
         blocks: Blocks::empty(),

@@ -1,7 +1,7 @@
 // The library's steppers, of the linear machine or of the source machine.
 
 // What a call of steps answered: its number, how many steps it made, and how many bytes its events have.
-#[derive(Drop)]
+#[derive(Clone, Copy)]
 pub struct Called {
     pub number: u32,
     pub made: u64,

@@ -5,7 +5,7 @@ use tool_listing::book::name;
 use tool_listing::fields::begin;
 use tool_listing::lists::comma;
 use tool_listing::names::variable;
-use tool_listing::page::{Page, decimal, put, say};
+use tool_listing::page::{Page, Room, decimal, put, say};
 use try_building::build::plus;
 use try_building::text::byte;
 
@@ -15,7 +15,7 @@ const CREATED: u8 = 4;
 // An entry, with the variable that it is around a record.
 pub fn entry(
     page: Page,
-    room: &mut [u8],
+    room: &mut Room,
     book: &[u8],
     image: &[u8],
     store: &[u8],
@@ -29,7 +29,7 @@ pub fn entry(
 // What is in the slot at a place of a cell whose own slot is at another: an entry, or a value without an ID.
 fn content(
     page: Page,
-    room: &mut [u8],
+    room: &mut Room,
     book: &[u8],
     image: &[u8],
     store: &[u8],
@@ -45,7 +45,7 @@ fn content(
 // What a cell holds whose own slot is slot k: the slots up to the next cell's own.
 fn contents(
     page: Page,
-    room: &mut [u8],
+    room: &mut Room,
     book: &[u8],
     image: &[u8],
     store: &[u8],
@@ -64,7 +64,7 @@ fn contents(
 }
 
 // The tag of a cell that a Let made, or create, the variable of the Create's record and a space.
-fn maker(page: Page, room: &mut [u8], book: &[u8], image: &[u8], store: &[u8], own: usize) -> Page {
+fn maker(page: Page, room: &mut Room, book: &[u8], image: &[u8], store: &[u8], own: usize) -> Page {
     let number = short(store, own);
     if byte(store, own) != CREATED {
         return name(page, room, book, number);
@@ -75,14 +75,14 @@ fn maker(page: Page, room: &mut [u8], book: &[u8], image: &[u8], store: &[u8], o
 }
 
 // The number of a cell, and what made it.
-fn front(page: Page, room: &mut [u8], book: &[u8], image: &[u8], store: &[u8], own: usize) -> Page {
+fn front(page: Page, room: &mut Room, book: &[u8], image: &[u8], store: &[u8], own: usize) -> Page {
     let begun = say(page, room, b"  ");
     let number = cell(begun, room, store, own);
     maker(say(number, room, b" = "), room, book, image, store, own)
 }
 
 // Behind a cell that a Create made, the index of its record.
-fn back(page: Page, room: &mut [u8], store: &[u8], own: usize) -> Page {
+fn back(page: Page, room: &mut Room, store: &[u8], own: usize) -> Page {
     if byte(store, own) != CREATED {
         return put(page, room, b'\n');
     }
@@ -91,7 +91,7 @@ fn back(page: Page, room: &mut [u8], store: &[u8], own: usize) -> Page {
     put(told, room, b'\n')
 }
 
-fn line(page: Page, room: &mut [u8], book: &[u8], image: &[u8], store: &[u8], k: usize) -> Page {
+fn line(page: Page, room: &mut Room, book: &[u8], image: &[u8], store: &[u8], k: usize) -> Page {
     let own = slot(k);
     let begun = front(page, room, book, image, store, own);
     let open = put(begun, room, b'(');
@@ -101,7 +101,7 @@ fn line(page: Page, room: &mut [u8], book: &[u8], image: &[u8], store: &[u8], k:
 
 fn line_of_own(
     page: Page,
-    room: &mut [u8],
+    room: &mut Room,
     book: &[u8],
     image: &[u8],
     store: &[u8],
@@ -113,7 +113,7 @@ fn line_of_own(
     page
 }
 
-pub fn lines(page: Page, room: &mut [u8], book: &[u8], image: &[u8], store: &[u8]) -> Page {
+pub fn lines(page: Page, room: &mut Room, book: &[u8], image: &[u8], store: &[u8]) -> Page {
     let mut next = page;
     for k in 0..cell_slots(store) {
         next = line_of_own(next, room, book, image, store, k);

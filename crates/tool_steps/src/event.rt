@@ -2,7 +2,7 @@
 use crate::value::value;
 use tool_listing::book::name;
 use tool_listing::lists::comma;
-use tool_listing::page::{Page, choose, put, say};
+use tool_listing::page::{Page, Room, choose, put, say};
 use try_building::build::plus;
 use try_building::text::{byte, double, half, wide, word};
 
@@ -13,23 +13,23 @@ const SLOT: usize = 16;
 const MOST: usize = 4096;
 
 // The words before the first value, by the kind of the statement's record.
-fn front(page: Page, room: &mut [u8], kind: u8) -> Page {
+fn front(page: Page, room: &mut Room, kind: u8) -> Page {
     let words = b"\n\n\n\nlet \nswitch \ncreate \ninvoke \nlit <- \n<- \nif \n\nprint\nexit ";
     choose(page, room, words, wide(kind))
 }
 
 // The label or the tag.
-fn tag(page: Page, room: &mut [u8], book: &[u8], events: &[u8], at: usize) -> Page {
+fn tag(page: Page, room: &mut Room, book: &[u8], events: &[u8], at: usize) -> Page {
     name(page, room, book, half(events, plus(at, 2)))
 }
 
 // The value in the last eight bytes, of a sort.
-fn shown(page: Page, room: &mut [u8], events: &[u8], at: usize, sort: u8) -> Page {
+fn shown(page: Page, room: &mut Room, events: &[u8], at: usize, sort: u8) -> Page {
     value(page, room, sort, double(events, plus(at, 8)) as u64)
 }
 
 // n argument values from a place on, each as a slot.
-fn arguments(page: Page, room: &mut [u8], events: &[u8], from: usize, n: usize) -> Page {
+fn arguments(page: Page, room: &mut Room, events: &[u8], from: usize, n: usize) -> Page {
     let mut next = page;
     let mut at = from;
     for j in 0..n {
@@ -46,7 +46,7 @@ fn count(events: &[u8], at: usize) -> usize {
 }
 
 // The argument values of an Invoke of an outside number, which is sort 2; nothing behind any other.
-fn outside(page: Page, room: &mut [u8], events: &[u8], at: usize, sort: u8) -> Page {
+fn outside(page: Page, room: &mut Room, events: &[u8], at: usize, sort: u8) -> Page {
     if sort != 2 {
         return page;
     }
@@ -56,20 +56,20 @@ fn outside(page: Page, room: &mut [u8], events: &[u8], at: usize, sort: u8) -> P
 }
 
 // A cell and the tag that is put into it.
-fn letting(page: Page, room: &mut [u8], book: &[u8], events: &[u8], at: usize, sort: u8) -> Page {
+fn letting(page: Page, room: &mut Room, book: &[u8], events: &[u8], at: usize, sort: u8) -> Page {
     let cell = shown(page, room, events, at, sort);
     tag(say(cell, room, b" = "), room, book, events, at)
 }
 
 // A cell or an outside number, the tag, and argument values.
-fn entering(page: Page, room: &mut [u8], book: &[u8], events: &[u8], at: usize, sort: u8) -> Page {
+fn entering(page: Page, room: &mut Room, book: &[u8], events: &[u8], at: usize, sort: u8) -> Page {
     let target = shown(page, room, events, at, sort);
     let tagged = tag(put(target, room, b' '), room, book, events, at);
     outside(tagged, room, events, at, sort)
 }
 
 // The integer that a PrintI64 shows, behind the rest of its word.
-fn printing(page: Page, room: &mut [u8], events: &[u8], at: usize, newline: u8) -> Page {
+fn printing(page: Page, room: &mut Room, events: &[u8], at: usize, newline: u8) -> Page {
     let open = choose(page, room, b"_i64(\nln_i64(", wide(newline));
     put(shown(open, room, events, at, 0), room, b')')
 }
@@ -77,7 +77,7 @@ fn printing(page: Page, room: &mut [u8], events: &[u8], at: usize, newline: u8) 
 // What stands behind the words of an event of a kind, whose second byte is this.
 fn back(
     page: Page,
-    room: &mut [u8],
+    room: &mut Room,
     book: &[u8],
     events: &[u8],
     at: usize,
@@ -95,7 +95,7 @@ fn back(
 }
 
 // The line of the event at a place, and its end.
-fn line(page: Page, room: &mut [u8], book: &[u8], events: &[u8], at: usize) -> Page {
+fn line(page: Page, room: &mut Room, book: &[u8], events: &[u8], at: usize) -> Page {
     let kind = byte(events, at);
     let begun = front(page, room, kind);
     let second = byte(events, plus(at, 1));
@@ -113,7 +113,7 @@ fn behind(events: &[u8], at: usize) -> usize {
 }
 
 // The lines of the events in the first n bytes.
-pub fn lines(page: Page, room: &mut [u8], book: &[u8], events: &[u8], n: usize) -> Page {
+pub fn lines(page: Page, room: &mut Room, book: &[u8], events: &[u8], n: usize) -> Page {
     let mut next = page;
     let mut at = 0;
     for _ in 0..MOST {

@@ -10,6 +10,8 @@
 //   invoke outside:2 n6(7, cell:0)    an Invoke of an outside number
 //
 // A value is an integer, cell: and the number of a cell, or outside: and an outside number. Names are those of a listing.
+#![tactic(auto)]
+
 pub mod calls;
 pub mod cells;
 pub mod event;

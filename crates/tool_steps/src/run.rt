@@ -1,20 +1,21 @@
 // Runs: calls until all steps that are asked for are made, and the lines of their events.
 use crate::calls::step;
 use crate::event::lines;
-use tool_listing::page::{Page, flush};
+use std::io::Error;
+use tool_listing::page::{Output, Page, Room, finish};
 
-#[derive(Drop)]
+#[derive(Clone, Copy)]
 pub struct Ran {
     // How many steps were made.
     pub made: u64,
     // 15 where the next step that is asked for has no room, or else 0.
     pub number: u32,
-    // Are all lines written?
-    pub well: bool,
+    // Why some line is not written, if one is not.
+    pub trouble: Option<Error>,
 }
 
 // The steps that were made, with what was gathered of their lines.
-#[derive(Drop)]
+#[derive(Clone, Copy)]
 struct Gone {
     page: Page,
     made: u64,
@@ -35,7 +36,7 @@ fn go_on(
     store: &mut [u8],
     events: &mut [u8],
     page: Page,
-    room: &mut [u8],
+    room: &mut Room,
     book: &[u8],
 ) -> Gone {
     let mut left = steps;
@@ -56,10 +57,17 @@ fn go_on(
 }
 
 // Makes at most so many steps and writes a line for each event. An event has at most 65,536 bytes.
-pub fn run(fd: i32, linear: bool, image: &[u8], steps: u64, store: &mut [u8], book: &[u8]) -> Ran {
+pub fn run(
+    output: Output,
+    linear: bool,
+    image: &[u8],
+    steps: u64,
+    store: &mut [u8],
+    book: &[u8],
+) -> Ran {
     let mut events = io::large_buffer();
-    let mut room = io::large_buffer();
-    let page = Page::start(fd);
+    let mut room = Room::new(output);
+    let page = Page::start();
     let gone = go_on(
         linear,
         image,
@@ -70,10 +78,10 @@ pub fn run(fd: i32, linear: bool, image: &[u8], steps: u64, store: &mut [u8], bo
         &mut room,
         book,
     );
-    let end = flush(gone.page, &room);
+    let trouble = finish(gone.page, &mut room);
     Ran {
         made: gone.made,
         number: gone.number,
-        well: !end.failed,
+        trouble,
     }
 }

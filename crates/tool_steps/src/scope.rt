@@ -1,6 +1,6 @@
 // The names of variables. A store has IDs alone; the name of an ID is that of the innermost binder around the statement that has it.
 use tool_listing::names::variable;
-use tool_listing::page::{Page, decimal, put};
+use tool_listing::page::{Page, Room, decimal, put};
 use tool_listing::parts::{Record, count_at, id};
 use try_building::build::plus;
 
@@ -78,7 +78,7 @@ fn innermost(image: &[u8], position: usize, wanted: usize) -> usize {
 // The variable of an ID around a record, or the ID alone where none has it.
 pub fn named(
     page: Page,
-    room: &mut [u8],
+    room: &mut Room,
     book: &[u8],
     image: &[u8],
     position: usize,

@@ -1,6 +1,6 @@
 // The numbers of a store, and its slots. Past its end a store has zero bytes.
 use crate::value::{CELL, value};
-use tool_listing::page::Page;
+use tool_listing::page::{Page, Room};
 use try_building::build::plus;
 use try_building::text::{byte, double, word};
 
@@ -55,12 +55,12 @@ pub fn is_own(store: &[u8], at: usize) -> bool {
 }
 
 // The number of the cell whose own slot is at a place.
-pub fn cell(page: Page, room: &mut [u8], store: &[u8], at: usize) -> Page {
+pub fn cell(page: Page, room: &mut Room, store: &[u8], at: usize) -> Page {
     value(page, room, CELL, long(store, at) as u64)
 }
 
 // The value of the slot at a place. A slot refers to a cell by the place of its own slot, which has the number.
-pub fn held(page: Page, room: &mut [u8], store: &[u8], at: usize) -> Page {
+pub fn held(page: Page, room: &mut Room, store: &[u8], at: usize) -> Page {
     let sort = byte(store, at);
     let long = long(store, at);
     if sort == CELL {

@@ -1,7 +1,8 @@
 // How a run stands: what its last line says.
 use crate::calls::step;
 use crate::state::{has_ended, has_stopped};
-use tool_listing::page::{Page, choose, decimal, flush, put};
+use std::io::Error;
+use tool_listing::page::{Output, Page, Room, choose, decimal, finish, put};
 
 // By the lines of `line`.
 const GOES_ON: usize = 0;
@@ -32,7 +33,7 @@ fn standing(linear: bool, image: &[u8], store: &mut [u8], events: &mut [u8]) -> 
     STUCK
 }
 
-fn line(page: Page, room: &mut [u8], made: u64, stands: usize) -> Page {
+fn line(page: Page, room: &mut Room, made: u64, stands: usize) -> Page {
     let counted = decimal(page, room, made);
     let many = (made != 1) as usize;
     let told = choose(counted, room, b" step, \n steps, ", many);
@@ -40,12 +41,18 @@ fn line(page: Page, room: &mut [u8], made: u64, stands: usize) -> Page {
     put(choose(told, room, words, stands), room, b'\n')
 }
 
-// Writes how many steps were made and how the run stands, and answers whether that is written. The store is one whose bytes are kept
-// elsewhere: the next step is tried in it.
-pub fn tell(fd: i32, linear: bool, image: &[u8], store: &mut [u8], made: u64) -> bool {
+// Writes how many steps were made and how the run stands, and answers why that is not written, if it is not. The store is one whose bytes
+// are kept elsewhere: the next step is tried in it.
+pub fn tell(
+    output: Output,
+    linear: bool,
+    image: &[u8],
+    store: &mut [u8],
+    made: u64,
+) -> Option<Error> {
     let mut events = io::large_buffer();
     let stands = standing(linear, image, store, &mut events);
-    let mut room = io::buffer();
-    let told = line(Page::start(fd), &mut room, made, stands);
-    !flush(told, &room).failed
+    let mut room = Room::new(output);
+    let told = line(Page::start(), &mut room, made, stands);
+    finish(told, &mut room)
 }

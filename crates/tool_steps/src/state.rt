@@ -2,9 +2,10 @@
 use crate::cells;
 use crate::cells::entry;
 use crate::slots::{cell_slots, entries, position, slot};
+use std::io::Error;
 use tool_listing::fields::begin;
 use tool_listing::line::line;
-use tool_listing::page::{Page, choose, decimal, flush, put, say};
+use tool_listing::page::{Output, Page, Room, choose, decimal, finish, put, say};
 use try_building::build::plus;
 use try_building::text::{byte, wide};
 
@@ -18,7 +19,7 @@ pub fn has_stopped(store: &[u8]) -> bool {
 }
 
 // The line of the statement at hand, and the index of its record, as a listing has them.
-fn statement(page: Page, room: &mut [u8], book: &[u8], image: &[u8], k: usize) -> Page {
+fn statement(page: Page, room: &mut Room, book: &[u8], image: &[u8], k: usize) -> Page {
     let at = begin(image, k);
     let kind = byte(image, at);
     let told = line(page, room, book, image, false, at, kind);
@@ -26,7 +27,7 @@ fn statement(page: Page, room: &mut [u8], book: &[u8], image: &[u8], k: usize) -
     put(indexed, room, b'\n')
 }
 
-fn flags(page: Page, room: &mut [u8], store: &[u8]) -> Page {
+fn flags(page: Page, room: &mut Room, store: &[u8]) -> Page {
     let words = b"flags: none\nflags: ended\nflags: stopped\nflags: ended, stopped";
     let ended = has_ended(store) as usize;
     let stopped = has_stopped(store) as usize;
@@ -37,7 +38,7 @@ fn flags(page: Page, room: &mut [u8], store: &[u8]) -> Page {
 // The line of the entry in slot k.
 fn entry_line(
     page: Page,
-    room: &mut [u8],
+    room: &mut Room,
     book: &[u8],
     image: &[u8],
     store: &[u8],
@@ -48,7 +49,7 @@ fn entry_line(
     put(told, room, b'\n')
 }
 
-fn entry_lines(page: Page, room: &mut [u8], book: &[u8], image: &[u8], store: &[u8]) -> Page {
+fn entry_lines(page: Page, room: &mut Room, book: &[u8], image: &[u8], store: &[u8]) -> Page {
     let mut next = page;
     let first = cell_slots(store);
     for k in first..plus(first, entries(store)) {
@@ -58,16 +59,16 @@ fn entry_lines(page: Page, room: &mut [u8], book: &[u8], image: &[u8], store: &[
 }
 
 // A word on a line of its own.
-fn heading(page: Page, room: &mut [u8], word: &[u8]) -> Page {
+fn heading(page: Page, room: &mut Room, word: &[u8]) -> Page {
     put(say(page, room, word), room, b'\n')
 }
 
-fn environment(page: Page, room: &mut [u8], book: &[u8], image: &[u8], store: &[u8]) -> Page {
+fn environment(page: Page, room: &mut Room, book: &[u8], image: &[u8], store: &[u8]) -> Page {
     let open = heading(page, room, b"environment:");
     entry_lines(open, room, book, image, store)
 }
 
-fn state(page: Page, room: &mut [u8], book: &[u8], image: &[u8], store: &[u8]) -> Page {
+fn state(page: Page, room: &mut Room, book: &[u8], image: &[u8], store: &[u8]) -> Page {
     let stated = statement(page, room, book, image, position(store));
     let flagged = flags(stated, room, store);
     let told = environment(flagged, room, book, image, store);
@@ -75,9 +76,9 @@ fn state(page: Page, room: &mut [u8], book: &[u8], image: &[u8], store: &[u8]) -
     cells::lines(open, room, book, image, store)
 }
 
-// Writes the state that a store begins with, and answers whether all is written.
-pub fn show(fd: i32, book: &[u8], image: &[u8], store: &[u8]) -> bool {
-    let mut room = io::large_buffer();
-    let told = state(Page::start(fd), &mut room, book, image, store);
-    !flush(told, &room).failed
+// Writes the state that a store begins with, and answers why something is not written, if it is not.
+pub fn show(output: Output, book: &[u8], image: &[u8], store: &[u8]) -> Option<Error> {
+    let mut room = Room::new(output);
+    let told = state(Page::start(), &mut room, book, image, store);
+    finish(told, &mut room)
 }

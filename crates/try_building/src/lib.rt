@@ -16,6 +16,8 @@
 // (1-32) is a list of 1 to 32, (7*33) has 7 for 33 times. [..]5 is five times what stands inside, and 7+ there is 7, 8, 9 and so on.
 // #9 gives labels, tags and types the ID 9, which is 0 before. y00 are bytes that no record has, %7 ends the image after 7 bytes, and
 // !2 7 makes its byte 2 a 7. The image has as many definitions and records as the line.
+#![tactic(auto)]
+
 pub mod build;
 pub mod image;
 pub mod layout;

@@ -5,7 +5,7 @@ use crate::text::{byte, number};
 // The name of a variable that is written with none.
 pub const NAME: usize = 2;
 
-#[derive(Drop)]
+#[derive(Clone, Copy)]
 pub struct Progress {
     // The place in the text, and the place in the buffer.
     pub from: usize,

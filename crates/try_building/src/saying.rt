@@ -5,7 +5,7 @@ use crate::progress::NAME;
 use crate::show;
 use crate::text::{byte, half, wide};
 
-#[derive(Drop)]
+#[derive(Clone, Copy)]
 pub struct Saying {
     // The place in the image.
     pub at: usize,

@@ -1,14 +1,16 @@
 // Printing.
 use crate::sum::adler;
 use crate::text::wide;
-use libc::STDOUT_FILENO;
+
+// The descriptor of the standard output.
+const STDOUT: i32 = 1;
 
 pub fn say(s: &[u8]) {
-    io::write_all(STDOUT_FILENO, s);
+    io::write_all(STDOUT, s);
 }
 
 pub fn count(n: usize) {
-    io::print_decimal(STDOUT_FILENO, n as u64);
+    io::print_decimal(STDOUT, n as u64);
 }
 
 // A number behind some words.
@@ -43,7 +45,7 @@ pub fn bytes(s: &[u8], from: usize, end: usize, words: &[u8]) {
     for i in from..end {
         if i < s.len() {
             say(words);
-            io::print_hex(STDOUT_FILENO, wide(s[i]) as u64, 2);
+            io::print_hex(STDOUT, wide(s[i]) as u64, 2);
         }
     }
 }
@@ -52,8 +54,8 @@ pub fn bytes(s: &[u8], from: usize, end: usize, words: &[u8]) {
 pub fn sum(s: &[u8]) {
     let n = adler(s);
     say(b"sum ");
-    io::print_hex(STDOUT_FILENO, n.b as u64, 4);
-    io::print_hex(STDOUT_FILENO, n.a as u64, 4);
+    io::print_hex(STDOUT, n.b as u64, 4);
+    io::print_hex(STDOUT, n.a as u64, 4);
 }
 
 pub fn line() {

@@ -3,7 +3,7 @@ use crate::build::plus;
 use crate::text::wide;
 
 // The lower half, which is the sum of the bytes, and the upper half, which is the sum of those sums.
-#[derive(Drop)]
+#[derive(Clone, Copy)]
 pub struct Sums {
     pub a: usize,
     pub b: usize,

@@ -77,7 +77,7 @@ pub fn hex(b: u8) -> usize {
 const DIGITS: usize = 20;
 
 // A number, and the place past it.
-#[derive(Drop)]
+#[derive(Clone, Copy)]
 pub struct Numeral {
     pub value: usize,
     pub end: usize,

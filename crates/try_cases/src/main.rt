@@ -3,11 +3,16 @@
 // Among those of the scope check a name with @3 16 asks for the annotation of record 3 with a buffer of 16 bytes, which is printed.
 // Linearization is lent 65535 bytes, or 45 where the name has @45. Printed is also whether the buffer and the image are as they must be; and
 // of what was written what reading answers, and the image in the notation of the input.
+#![tactic(auto)]
+
 use try_building::build::plus;
 use try_building::image::image;
 use try_building::listing::listing;
 use try_building::show;
 use try_building::text::{byte, find, holds, next_line, number};
+
+// The descriptor of the standard input.
+const STDIN: i32 = 0;
 
 // The most lines.
 const LINES: usize = 1000;
@@ -27,7 +32,7 @@ const MARK: u8 = 0xaa;
 const SHOWN: usize = 64;
 
 // A call: read, check, annotate or linearize by its first letter, the record, and how many bytes are lent.
-#[derive(Drop)]
+#[derive(Clone, Copy)]
 struct Call {
     function: u8,
     record: usize,
@@ -60,7 +65,7 @@ fn asked(text: &[u8], from: usize, colon: usize, function: u8) -> Call {
 }
 
 // What a call answered.
-#[derive(Drop)]
+#[derive(Clone, Copy)]
 struct Given {
     number: u32,
     length: usize,
@@ -205,7 +210,7 @@ fn case(text: &[u8], from: usize, function: u8) -> usize {
 }
 
 // How far the input is read, and the function that the cases there ask for.
-#[derive(Drop)]
+#[derive(Clone, Copy)]
 struct Place {
     at: usize,
     function: u8,
@@ -238,6 +243,6 @@ fn cases(text: &[u8]) {
 
 fn main() {
     let mut text = io::large_buffer();
-    let n = io::read_full(libc::STDIN_FILENO, &mut text);
+    let n = io::read_full(STDIN, &mut text);
     cases(&text[..n]);
 }

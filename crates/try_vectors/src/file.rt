@@ -1,6 +1,8 @@
 // The input. Its numbers are little-endian.
-use libc::STDIN_FILENO;
 use try_building::text::{byte, double, half, wide, word};
+
+// The descriptor of the standard input.
+const STDIN: i32 = 0;
 
 // No image and no lent buffer has more bytes.
 pub const LARGEST: usize = 65536;
@@ -14,7 +16,7 @@ pub const STEPPERS: usize = 4;
 // Fills the buffer with what comes next; false where the input ends before.
 pub fn take(buffer: &mut [u8]) -> bool {
     let n = buffer.len();
-    io::read_full(STDIN_FILENO, buffer) == n
+    io::read_full(STDIN, buffer) == n
 }
 
 // The same with the first n bytes of the buffer.
@@ -27,11 +29,11 @@ pub fn take_part(buffer: &mut [u8], n: usize) -> bool {
 
 pub fn at_end() -> bool {
     let mut byte = [0u8; 1];
-    io::read_full(STDIN_FILENO, &mut byte) == 0
+    io::read_full(STDIN, &mut byte) == 0
 }
 
 // A call, and the answer that is expected.
-#[derive(Drop)]
+#[derive(Clone, Copy)]
 pub struct Call {
     // 0 reading, 1 the scope check, 2 linearization, 3 annotation; 4 and 5 a start and steps of the source machine, 6 and 7 of the linear
     // one.

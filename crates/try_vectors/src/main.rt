@@ -1,5 +1,7 @@
 // Reads the oracle's answers from its input, makes the same calls, and prints each call that answers something else, and how many
 // calls answer the same, by function and number. oracle/vectors/src/lib.rs says the form of the input.
+#![tactic(auto)]
+
 mod bytes;
 mod file;
 mod replay;

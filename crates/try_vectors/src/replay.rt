@@ -8,7 +8,7 @@ use try_building::text::holds;
 pub const GUARDED: usize = 65600;
 
 // What a call answered, and what it left.
-#[derive(Drop)]
+#[derive(Clone, Copy)]
 pub struct Outcome {
     pub number: usize,
     pub length: usize,

@@ -37,7 +37,7 @@ fn agreeing(place: usize, n: usize) {
     }
 }
 
-#[derive(Drop)]
+#[derive(Clone, Copy)]
 pub struct Tally {
     // The calls that agree, by function and answer.
     pub agree: [usize; COUNTS],

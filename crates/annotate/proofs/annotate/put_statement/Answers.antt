@@ -1,0 +1,35 @@
+use mathlib.Core.Path.{sym, ap, ◌∙◌, subst}
+use mathlib.Core.List.{List, []}
+use Prim.Native.Nat.{ℕ}
+use borrow.Author.Rules.{rules}
+use native.Mathlib.Omega.{arith}
+use lib.ListN.{length, replicate}
+use Rattle.syntax.specs.Arrays.{set_of}
+use Rattle.syntax.specs.declared.names.VarId.{VarId}
+use Rattle.image_directory.specs.Slots.{records_in}
+use Rattle.image_places_spec.specs.Places.{stmt_at}
+use Rattle.image_write_parts.specs.Puts.{Puts}
+use Rattle.scope_spec.specs.Calls.{set_bytes}
+use Rattle.scope_spec.specs.Rooms.{RoomFor}
+use Rattle.scope_spec.specs.Marking.{mark_stmt, marked_from}
+use Rattle.annotate.proofs.AnnotateLaws.{row-after}
+use Rattle.annotate.proofs.annotate.put_statement.Goals as goal
+
+pub statement-next-requires : goal.statement-next-requires
+statement-next-requires c =
+    let a = c.args in
+    let h = c.requires in
+    let e = c.empty.ensures in
+    (h.0, (h.1.0, (record { count = e.count ∙ ap length (sym e.list); small = omega (arith, e.count) }, subst (λ (z : List VarId). RoomFor z (stmt_at 127 (records_in a.frame a.image.now) a.i)) (sym e.list) h.1.1.0)))
+
+pub returns : goal.returns
+returns c =
+    let a = c.args in
+    let m = c.statement-next.ensures in
+    let e = c.empty.ensures.list in
+    let k = c.clear.ensures in
+    record {
+      next = m.next_is;
+      puts = subst (λ (z : List ℕ). Puts a.out.now c.put_set-end.new.out a.at c.put_set-end.result (set_bytes a.frame.id (marked_from 0 z)))
+          (row-after (mark_stmt (stmt_at 127 (records_in a.frame a.image.now) a.i)) m.row_is e k) c.put_set-end.ensures;
+    }

@@ -1,0 +1,50 @@
+-- `Held::move_behind` meets its contract: i entries are stored. Assumes nothing.
+use mathlib.Core.Path.{◌≡◌, refl, sym, ◌∙◌}
+use Prim.Native.Nat.{◌+◌, ◌-◌}
+use native.Mathlib.Omega.{arith}
+use borrow.Author.Rules.{rules}
+use lib.ListN.{length, length-map, take, get_or}
+use lib.Seq.{length-take-le}
+use Rattle.pass_work_spec.specs.Work.{moved_behind}
+use Rattle.pass_work_spec.proofs.Lengths.{moved_length}
+use Rattle.pass_entries.specs.Entries.{entry_in, empty_flat_entry, empty_entry}
+use Rattle.pass_context.specs.Holding.{entries_in}
+use Rattle.pass_context.proofs.Stores.{built-start, built-seen}
+use Rattle.pass_context.proofs.Elements.{entry_at, moved-left, moved-right}
+use Rattle.pass_context.proofs.HeldLaws.{stored-all}
+use Rattle.pass_context.proofs.Held.move_behind.Goals as goal
+use Rattle.pass_context.proofs.Held.move_behind.Goals.{Start}
+
+size : (c : Start) → length (entries_in c.args.self) ≡ 64
+size c = length-map c.args.self.entries entry_in ∙ search rules
+
+-- as many entries as before
+counted : (c : Start) → length (moved_behind c.args.j (take c.args.self.len (entries_in c.args.self))) ≡ c.args.self.len
+counted c = moved_length c.args.j (take c.args.self.len (entries_in c.args.self)) ∙ length-take-le c.args.self.len (entries_in c.args.self) (omega (arith, size c))
+
+pub loop-i-init : goal.loop-i-init
+loop-i-init c = record { len = refl; turn = built-start _ (entries_in c.args.self) (size c) (omega (arith, counted c)) }
+
+pub loop-i-preserved-then-i-k : goal.loop-i-preserved-then-i-k
+loop-i-preserved-then-i-k c =
+    let l = c.loop-i in
+    let h = c.loop-i-test.true in
+    record {
+      len = l.invariant.len;
+      turn = built-seen entry_in l.out.entries empty_entry (get_or c.args.self.entries (l.i + c.args.j) empty_flat_entry) (omega (arith, counted (goal.at.loop-i-preserved-then-i-k c).Start)) (entry_at c.args.self (l.i + c.args.j) ∙ moved-left (entries_in c.args.self) c.args.self.len c.args.j l.i empty_entry (omega (arith, size (goal.at.loop-i-preserved-then-i-k c).Start)) (omega arith) c.if-i-k.true) l.invariant.turn;
+    }
+
+pub loop-i-preserved : goal.loop-i-preserved
+loop-i-preserved c =
+    let l = c.loop-i in
+    let h = c.loop-i-test.true in
+    record {
+      len = l.invariant.len;
+      turn = built-seen entry_in l.out.entries empty_entry (get_or c.args.self.entries (l.i - (c.args.self.len - c.args.j)) empty_flat_entry) (omega (arith, counted (goal.at.loop-i-preserved c).Start)) (entry_at c.args.self (l.i - (c.args.self.len - c.args.j)) ∙ moved-right (entries_in c.args.self) c.args.self.len c.args.j l.i empty_entry (omega (arith, size (goal.at.loop-i-preserved c).Start)) (omega arith) c.if-i-k.false h) l.invariant.turn;
+    }
+
+pub returns : goal.returns
+returns c =
+    let l = c.loop-i in
+    let q = sym (counted (goal.at.returns c).Start) in
+    stored-all (l.invariant.len ∙ q) (omega (arith, l.invariant.len)) l.invariant.turn

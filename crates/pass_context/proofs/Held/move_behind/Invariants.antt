@@ -1,0 +1,13 @@
+-- `Held::move_behind` meets its contract: i entries are stored. Assumes nothing.
+use Prim.Native.Nat.{◌-◌}
+use lib.ListN.{take}
+use Rattle.pass_work_spec.specs.Work.{moved_behind}
+use Rattle.pass_context.specs.Holding.{entries_in}
+use Rattle.pass_context.proofs.HeldLaws.{Storing}
+use Rattle.pass_context.proofs.Held.move_behind.Given as goal
+
+abbrev pub invariant-loop-i : goal.invariant-loop-i
+invariant-loop-i l = Storing (moved_behind l.j (take l.n (entries_in l.self))) l.n l.initial.out l.out l.i
+
+abbrev pub decreases-loop-i : goal.decreases-loop-i
+decreases-loop-i l = l.n - l.i

@@ -1,0 +1,62 @@
+-- `Held::owns` meets its contract: i binders are stored behind the others. Assumes nothing.
+use mathlib.Core.Path.{◌≡◌, ap, ◌∙◌}
+use mathlib.Core.List.{◌++◌}
+use Prim.Native.Nat.{◌+◌}
+use native.Mathlib.Omega.{arith}
+use borrow.Author.Rules.{rules}
+use lib.ListN.{length, length-map, length-append}
+use lib.Seq.{length-take-le}
+use Rattle.syntax.specs.Flat.{binding_of, empty_flat}
+use Rattle.syntax.specs.Arrays.{bindings_in, context_of}
+use Rattle.syntax.proofs.Flats.{seen_at}
+use Rattle.pass_work_spec.specs.Work.{own, owns}
+use Rattle.pass_work_spec.proofs.Lengths.{owns-length}
+use Rattle.pass_entries.specs.Entries.{entry_in, empty_entry}
+use Rattle.pass_context.specs.Holding.{entries_in, work_of}
+use Rattle.pass_context.proofs.Stores.{built-behind, built-seen}
+use Rattle.pass_context.proofs.Elements.{owned_behind}
+use Rattle.pass_context.proofs.HeldLaws.{stored-all}
+use Rattle.pass_context.proofs.Held.owns.Goals as goal
+use Rattle.pass_context.proofs.Held.owns.Goals.{Start}
+
+size : (c : Start) → length (entries_in c.args.self) ≡ 64
+size c = length-map c.args.self.entries entry_in ∙ search rules
+
+size_params : (c : Start) → length (bindings_in c.args.params) ≡ 64
+size_params c = length-map c.args.params.bindings binding_of ∙ search rules
+
+-- the counts of both
+count_self : (c : Start) → length (work_of c.args.self) ≡ c.args.self.len
+count_self c = length-take-le c.args.self.len (entries_in c.args.self) (omega (arith, size c))
+
+count_owns : (c : Start) → length (owns c.args.n (context_of c.args.params)) ≡ c.args.params.len
+count_owns c = owns-length c.args.n (context_of c.args.params) ∙ length-take-le c.args.params.len (bindings_in c.args.params) (omega (arith, size_params c))
+
+counted : (c : Start) → length (work_of c.args.self ++ owns c.args.n (context_of c.args.params)) ≡ c.args.self.len + c.args.params.len
+counted c = omega (arith, length-append (work_of c.args.self) (owns c.args.n (context_of c.args.params)), count_self c, count_owns c)
+
+pub loop-i-init : goal.loop-i-init
+loop-i-init c = record { number = omega arith; stored = record { here = omega arith; below = omega arith; turn = built-behind (entries_in c.args.self) (owns c.args.n (context_of c.args.params)) c.args.self.len (size c) (omega (arith, count_owns c)) } }
+
+pub loop-i-preserved : goal.loop-i-preserved
+loop-i-preserved c =
+    let l = c.loop-i in
+    let h = c.loop-i-test.true in
+    let a = l.invariant.stored in
+    let b = c.binding.ensures ∙ seen_at binding_of c.args.params.bindings l.i empty_flat in
+    let e = owned_behind (work_of c.args.self) (bindings_in c.args.params) c.args.params.len c.args.self.len c.args.n l.i l.at l.place (count_self (goal.at.loop-i-preserved c).Start) h (omega (arith, size_params (goal.at.loop-i-preserved c).Start)) a.here l.invariant.number in
+    record {
+      number = omega (arith, l.invariant.number);
+      stored = record {
+        here = omega (arith, a.here);
+        below = omega arith;
+        turn = built-seen entry_in l.out.entries empty_entry c.flat.result (omega (arith, counted (goal.at.loop-i-preserved c).Start, a.here)) (c.flat.ensures ∙ c.owned.ensures ∙ ap (own l.place) b ∙ e) a.turn;
+      };
+    }
+
+pub returns : goal.returns
+returns c =
+    let l = c.loop-i in
+    let h = c.loop-i-test.false in
+    let q : l.at ≡ length (work_of c.args.self ++ owns c.args.n (context_of c.args.params)) = omega (arith, counted (goal.at.returns c).Start, l.invariant.stored.here, l.invariant.stored.below) in
+    stored-all q (omega arith) l.invariant.stored.turn

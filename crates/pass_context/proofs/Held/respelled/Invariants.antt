@@ -1,0 +1,14 @@
+-- `Held::respelled` meets its contract: i entries are respelled in place. Assumes nothing.
+use Prim.Native.Nat.{◌-◌}
+use lib.ListN.{take}
+use Rattle.syntax.specs.Arrays.{context_of}
+use Rattle.pass_work_spec.specs.Work.{respelled}
+use Rattle.pass_context.specs.Holding.{entries_in}
+use Rattle.pass_context.proofs.HeldLaws.{Storing}
+use Rattle.pass_context.proofs.Held.respelled.Given as goal
+
+abbrev pub invariant-loop-i : goal.invariant-loop-i
+invariant-loop-i l = Storing (respelled (take l.n (entries_in l.initial.out)) (context_of l.names)) l.n l.initial.out l.out l.i
+
+abbrev pub decreases-loop-i : goal.decreases-loop-i
+decreases-loop-i l = l.n - l.i

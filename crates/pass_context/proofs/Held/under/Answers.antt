@@ -1,0 +1,53 @@
+-- `Held::under` meets its contract: i entries are stored. Assumes nothing.
+use mathlib.Core.Path.{◌≡◌, sym, ap, ◌∙◌}
+use mathlib.Core.List.{◌++◌}
+use Prim.Native.Nat.{◌+◌, ◌-◌, ◌≤◌}
+use native.Mathlib.Omega.{arith}
+use borrow.Author.Rules.{rules}
+use lib.ListN.{length, length-map, get_or}
+use Rattle.syntax.specs.Flat.{binding_of, empty_flat}
+use Rattle.syntax.specs.Arrays.{bindings_in, context_of}
+use Rattle.syntax.proofs.Flats.{seen_at}
+use Rattle.pass_work_spec.specs.Work.{own, owns}
+use Rattle.pass_entries.specs.Entries.{entry_in, empty_flat_entry, empty_entry}
+use Rattle.pass_context.specs.Holding.{entries_in, work_of}
+use Rattle.pass_context.proofs.Stores.{built-start, built-seen}
+use Rattle.pass_context.proofs.Elements.{entry_at, under-count, under_left, under-right}
+use Rattle.pass_context.proofs.HeldLaws.{stored-all}
+use Rattle.pass_context.proofs.Held.under.Goals as goal
+use Rattle.pass_context.proofs.Held.under.Goals.{Start}
+
+size : (c : Start) → length (entries_in c.args.self) ≡ 64
+size c = length-map c.args.self.entries entry_in ∙ search rules
+
+size_params : (c : Start) → length (bindings_in c.args.params) ≡ 64
+size_params c = length-map c.args.params.bindings binding_of ∙ search rules
+
+few : (c : Start) → c.args.params.len ≤ length (bindings_in c.args.params)
+few c = omega (arith, size_params c)
+
+counted : (c : Start) → length (owns c.args.n (context_of c.args.params) ++ work_of c.args.self) ≡ c.args.params.len + c.args.self.len
+counted c = under-count (bindings_in c.args.params) c.args.params.len c.args.n (entries_in c.args.self) c.args.self.len (few c) (omega (arith, size c))
+
+pub loop-i-init : goal.loop-i-init
+loop-i-init c = built-start _ (entries_in c.args.self) (size c) (omega (arith, counted c))
+
+pub loop-i-preserved-then-i-k : goal.loop-i-preserved-then-i-k
+loop-i-preserved-then-i-k c =
+    let l = c.loop-i in
+    let b = c.binding.ensures ∙ seen_at binding_of c.args.params.bindings l.i empty_flat in
+    let e = under_left (bindings_in c.args.params) c.args.params.len c.args.n (entries_in c.args.self) c.args.self.len (few (goal.at.loop-i-preserved-then-i-k c).Start) l.i c.if-i-k.true in
+    built-seen entry_in l.out.entries empty_entry c.flat.result (omega (arith, counted (goal.at.loop-i-preserved-then-i-k c).Start)) (c.flat.ensures ∙ c.owned.ensures ∙ ap (own (c.args.n + l.i)) b ∙ e) l.invariant
+
+pub loop-i-preserved : goal.loop-i-preserved
+loop-i-preserved c =
+    let l = c.loop-i in
+    let h = c.loop-i-test.true in
+    let e = under-right (bindings_in c.args.params) c.args.params.len c.args.n (entries_in c.args.self) c.args.self.len (few (goal.at.loop-i-preserved c).Start) l.i c.if-i-k.false h in
+    built-seen entry_in l.out.entries empty_entry (get_or c.args.self.entries (l.i - c.args.params.len) empty_flat_entry) (omega (arith, counted (goal.at.loop-i-preserved c).Start)) (entry_at c.args.self (l.i - c.args.params.len) ∙ e) l.invariant
+
+pub returns : goal.returns
+returns c =
+    let l = c.loop-i in
+    let q = sym (counted (goal.at.returns c).Start) in
+    stored-all q c.loop-i-test.false l.invariant

@@ -1,0 +1,40 @@
+use borrow.Author.Rules.{rules}
+use mathlib.Core.Path.{sym, ◌∙◌}
+use native.Mathlib.Omega.{arith}
+use Rattle.image_spec.specs.Fields.{sorts, sort_code_lem}
+use Rattle.image_spec.specs.Records.{ifc}
+use Rattle.image_spec.proofs.FieldLaws.{sort_exact}
+use Rattle.image_read_nodes.specs.Nodes.{record_at}
+use Rattle.pass_records.proofs.FieldPlaces.{code-known, IfCThere, ifc-there}
+use Rattle.pass_records.proofs.ifc.Goals as goal
+use Rattle.pass_records.proofs.ifc.Goals.{After-offset-start}
+
+-- where the parts stand
+there : (c : After-offset-start) → IfCThere c.args.frame.id c.args.image.now c.offset-start.result (record_at c.args.frame c.args.image.now c.args.i)
+there c = ifc-there _ _ _ _ c.requires.kind c.offset-start.ensures
+
+pub overflow_add-start : goal.overflow_add-start
+overflow_add-start c = omega (arith, (there (goal.at.overflow_add-start c).After-offset-start).inside)
+
+pub bounds-image-start : goal.bounds-image-start
+bounds-image-start c = omega (arith, (there (goal.at.bounds-image-start c).After-offset-start).inside)
+
+pub overflow_add-start-2 : goal.overflow_add-start-2
+overflow_add-start-2 c = omega (arith, (there (goal.at.overflow_add-start-2 c).After-offset-start).inside)
+
+pub identifier_at-fst-requires : goal.identifier_at-fst-requires
+identifier_at-fst-requires c = record { width = c.requires.ready.id.1; inside = omega (arith, (there (goal.at.identifier_at-fst-requires c).After-offset-start).inside) }
+
+pub overflow_add-start-3 : goal.overflow_add-start-3
+overflow_add-start-3 c = omega (arith, (there (goal.at.overflow_add-start-3 c).After-offset-start).inside)
+
+pub second_at-snd-requires : goal.second_at-snd-requires
+second_at-snd-requires c = record { width = c.requires.ready.id.1; operand = _; stands = (there (goal.at.second_at-snd-requires c).After-offset-start).snd-at }
+
+pub returns : goal.returns
+returns c =
+    let t = there (goal.at.returns c).After-offset-start in
+    let q = code-known sort_code_lem sorts t.sort sort_exact c.sort_of-sort.ensures t.sort-at in
+    let f = c.identifier_at-fst.ensures.is _ t.fst-at in
+    let j = c.second_at-snd.ensures.is _ t.snd-at in
+    t.is ∙ sym (λ i. ifc (q i) (f i) (j i))

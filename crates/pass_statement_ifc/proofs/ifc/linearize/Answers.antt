@@ -1,0 +1,27 @@
+-- `linearize` of an IfC meets its contract. Assumes nothing.
+use native.Mathlib.Omega.{arith}
+use borrow.Author.Rules.{rules}
+use Rattle.pass_records.specs.Unpacked.{second_is}
+use Rattle.pass_statement_ifc.proofs.IfCLaws.{ifc-leaves}
+use Rattle.pass_statement_ifc.proofs.ifc.linearize.Goals as goal
+
+pub ifc-statement-requires : goal.ifc-statement-requires
+ifc-statement-requires c = c.requires.0.at
+
+pub used-fst-requires : goal.used-fst-requires
+used-fst-requires c = omega (arith, c.requires.1.0.room)
+
+pub second-snd-requires : goal.second-snd-requires
+second-snd-requires c = omega (arith, c.requires.1.0.room)
+
+pub put_ifc-next-requires : goal.put_ifc-next-requires
+put_ifc-next-requires c = let h = c.requires in (omega (arith, h.1.1.at), omega (arith, h.0.at.ready.id.1))
+
+pub note-requires : goal.note-requires
+note-requires c =
+    (omega (arith, c.put_ifc-next.ensures.ends), omega (arith, c.requires.1.1.count))
+
+pub returns : goal.returns
+returns c =
+    let a = c.ifc-statement.result in
+    ifc-leaves a.sort a.fst (second_is a.snd) _ c.ifc-statement.ensures c.used-fst.ensures c.second-snd.ensures c.put_ifc-next.ensures c.note.ensures

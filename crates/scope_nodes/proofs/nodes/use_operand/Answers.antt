@@ -1,0 +1,12 @@
+-- `use_operand` meets its contract. Assumes nothing.
+use mathlib.Core.Path.{ap, ◌∙◌}
+use mathlib.Core.List.{[], ◌∷◌}
+use Rattle.syntax.specs.declared.names.Identifier.{Identifier}
+use borrow.Author.Rules.{rules}
+use Rattle.scope_places.specs.Scoping.{scope_in, used_all_lem}
+use Rattle.scope_nodes.proofs.nodes.use_operand.Goals as goal
+
+pub returns : goal.returns
+returns c =
+    let a = c.args in
+    c.use_one.ensures ∙ ap (λ (y : Identifier). used_all_lem (scope_in a.n a.scope.now) (y.id ∷ []) a.u) c.operand-x.ensures

@@ -1,0 +1,47 @@
+use Rattle.std.proofs.Common.{◌≡◌, ◌+◌, ◌*◌, length}
+use Rattle.std.proofs.lemmas.List.Edits.{sets}
+use Rattle.model.specs.FreeVars.{free_vars_clauses}
+use Rattle.image_spec.specs.Parse.{each, All}
+use Rattle.image_spec.specs.Shape.{flatten, flatten_clauses}
+use Rattle.image_directory.specs.Slots.{records_in}
+use Rattle.image_places_spec.specs.Places.{clauses_at, bodies_at}
+use Rattle.image_places_spec.proofs.Steps.{ClausesLeft, BodiesLeft}
+use Rattle.scope_spec.specs.Walk.{walk_clauses, walk_bodies}
+use Rattle.scope_spec.specs.FreeRows.{mask_of, free_bodies, rows_clauses, rows_bodies}
+use Rattle.scope_places.specs.Scoping.{scope_in, Kept}
+use Rattle.scope_walk.specs.Masks.{Sourced, SourcedClauses}
+use Rattle.scope_walk.proofs.WalkSteps.{WalksClauses, WalksBodies}
+use Rattle.scope_walk.proofs.walk.+bodies_clauses_statement.Given as goal
+
+abbrev pub decreases-bodies : goal.decreases-bodies
+decreases-bodies l = 2 * l.depth + 1
+
+abbrev pub decreases-clauses : goal.decreases-clauses
+decreases-clauses l = 2 * l.depth + 1
+
+abbrev pub decreases-statement : goal.decreases-statement
+decreases-statement l = 2 * l.depth
+
+abbrev pub invariant-bodies-loop-left : goal.invariant-bodies-loop-left
+invariant-bodies-loop-left l =
+    let Δ = scope_in l.n l.initial.scope in
+    let ts = bodies_at l.depth l.count (records_in l.frame l.image) l.i in
+    Kept l.n l.initial.scope l.scope
+    × ((length l.rows ≡ length l.initial.rows)
+    × BodiesLeft l.depth (records_in l.frame l.image) (l.i + length (each flatten ts)) l.left l.here.next
+    (WalksBodies (All (Sourced Δ) ts) l.max_id Δ (walk_bodies ts l.max_id Δ l.initial.here.verdict) (mask_of (free_bodies ts) Δ) (sets l.initial.rows (2 * l.i) (rows_bodies ts Δ)) l.rows l.here))
+
+abbrev pub decreases-bodies-loop-left : goal.decreases-bodies-loop-left
+decreases-bodies-loop-left l = l.left
+
+abbrev pub invariant-clauses-loop-left : goal.invariant-clauses-loop-left
+invariant-clauses-loop-left l =
+    let Δ = scope_in l.n l.initial.scope in
+    let cs = clauses_at l.depth l.count (records_in l.frame l.image) l.i in
+    Kept l.n l.initial.scope l.scope
+    × ((length l.rows ≡ length l.initial.rows)
+    × ClausesLeft l.depth (records_in l.frame l.image) (l.i + length (flatten_clauses cs)) l.left l.here.next
+    (WalksClauses (SourcedClauses Δ cs) l.max_id Δ (walk_clauses cs l.max_id Δ l.initial.here.verdict) (mask_of (free_vars_clauses cs) Δ) (sets l.initial.rows (2 * l.i) (rows_clauses cs Δ)) l.rows l.here))
+
+abbrev pub decreases-clauses-loop-left : goal.decreases-clauses-loop-left
+decreases-clauses-loop-left l = l.left

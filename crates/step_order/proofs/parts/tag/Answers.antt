@@ -1,0 +1,17 @@
+-- `tag` meets its contract. Assumes nothing.
+use Rattle.image_read_nodes.proofs.NodeLaws.{identifier-room}
+use Rattle.step_order.proofs.PartLaws.{tag-there, tag_is}
+use borrow.Author.Rules.{rules}
+use Rattle.step_order.proofs.parts.tag.Goals as goal
+
+pub identifier-requires : goal.identifier-requires
+identifier-requires c =
+    let a = c.args in
+    let h = c.requires in
+    (h.ready, (h.inside, identifier-room a.frame a.image.now a.i _ (tag-there a.frame a.image.now a.i h)))
+
+pub returns : goal.returns
+returns c =
+    let a = c.args in
+    let h = c.requires in
+    tag_is a.frame a.image.now a.i h (c.identifier.ensures.is _ (tag-there a.frame a.image.now a.i h))

@@ -1,0 +1,31 @@
+-- `create` meets its contract. Assumes nothing.
+use mathlib.Core.Path.{sym, ◌∙◌}
+use Rattle.image_read_nodes.specs.Nodes.{record_at}
+use Rattle.step_rows.specs.Rows.{ids_in}
+use Rattle.step_rows.specs.RecordRows.{environment_of}
+use Rattle.step_rows.proofs.RecordRowLaws.{Entered, environment_none, environment_some}
+use Rattle.step_order.proofs.OrderlyLaws.{create_none, create_is}
+use borrow.Author.Rules.{rules}
+use Rattle.step_order.proofs.statements.create.Goals as goal
+use Rattle.step_order.proofs.statements.create.Goals.{In-Listed}
+
+-- the environment that was found
+entered : (c : In-Listed) →
+    let a = c.args in
+    Entered a.image.now c.in-Listed.listed (environment_of (record_at a.frame a.image.now a.i))
+entered c = environment_some c.environment_row.ensures c.in-Listed.is
+
+pub replaces-requires : goal.replaces-requires
+replaces-requires c = ((entered (goal.at.replaces-requires c).In-Listed).holds.inside, c.requires.1)
+
+pub returns-in-Absent : goal.returns-in-Absent
+returns-in-Absent c =
+    let a = c.args in
+    sym (create_none (record_at a.frame a.image.now a.i) (ids_in a.store.now a.row) c.requires.0.kind (environment_none c.environment_row.ensures c.in-Absent.is))
+
+pub returns-in-Listed : goal.returns-in-Listed
+returns-in-Listed c =
+    let a = c.args in
+    let n = entered (goal.at.returns-in-Listed c).In-Listed in
+    c.replaces.ensures
+    ∙ sym (create_is (record_at a.frame a.image.now a.i) (ids_in a.store.now a.row) n.context c.requires.0.kind n.is n.holds.ids c.first-var.ensures)

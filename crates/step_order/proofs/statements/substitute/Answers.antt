@@ -1,0 +1,34 @@
+-- `substitute` meets its contract. Assumes nothing.
+use mathlib.Core.Path.{◌≡◌, sym, ap, ◌∙◌}
+use mathlib.Core.List.{List}
+use Rattle.syntax.specs.Sets.{distinct}
+use Rattle.syntax.specs.declared.names.VarId.{VarId}
+use Rattle.model.specs.Linear.{present, targets, sources}
+use Rattle.image_read_nodes.specs.Nodes.{record_at}
+use Rattle.step_rows.specs.Rows.{ids_in}
+use Rattle.step_rows.specs.RecordRows.{pairs_of}
+use Rattle.step_order.proofs.ListLaws.{and_both, and_not}
+use Rattle.step_order.proofs.OrderlyLaws.{substitute_is}
+use borrow.Author.Rules.{rules}
+use Rattle.step_order.proofs.statements.substitute.Goals as goal
+use Rattle.step_order.proofs.statements.substitute.Goals.{After-distinct}
+
+-- what was asked of the targets
+asked : (c : After-distinct) →
+    let a = c.args in
+    c.distinct.result ≡ distinct (targets (pairs_of (record_at a.frame a.image.now a.i)))
+asked c = c.distinct.ensures ∙ ap distinct c.target_row-targets.ensures.ids
+
+pub returns-then-distinct : goal.returns-then-distinct
+returns-then-distinct c =
+    let a = c.args in
+    let l = ids_in a.store.now a.row in
+    and_both (asked (goal.at.returns-then-distinct c).After-distinct) c.if-distinct.true (c.all_present.ensures ∙ ap (λ (xs : List VarId). present xs l) c.source_row-sources.ensures.ids)
+    ∙ sym (substitute_is (record_at a.frame a.image.now a.i) l c.requires.0.kind)
+
+pub returns : goal.returns
+returns c =
+    let a = c.args in
+    let l = ids_in a.store.now a.row in
+    let r = record_at a.frame a.image.now a.i in
+    and_not (asked (goal.at.returns c).After-distinct) (present (sources (pairs_of r)) l) c.if-distinct.false ∙ sym (substitute_is r l c.requires.0.kind)

@@ -1,0 +1,10 @@
+-- `stops_entering` meets its contract. Assumes nothing.
+use Rattle.step_order.proofs.StopLaws.{reads-stored, others-go}
+use borrow.Author.Rules.{rules}
+use Rattle.step_order.proofs.stops_entering.Goals as goal
+
+pub returns-in-3 : goal.returns-in-3
+returns-in-3 c = c.call.ensures c.args.store.now
+
+pub returns-in_default : goal.returns-in_default
+returns-in_default c = record { is = λ P l p o e g. others-go p (reads-stored o e g) c.requires.0 c.in_default.in_default-own.rest }

@@ -1,0 +1,14 @@
+-- `target_row` meets its contract. Assumes nothing.
+use borrow.Author.Rules.{rules}
+use native.Mathlib.Omega.{arith}
+use Rattle.step_rows.proofs.RecordRowLaws.{target_written, counted-inside, counted-row, pairs-there}
+use Rattle.step_rows.proofs.records.target_row.Goals as goal
+
+pub counted_row-requires : goal.counted_row-requires
+counted_row-requires c =
+    counted-inside (target_written c.args.frame.id) (pairs-there c.args.frame c.args.image.now c.args.i c.tail_at-at.ensures c.requires)
+
+pub returns : goal.returns
+returns c =
+    let h = pairs-there c.args.frame c.args.image.now c.args.i c.tail_at-at.ensures c.requires in
+    counted-row (target_written c.args.frame.id) h c.requires.ready.id.1 (omega arith) c.counted_row.ensures

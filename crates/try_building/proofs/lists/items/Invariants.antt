@@ -1,0 +1,12 @@
+use borrow.Author.Rules.{rules}
+use Prim.Native.Nat.{◌-◌, ◌≤◌}
+use mathlib.Core.Path.{◌≡◌}
+use native.Mathlib.Omega.{arith}
+use lib.ListN.{length}
+use Rattle.try_building.proofs.lists.items.Given as goal
+
+abbrev pub invariant-loop : goal.invariant-loop
+invariant-loop l = (length l.out ≡ length l.initial.out) × (l.counter ≤ 64)
+
+abbrev pub decreases-loop : goal.decreases-loop
+decreases-loop l = 64 - l.counter
