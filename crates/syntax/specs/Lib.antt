@@ -9,3 +9,4 @@ pub mod FilterLoop
 pub mod Fresh
 pub mod Arrays
 pub mod Rows
+pub mod Options
