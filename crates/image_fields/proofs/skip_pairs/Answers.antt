@@ -1,0 +1,42 @@
+use Rattle.std.proofs.Common.{◌≡◌, ◌-◌, arith, sym, ap, ◌∙◌, [], Some, None}
+use Rattle.image_spec.specs.Parse.{times}
+use Rattle.image_spec.specs.Fields.{pair}
+use Rattle.image_spec.proofs.FieldLaws.{pair_exact}
+use Rattle.image_fields.specs.Found.{stop}
+use Rattle.image_fields.proofs.Stops.{stop-times, stop_none, stop-within, turn-goes, turn-stops}
+use Rattle.image_fields.proofs.FieldStops.{stop-pair}
+use Rattle.image_fields.proofs.skip_pairs.Goals as goal
+
+pub returns-in_err-old : goal.returns-in_err-old
+returns-in_err-old c =
+    let a = c.args in
+    let s = a.bytes.now in
+    let l = c.loop in
+    let e : stop (pair a.w) s l.here ≡ None = rw (stop-pair a.w s l.here, ← c.skip_binding.ensures) (rw c.in_err-old.was) in
+    cc (turn-stops (λ n. stop (times n (pair a.w)) s) (stop (pair a.w) s) (λ n. stop-times (pair_exact a.w) n s) _ a.n l.counter l.here (omega arith) l.invariant.1 e, c.from_residual.ensures)
+
+pub returns-in_err-here : goal.returns-in_err-here
+returns-in_err-here c =
+    let a = c.args in
+    let s = a.bytes.now in
+    let l = c.loop in
+    let e : stop (pair a.w) s l.here ≡ None = rw (stop-pair a.w s l.here, ← c.skip_binding.ensures, c.in_ok-old.was, ← c.skip_identifier.ensures) c.in_err-here.was in
+    cc (turn-stops (λ n. stop (times n (pair a.w)) s) (stop (pair a.w) s) (λ n. stop-times (pair_exact a.w) n s) _ a.n l.counter l.here (omega arith) l.invariant.1 e, c.from_residual-in_err-here.ensures)
+
+pub loop-preserved : goal.loop-preserved
+loop-preserved c =
+    let a = c.args in
+    let s = a.bytes.now in
+    let l = c.loop in
+    let e : stop (pair a.w) s l.here ≡ Some c.in_ok-here.here = rw (stop-pair a.w s l.here, ← c.skip_binding.ensures, c.in_ok-old.was, ← c.skip_identifier.ensures) c.in_ok-here.was in (
+      stop-within (pair a.w) s l.here _ e,
+      turn-goes (λ n. stop (times n (pair a.w)) s) (stop (pair a.w) s) (λ n. stop-times (pair_exact a.w) n s) _ a.n l.counter l.here _ (omega arith) l.invariant.1 e,
+    )
+
+pub returns : goal.returns
+returns c =
+    let a = c.args in
+    let s = a.bytes.now in
+    let l = c.loop in
+    let z : a.n - l.counter ≡ 0 = omega arith in
+    sym (l.invariant.1 ∙ (ap (λ n. stop (times n (pair a.w)) s l.here) z ∙ stop_none [] s l.here l.invariant.0))
