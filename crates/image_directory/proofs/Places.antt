@@ -1,5 +1,6 @@
 -- The record at a place of an image that has passed questions 1 to 4: where its pair and its bytes are, and what its kind byte and
 -- its last byte say (`seen`, `spot`). Assumes nothing.
+use Rattle.std.specs.Prelude.{Option, Some, None}
 use Prim.Native.Nat.{ℕ, zero, suc, ◌+◌, ◌-◌, ◌*◌, ◌≤◌, ◌<◌}
 use mathlib.Core.List.{List, [], ◌∷◌}
 use mathlib.Core.Bool.{true, cond}
@@ -20,7 +21,6 @@ use Rattle.image_spec.proofs.DirectoryLaws.{and_left, and_right, there}
 use Rattle.image_directory.specs.Slots.{slot_at, formed_from, records_in, Ready}
 use Rattle.image_directory.specs.declared.Frame.{Frame}
 use Rattle.image_directory.specs.declared.Slot.{Slot}
-use Rattle.image_directory.specs.declared.Slot.TheVariants.{Here, Short}
 use Rattle.image_directory.proofs.Tiling.{tiled-step, tiled-short, tiled_le, tiled-next, records-step, formed-step, records-end}
 
 record Decoded (w : ℕ) (l : List ℕ) : Type 0 where
@@ -35,6 +35,9 @@ decoded w l h =
     let f = encode_decode w l d.0 d.1 in
     record { head = d.0; is = d.1; ok = f.0; bytes = f.1 }
 
+abbrev at_size : ℕ → ℕ → Slot
+at_size o z = record { offset = o; size = z }
+
 -- the records that begin at a place of the directory and of the body are there
 module _ (w p : ℕ) (s : List ℕ) where
   record Rest (n at here : ℕ) : Type 0 where
@@ -48,38 +51,38 @@ module _ (w p : ℕ) (s : List ℕ) where
     size : ℕ
     head : Record
     ok : RecordOk w head
-    slot : slot_at p at s ≡ Here here size
+    slot : slot_at p at s ≡ Some (record { offset = here; size = size })
     bytes : take size (drop here s) ≡ record_bytes w head
     fits : here + size ≤ length s
     list : record_list n at here ≡ head ∷ record_list (n - 1) (at + (p + p)) (here + size)
     others : Rest (n - 1) (at + (p + p)) (here + size)
 
-  list-step : (n at here o z : ℕ) (r : Record) (rs : List Record) → 0 < n → slot_at p at s ≡ Here o z → decode_record w (take z (drop here s)) ≡ some r
-      → records_from w p (n - 1) (at + (p + p)) (here + z) s ≡ some rs → record_list n at here ≡ r ∷ record_list (n - 1) (at + (p + p)) (here + z)
+  list-step : (n at here : ℕ) (v : Slot) (r : Record) (rs : List Record) → 0 < n → slot_at p at s ≡ Some v → decode_record w (take v.size (drop here s)) ≡ some r
+      → records_from w p (n - 1) (at + (p + p)) (here + v.size) s ≡ some rs → record_list n at here ≡ r ∷ record_list (n - 1) (at + (p + p)) (here + v.size)
   unfolding record_list
-  list-step n at here o z r rs t q d m = rw (records-step p s w n at here o z t q, d, m)
+  list-step n at here v r rs t q d m = rw (records-step p s w n at here v t q, d, m)
 
   first : (n at here : ℕ) → 0 < n → Rest n at here → First n at here
   unfolding record_list formed_from
   first n at here t h = go (slot_at p at s) refl
     where
-      go : (v : Slot) → slot_at p at s ≡ v → First n at here
-      go Short q = let e = tiled-short p s n at here t q in let z : ◌≡◌ {A = ℕ} 0 1 = cc (e, h.tiled) in absurd (omega arith)
-      go (Here o z) q =
-          let a : o ≡ here = eqb-true o here (and_left _ _ (sym (tiled-step p s n at here o z t q) ∙ h.tiled)) in
-          let u = tiled-next p s n at here o z t q h.tiled in
-          let f = sym (formed-step p s w n at here o z t q) ∙ h.formed in
-          let d = decoded w (take z (drop here s)) (and_left _ _ f) in
-          let g : formed_from w p (n - 1) (at + (p + p)) (here + z) s ≡ true = and_right (is_some (decode_record w (take z (drop here s)))) _ f in
-          let m = there (records_from w p (n - 1) (at + (p + p)) (here + z) s) g in
+      go : (o : Option Slot) → slot_at p at s ≡ o → First n at here
+      go None q = let e = tiled-short p s n at here t q in absurd (cc (e, h.tiled))
+      go (Some v) q =
+          let a : v.offset ≡ here = eqb-true v.offset here (and_left _ _ (sym (tiled-step p s n at here v t q) ∙ h.tiled)) in
+          let u = tiled-next p s n at here v t q h.tiled in
+          let f = sym (formed-step p s w n at here v t q) ∙ h.formed in
+          let d = decoded w (take v.size (drop here s)) (and_left _ _ f) in
+          let g : formed_from w p (n - 1) (at + (p + p)) (here + v.size) s ≡ true = and_right (is_some (decode_record w (take v.size (drop here s)))) _ f in
+          let m = there (records_from w p (n - 1) (at + (p + p)) (here + v.size) s) g in
           record {
-            size = z;
+            size = v.size;
             head = d.head;
             ok = d.ok;
-            slot = q ∙ ap (λ x. Here x z) a;
+            slot = q ∙ ap (λ (x : ℕ). Some (at_size x v.size)) a;
             bytes = d.bytes;
             fits = tiled_le p s _ _ _ u;
-            list = list-step n at here o z d.head m.0 t q d.is m.1;
+            list = list-step n at here v d.head m.0 t q d.is m.1;
             others = record { tiled = u; formed = g };
           }
 
@@ -143,7 +146,7 @@ pub record Seen (g : Frame) (s : List ℕ) (i : ℕ) : Type 0 where
   pub ok : RecordOk g.id head
   pub bytes : take size (drop offset s) ≡ record_bytes g.id head
   pub tail : List Record
-  pub slot : slot_at g.place (g.from + i * (g.place + g.place)) s ≡ Here offset size
+  pub slot : slot_at g.place (g.from + i * (g.place + g.place)) s ≡ Some (record { offset = offset; size = size })
   pub fits : offset + size ≤ length s
   pub list : drop i (records_in g s) ≡ head ∷ tail
 
@@ -178,32 +181,33 @@ unseen g s i h t =
     ap (λ x. drop x (records_in g s)) (sym k) ∙ (sym (drop-drop (i - n) n (records_in g s)) ∙ (ap (drop (i - n)) e ∙ drop-nil (i - n)))
 
 -- the same, at the pair that was read
-pub record Spot (g : Frame) (s : List ℕ) (i o z : ℕ) : Type 0 where
+pub record Spot (g : Frame) (s : List ℕ) (i : ℕ) (v : Slot) : Type 0 where
   pub head : Record
   pub ok : RecordOk g.id head
-  pub bytes : take z (drop o s) ≡ record_bytes g.id head
+  pub bytes : take v.size (drop v.offset s) ≡ record_bytes g.id head
   pub list : drop i (records_in g s) ≡ head ∷ drop (i + 1) (records_in g s)
-  pub fits : o + z ≤ length s
-  pub says : Says s o z head
+  pub fits : v.offset + v.size ≤ length s
+  pub says : Says s v.offset v.size head
 
-pub spot : (g : Frame) (s : List ℕ) (i o z : ℕ) → Ready g s → i < g.count → slot_at g.place (g.from + i * (g.place + g.place)) s ≡ Here o z → Spot g s i o z
-spot g s i o z h t q = go (seen g s i h t)
+pub spot : (g : Frame) (s : List ℕ) (i : ℕ) (v : Slot) → Ready g s → i < g.count → slot_at g.place (g.from + i * (g.place + g.place)) s ≡ Some v → Spot g s i v
+spot g s i v h t q = go (seen g s i h t)
   where
-    go : Seen g s i → Spot g s i o z
-    go v =
-        let a : v.offset ≡ o = cc (v.slot, q) in
-        let b : v.size ≡ z = cc (v.slot, q) in
+    go : Seen g s i → Spot g s i v
+    go y =
+        let e : ◌≡◌ {A = Slot} (record { offset = y.offset; size = y.size }) v = cc (y.slot, q) in
+        let a : y.offset ≡ v.offset = ap (λ (x : Slot). x.offset) e in
+        let b : y.size ≡ v.size = ap (λ (x : Slot). x.size) e in
         record {
-          head = v.head;
-          ok = v.ok;
-          bytes = rw (a, b) at v.bytes;
-          list = v.list ∙ ap (λ l. v.head ∷ l) (sym (ap (drop 1) v.list) ∙ drop-drop 1 i (records_in g s));
-          fits = rw (a, b) at v.fits;
-          says = rw (a, b) at (says g.id s v.offset v.size v.head v.bytes v.fits);
+          head = y.head;
+          ok = y.ok;
+          bytes = rw (a, b) at y.bytes;
+          list = y.list ∙ ap (λ l. y.head ∷ l) (sym (ap (drop 1) y.list) ∙ drop-drop 1 i (records_in g s));
+          fits = rw (a, b) at y.fits;
+          says = rw (a, b) at (says g.id s y.offset y.size y.head y.bytes y.fits);
         }
 
-pub no_short : (g : Frame) (s : List ℕ) (i : ℕ) → Ready g s → i < g.count → slot_at g.place (g.from + i * (g.place + g.place)) s ≡ Short → ⊥
-no_short g s i h t q = let v = seen g s i h t in let z : ◌≡◌ {A = ℕ} 0 1 = cc (v.slot, q) in omega arith
+pub no_short : (g : Frame) (s : List ℕ) (i : ℕ) → Ready g s → i < g.count → slot_at g.place (g.from + i * (g.place + g.place)) s ≡ None → ⊥
+no_short g s i h t q = let v = seen g s i h t in cc (v.slot, q)
 
 -- the directory is small
 pub place-small : (i p : ℕ) → i ≤ 4000 → p ≤ 4 → i * (p + p) ≤ 32000

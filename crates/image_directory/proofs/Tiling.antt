@@ -1,8 +1,9 @@
 -- The steps of the loops over the directory. Assumes nothing.
+use Rattle.std.specs.Prelude.{Some, None}
 use Prim.Native.Nat.{ℕ, zero, suc, ◌+◌, ◌-◌, ◌≤◌, ◌<◌}
 use mathlib.Core.List.{List, [], ◌∷◌}
 use mathlib.Core.Bool.{Bool, true, false, ◌&&◌}
-use mathlib.Core.Option.{Option, none, some}
+use mathlib.Core.Option.{Option as Optional, none, some}
 use mathlib.Core.Path.{◌≡◌, refl, ap, sym, ◌∙◌}
 use native.Mathlib.Omega.{arith}
 use borrow.Author.Tests.{eq-eqb, ne_eqb}
@@ -15,7 +16,7 @@ use Rattle.image_spec.specs.Image.{if_got, if_some, is_some, Entry, entry_bytes,
 use Rattle.image_spec.proofs.ParseLaws.{Sound, none_read, one-read}
 use Rattle.image_spec.proofs.DirectoryLaws.{and_right, EntryOk, entry_exact, entry_length, tiles_le}
 use Rattle.image_directory.specs.Slots.{slot_of, slot_at, formed_from}
-use Rattle.image_directory.specs.declared.Slot.TheVariants.{Here, Short}
+use Rattle.image_directory.specs.declared.Slot.{Slot}
 
 -- bytes that are too few are refused
 refuses-short : {A : Type 0} {e : A → List ℕ} {P : A → Type 0} {l : List ℕ} {r : Parsed ℕ A} (k : ℕ) → Sound e P l r
@@ -29,36 +30,38 @@ and-false true = refl
 and-false false = refl
 
 -- one record and the others
-abbrev pub and_more : Option Record → Option (List Record) → Option (List Record)
+abbrev pub and_more : Optional Record → Optional (List Record) → Optional (List Record)
 and_more a b = if_some a none (λ r. if_some b none (λ rs. some (r ∷ rs)))
 
-and_more_none : (a : Option Record) → and_more a none ≡ none
+and_more_none : (a : Optional Record) → and_more a none ≡ none
 and_more_none none = refl
 and_more_none (some a) = refl
 
-some_more : (a : Option Record) (b : Option (List Record)) → is_some (and_more a b) ≡ (is_some a) && (is_some b)
+some_more : (a : Optional Record) (b : Optional (List Record)) → is_some (and_more a b) ≡ (is_some a) && (is_some b)
 some_more none b = refl
 some_more (some a) none = refl
 some_more (some a) (some b) = refl
 
 module _ (p : ℕ) (s : List ℕ) where
-  pub slot-short : (at : ℕ) → 0 < p → length s < at + (p + p) → slot_at p at s ≡ Short
+  pub slot-short : (at : ℕ) → 0 < p → length s < at + (p + p) → slot_at p at s ≡ None
   unfolding slot_at
   slot-short at t h =
       let k : length (drop at s) < p + p = rw length-drop (omega arith) in
       rw (refuses-short (p + p) ((entry_exact p).right (drop at s)) (entry_length p) k)
 
-  pub slot-here : (at o z : ℕ) (m : List ℕ) → number p (drop at s) ≡ got o (drop (at + p) s) → number p (drop (at + p) s) ≡ got z m → slot_at p at s ≡ Here o z
+  pub slot-here : (at o z : ℕ) (m : List ℕ) → number p (drop at s) ≡ got o (drop (at + p) s) → number p (drop (at + p) s) ≡ got z m
+      → slot_at p at s ≡ Some (record { offset = o; size = z })
   unfolding slot_at
   slot-here at o z m a b = rw (a, b)
 
   -- the entry that a slot has, and what follows it
-  entry_of : (at o z : ℕ) {r : Parsed ℕ Entry} → Sound (entry_bytes p) (EntryOk p) (drop at s) r → slot_of r ≡ Here o z
-      → (r ≡ got ((o, z)) (drop (at + (p + p)) s)) × (p + p ≤ length s - at)
-  entry_of at o z none_read h = let q : ◌≡◌ {A = ℕ} 0 1 = cc in absurd (omega arith)
-  entry_of at o z (one-read {a = e} {m = m} pa ea) h =
-      let ho : e.0 ≡ o = cc in
-      let hz : e.1 ≡ z = cc in
+  entry_of : (at : ℕ) (v : Slot) {r : Parsed ℕ Entry} → Sound (entry_bytes p) (EntryOk p) (drop at s) r → slot_of r ≡ Some v
+      → (r ≡ got ((v.offset, v.size)) (drop (at + (p + p)) s)) × (p + p ≤ length s - at)
+  entry_of at v none_read h = absurd (cc)
+  entry_of at v (one-read {a = e} {m = m} pa ea) h =
+      let q : ◌≡◌ {A = Slot} (record { offset = e.0; size = e.1 }) v = cc in
+      let ho : e.0 ≡ v.offset = ap (λ (x : Slot). x.offset) q in
+      let hz : e.1 ≡ v.size = ap (λ (x : Slot). x.size) q in
       let k : m ≡ drop (at + (p + p)) s = sym (drop_at (entry_bytes p e) m (p + p) (entry_length p e)) ∙ (ap (drop (p + p)) (sym ea) ∙ drop-drop (p + p) at s) in (
         (λ i. got (ho i, hz i) (k i)),
         omega (arith, sym (length-drop at s) ∙ (ap length ea ∙ length-append (entry_bytes p e) m), entry_length p e),
@@ -69,49 +72,49 @@ module _ (p : ℕ) (s : List ℕ) where
     From : ℕ → ℕ → ℕ → R
     From n at here = if_got (times n (entry p) (drop at s)) d (λ es _. ask here es)
 
-    from-short : (n at here : ℕ) → 0 < n → slot_at p at s ≡ Short → From n at here ≡ d
+    from-short : (n at here : ℕ) → 0 < n → slot_at p at s ≡ None → From n at here ≡ d
     unfolding From slot_at
     from-short zero at here t h = absurd (omega arith)
     from-short (suc n) at here t h = go (entry p (drop at s)) h
       where
-        go : (r : Parsed ℕ Entry) → slot_of r ≡ Short → if_got (and_then r (λ e m. and_then (times n (entry p) m) (λ es k. got (e ∷ es) k))) d (λ es _. ask here es) ≡ d
+        go : (r : Parsed ℕ Entry) → slot_of r ≡ None → if_got (and_then r (λ e m. and_then (times n (entry p) m) (λ es k. got (e ∷ es) k))) d (λ es _. ask here es) ≡ d
         go refused h = refl
-        go (got e m) h = let q : ◌≡◌ {A = ℕ} 0 1 = cc in absurd (omega arith)
+        go (got e m) h = absurd (cc)
 
-    from_step : (f : R → R) → f d ≡ d → (n at here o z : ℕ) → 0 < n → slot_at p at s ≡ Here o z
-        → ((es : List Entry) → ask here ((o, z) ∷ es) ≡ f (ask (here + z) es))
-        → From n at here ≡ f (From (n - 1) (at + (p + p)) (here + z))
+    from_step : (f : R → R) → f d ≡ d → (n at here : ℕ) (v : Slot) → 0 < n → slot_at p at s ≡ Some v
+        → ((es : List Entry) → ask here ((v.offset, v.size) ∷ es) ≡ f (ask (here + v.size) es))
+        → From n at here ≡ f (From (n - 1) (at + (p + p)) (here + v.size))
     unfolding From slot_at
-    from_step f fd zero at here o z t h a = absurd (omega arith)
-    from_step f fd (suc n) at here o z t h a =
+    from_step f fd zero at here v t h a = absurd (omega arith)
+    from_step f fd (suc n) at here v t h a =
         let k : suc n - 1 ≡ n = omega arith in
-        rw ((entry_of at o z ((entry_exact p).right (drop at s)) h).0, k) (go (times n (entry p) (drop (at + (p + p)) s)))
+        rw ((entry_of at v ((entry_exact p).right (drop at s)) h).0, k) (go (times n (entry p) (drop (at + (p + p)) s)))
       where
         go : (r : Parsed ℕ (List Entry))
-            → if_got (and_then r (λ es m. got ((o, z) ∷ es) m)) d (λ es _. ask here es)
-            ≡ f (if_got r d (λ es _. ask (here + z) es))
+            → if_got (and_then r (λ es m. got ((v.offset, v.size) ∷ es) m)) d (λ es _. ask here es)
+            ≡ f (if_got r d (λ es _. ask (here + v.size) es))
         go refused = sym fd
         go (got es m) = a es
 
-  pub slot-room : (at o z : ℕ) → 0 < p → slot_at p at s ≡ Here o z → at + (p + p) ≤ length s
+  pub slot-room : (at : ℕ) (v : Slot) → 0 < p → slot_at p at s ≡ Some v → at + (p + p) ≤ length s
   unfolding slot_at
-  slot-room at o z t h = omega (arith, (entry_of at o z ((entry_exact p).right (drop at s)) h).1)
+  slot-room at v t h = omega (arith, (entry_of at v ((entry_exact p).right (drop at s)) h).1)
 
-  pub tiled-short : (n at here : ℕ) → 0 < n → slot_at p at s ≡ Short → tiled_from p n at here s ≡ false
+  pub tiled-short : (n at here : ℕ) → 0 < n → slot_at p at s ≡ None → tiled_from p n at here s ≡ false
   unfolding tiled_from From
   tiled-short n at here t h = from-short false (λ here es. tiles here es (length s)) n at here t h
 
-  pub tiled-step : (n at here o z : ℕ) → 0 < n → slot_at p at s ≡ Here o z
-      → tiled_from p n at here s ≡ (eqb o here) && (tiled_from p (n - 1) (at + (p + p)) (here + z) s)
+  pub tiled-step : (n at here : ℕ) (v : Slot) → 0 < n → slot_at p at s ≡ Some v
+      → tiled_from p n at here s ≡ (eqb v.offset here) && (tiled_from p (n - 1) (at + (p + p)) (here + v.size) s)
   unfolding tiled_from From
-  tiled-step n at here o z t h = from_step false (λ here es. tiles here es (length s)) (λ b. (eqb o here) && b) (and-false (eqb o here)) n at here o z t h (λ es. refl)
+  tiled-step n at here v t h = from_step false (λ here es. tiles here es (length s)) (λ b. (eqb v.offset here) && b) (and-false (eqb v.offset here)) n at here v t h (λ es. refl)
 
   pub tiled_le : (n at here : ℕ) → tiled_from p n at here s ≡ true → here ≤ length s
   unfolding tiled_from
   tiled_le n at here h = go (times n (entry p) (drop at s)) h
     where
       go : (r : Parsed ℕ (List Entry)) → if_got r false (λ es _. tiles here es (length s)) ≡ true → here ≤ length s
-      go refused h = let q : ◌≡◌ {A = ℕ} 0 1 = cc in absurd (omega arith)
+      go refused h = absurd (cc)
       go (got es m) h = tiles_le es here (length s) h
 
   pub tiled-past : (n at here : ℕ) → length s < here → tiled_from p n at here s ≡ false
@@ -126,38 +129,38 @@ module _ (p : ℕ) (s : List ℕ) where
   tiled-end n at here e = rw e
 
   -- an entry out of its place
-  pub tiled_off : (n at here o z : ℕ) → 0 < n → slot_at p at s ≡ Here o z → (o ≡ here → ⊥) → tiled_from p n at here s ≡ false
-  tiled_off n at here o z t h e = tiled-step n at here o z t h ∙ rw (ne_eqb o here e)
+  pub tiled_off : (n at here : ℕ) (v : Slot) → 0 < n → slot_at p at s ≡ Some v → (v.offset ≡ here → ⊥) → tiled_from p n at here s ≡ false
+  tiled_off n at here v t h e = tiled-step n at here v t h ∙ rw (ne_eqb v.offset here e)
 
   -- an entry in its place
-  pub tiled_on : (n at here o z : ℕ) → 0 < n → slot_at p at s ≡ Here o z → o ≡ here
-      → tiled_from p n at here s ≡ tiled_from p (n - 1) (at + (p + p)) (here + z) s
-  tiled_on n at here o z t h e = tiled-step n at here o z t h ∙ rw (eq-eqb o here e)
+  pub tiled_on : (n at here : ℕ) (v : Slot) → 0 < n → slot_at p at s ≡ Some v → v.offset ≡ here
+      → tiled_from p n at here s ≡ tiled_from p (n - 1) (at + (p + p)) (here + v.size) s
+  tiled_on n at here v t h e = tiled-step n at here v t h ∙ rw (eq-eqb v.offset here e)
 
-  pub tiled-next : (n at here o z : ℕ) → 0 < n → slot_at p at s ≡ Here o z → tiled_from p n at here s ≡ true
-      → tiled_from p (n - 1) (at + (p + p)) (here + z) s ≡ true
-  tiled-next n at here o z t h e = and_right (eqb o here) _ (sym (tiled-step n at here o z t h) ∙ e)
+  pub tiled-next : (n at here : ℕ) (v : Slot) → 0 < n → slot_at p at s ≡ Some v → tiled_from p n at here s ≡ true
+      → tiled_from p (n - 1) (at + (p + p)) (here + v.size) s ≡ true
+  tiled-next n at here v t h e = and_right (eqb v.offset here) _ (sym (tiled-step n at here v t h) ∙ e)
 
-  pub records-short : (w n at here : ℕ) → 0 < n → slot_at p at s ≡ Short → records_from w p n at here s ≡ none
+  pub records-short : (w n at here : ℕ) → 0 < n → slot_at p at s ≡ None → records_from w p n at here s ≡ none
   unfolding records_from From
   records-short w n at here t h = from-short none (λ here es. records_at w es (drop here s)) n at here t h
 
-  pub records-step : (w n at here o z : ℕ) → 0 < n → slot_at p at s ≡ Here o z
-      → records_from w p n at here s ≡ and_more (decode_record w (take z (drop here s))) (records_from w p (n - 1) (at + (p + p)) (here + z) s)
+  pub records-step : (w n at here : ℕ) (v : Slot) → 0 < n → slot_at p at s ≡ Some v
+      → records_from w p n at here s ≡ and_more (decode_record w (take v.size (drop here s))) (records_from w p (n - 1) (at + (p + p)) (here + v.size) s)
   unfolding records_from From records_at
-  records-step w n at here o z t h =
-      from_step none (λ here es. records_at w es (drop here s)) (λ b. and_more (decode_record w (take z (drop here s))) b)
-      (and_more_none (decode_record w (take z (drop here s)))) n at here o z t h (λ es. rw (drop-drop z here s))
+  records-step w n at here v t h =
+      from_step none (λ here es. records_at w es (drop here s)) (λ b. and_more (decode_record w (take v.size (drop here s))) b)
+      (and_more_none (decode_record w (take v.size (drop here s)))) n at here v t h (λ es. rw (drop-drop v.size here s))
 
-  pub formed-short : (w n at here : ℕ) → 0 < n → slot_at p at s ≡ Short → formed_from w p n at here s ≡ false
+  pub formed-short : (w n at here : ℕ) → 0 < n → slot_at p at s ≡ None → formed_from w p n at here s ≡ false
   unfolding formed_from
   formed-short w n at here t h = rw (records-short w n at here t h)
 
-  pub formed-step : (w n at here o z : ℕ) → 0 < n → slot_at p at s ≡ Here o z
-      → formed_from w p n at here s ≡ (is_some (decode_record w (take z (drop here s)))) && (formed_from w p (n - 1) (at + (p + p)) (here + z) s)
+  pub formed-step : (w n at here : ℕ) (v : Slot) → 0 < n → slot_at p at s ≡ Some v
+      → formed_from w p n at here s ≡ (is_some (decode_record w (take v.size (drop here s)))) && (formed_from w p (n - 1) (at + (p + p)) (here + v.size) s)
   unfolding formed_from
-  formed-step w n at here o z t h =
-      rw (records-step w n at here o z t h) (some_more (decode_record w (take z (drop here s))) (records_from w p (n - 1) (at + (p + p)) (here + z) s))
+  formed-step w n at here v t h =
+      rw (records-step w n at here v t h) (some_more (decode_record w (take v.size (drop here s))) (records_from w p (n - 1) (at + (p + p)) (here + v.size) s))
 
   pub records-end : (w n at here : ℕ) → n ≡ 0 → records_from w p n at here s ≡ some []
   unfolding records_from records_at
@@ -167,10 +170,10 @@ module _ (p : ℕ) (s : List ℕ) where
   unfolding formed_from
   formed-end w n at here e = rw (records-end w n at here e)
 
-  -- the step at what the check of the part from `here` to `here + z` says
-  pub formed-part : (w n at here o z : ℕ) (f : Bool) → 0 < n → slot_at p at s ≡ Here o z
-      → f ≡ is_some (decode_record w (take (here + z - here) (drop here s)))
-      → formed_from w p n at here s ≡ f && (formed_from w p (n - 1) (at + (p + p)) (here + z) s)
-  formed-part w n at here o z f t h e =
-      let k : here + z - here ≡ z = omega arith in
-      formed-step w n at here o z t h ∙ rw (e, k)
+  -- the step at what the check of the part from `here` to `here + v.size` says
+  pub formed-part : (w n at here : ℕ) (v : Slot) (f : Bool) → 0 < n → slot_at p at s ≡ Some v
+      → f ≡ is_some (decode_record w (take (here + v.size - here) (drop here s)))
+      → formed_from w p n at here s ≡ f && (formed_from w p (n - 1) (at + (p + p)) (here + v.size) s)
+  formed-part w n at here v f t h e =
+      let k : here + v.size - here ≡ v.size = omega arith in
+      formed-step w n at here v t h ∙ rw (e, k)

@@ -11,21 +11,19 @@ use Rattle.image_spec.specs.Fields.{max_count, chiralities, integer, identifier,
 use Rattle.image_spec.proofs.ParseLaws.{number_exact}
 use Rattle.image_spec.proofs.FieldLaws.{chirality_exact, identifier_exact, binding_exact}
 use Rattle.image_fields.specs.Found.{stop}
-use Rattle.image_fields.proofs.Stops.{stop-number, code-good, zero_pairs, stop-via, stop-both, stop-head, stop_bad, stop-past, stop-one_of, found-via}
+use Rattle.image_fields.proofs.Stops.{stop-number, code-good, zero_pairs, stop-via, stop-both, stop-head, stop_bad, stop-past, stop-one_of, found-via, onward, alike}
 
 pub stop-identifier : (w : ℕ) (s : List ℕ) (at : ℕ) → stop (identifier w) s at ≡ option_and_then (stop (number w) s) (stop (number 2) s at)
 unfolding identifier
 stop-identifier w s at = stop-via _ (both (number 2) (number w)) s at ∙ stop-both (number w) (number_exact 2) s at
 
 pub stop-binding : (w : ℕ) (s : List ℕ) (at : ℕ)
-    → stop (binding w) s at ≡ option_and_then (λ chirality. option_and_then (stop (type w) s) (stop (code 2) s chirality)) (stop (identifier w) s at)
+    → stop (binding w) s at ≡ option_and_then (stop (type w) s) (option_and_then (stop (code 2) s) (stop (identifier w) s at))
 unfolding binding
 stop-binding w s at =
     stop-via _ (both (identifier w) (both (one_of chiralities) (type w))) s at
-    ∙ (stop-both (both (one_of chiralities) (type w)) (identifier_exact w) s at ∙ ap (λ k. option_and_then k (stop (identifier w) s at)) (λ i c. rest c i))
-  where
-    rest : (c : ℕ) → stop (both (one_of chiralities) (type w)) s c ≡ option_and_then (stop (type w) s) (stop (code 2) s c)
-    rest c = stop-both (type w) chirality_exact s c ∙ ap (option_and_then (stop (type w) s)) (stop-one_of chiralities 2 s c refl)
+    ∙ (stop-both (both (one_of chiralities) (type w)) (identifier_exact w) s at
+    ∙ (onward _ _ _ (stop-both (type w) chirality_exact s) _ ∙ ap (option_and_then (stop (type w) s)) (alike _ _ (λ c. stop-one_of chiralities 2 s c refl) _)))
 
 pub type_none : (w : ℕ) (s : List ℕ) (at : ℕ) → length s ≤ at → stop (type w) s at ≡ None
 unfolding type

@@ -71,6 +71,15 @@ pub stop-both : {X A B : Type 0} {e : A → List X} {P : A → Type 0} {p : Pars
     → stop (both p q) s at ≡ option_and_then (stop q s) (stop p s at)
 stop-both {p = p} q x s at = both_then p q s at ∙ stop_then q x s at
 
+-- one step more, and a step under another name
+pub onward : (f g h : ℕ → Option ℕ) → ((at : ℕ) → h at ≡ option_and_then f (g at)) → (o : Option ℕ) → option_and_then h o ≡ option_and_then f (option_and_then g o)
+onward f g h e None = refl
+onward f g h e (Some at) = e at
+
+pub alike : (g h : ℕ → Option ℕ) → ((at : ℕ) → h at ≡ g at) → (o : Option ℕ) → option_and_then h o ≡ option_and_then g o
+alike g h e None = refl
+alike g h e (Some at) = e at
+
 pub chosen : (t : Bool) (end : ℕ) → then_some t end ≡ cond t (Some end) None
 chosen true end = refl
 chosen false end = refl

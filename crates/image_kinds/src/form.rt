@@ -12,6 +12,7 @@ use image_fields::{
 use image_spec::Layout;
 
 // Past what follows the kind byte k in a record.
+#[tactic(auto, using(crate::proofs::RecordStops::record_stops))]
 pub fn skip_content(bytes: &[u8], w: usize, k: u8) -> Option<usize>
     requires { w ≤ 8 }
     ensures { result ≡ stop (content w k) bytes.now 1 }
