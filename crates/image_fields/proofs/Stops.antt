@@ -80,6 +80,11 @@ pub alike : (g h : ℕ → Option ℕ) → ((at : ℕ) → h at ≡ g at) → (o
 alike g h e None = refl
 alike g h e (Some at) = e at
 
+-- a step that stays where it is
+pub kept : (f : ℕ → Option ℕ) (o : Option ℕ) → ((at : ℕ) → o ≡ Some at → f at ≡ Some at) → option_and_then f o ≡ o
+kept f None h = refl
+kept f (Some at) h = h at refl
+
 pub chosen : (t : Bool) (end : ℕ) → then_some t end ≡ cond t (Some end) None
 chosen true end = refl
 chosen false end = refl

@@ -1,4 +1,5 @@
 -- A record at a place of a list: its kind decides what the walk reads there. Assumes nothing.
+use Rattle.std.specs.Prelude.{Some, None}
 use Prim.Native.Nat.{ℕ, ◌+◌, ◌-◌, ◌≤◌, ◌<◌}
 use mathlib.Core.List.{List, [], ◌∷◌}
 use mathlib.Core.Bool.{Bool, true, false, cond}
@@ -13,61 +14,68 @@ use Rattle.image_spec.specs.Parse.{refused, got, Parser}
 use Rattle.image_spec.specs.Records.{Record, definition, substitute, call, let', switch, create, invoke, literal, op, ifc, clause', print, exit}
 use Rattle.image_spec.specs.Kinds.{kind_of, kinds, clauses_of}
 use Rattle.image_fields.specs.Found.{found_in, stop}
-use Rattle.image_fields.specs.declared.Found.TheVariants.{At, Nothing}
 use Rattle.image_spec.specs.Shape.{clause_head, definition_head}
 use Rattle.image_spec.proofs.KindLaws.{kind-below}
 use Rattle.image_fields.proofs.Stops.{stop_none, never-stops}
 use Rattle.image_directory.specs.Slots.{records_in, Ready}
 use Rattle.image_directory.specs.declared.Frame.{Frame}
+use Rattle.image_directory.specs.declared.Slot.{Slot}
 use Rattle.image_directory.proofs.Places.{records-length, Spot}
 use Rattle.image_shape.specs.Nodes.{node_of, IsHead, head_parser}
-use Rattle.image_shape.specs.declared.Node.TheVariants.{Is, End}
+use Rattle.image_shape.specs.declared.Node.{Node}
+
+abbrev node : ℕ → ℕ → Node
+node k c = record { kind = k; clauses = c }
 
 -- the node of the record at a place of an image
-pub spot_node : {g : Frame} {s : List ℕ} {i o z : ℕ} → Spot g s i o z
-    → node_of (drop i (records_in g s)) ≡ Is (get_or s o 0) (cond (eqb (get_or s o 0) 5) (get_or s (o + z - 1) 0) (cond (eqb (get_or s o 0) 6) (get_or s (o + z - 1) 0) 0))
-spot_node {s = s} {o = o} t = ap node_of t.list ∙ (ap (λ k. Is k (clauses_of t.head)) (sym t.says.kind) ∙ ap (Is (get_or s o 0)) t.says.count)
+pub spot_node : {g : Frame} {s : List ℕ} {i : ℕ} {v : Slot} → Spot g s i v
+    → node_of (drop i (records_in g s))
+    ≡ Some (record { kind = get_or s v.offset 0; clauses = cond (eqb (get_or s v.offset 0) 5) (get_or s (v.offset + v.size - 1) 0) (cond (eqb (get_or s v.offset 0) 6) (get_or s (v.offset + v.size - 1) 0) 0) })
+spot_node {s = s} {v = v} t =
+    ap node_of t.list ∙ (ap (λ k. Some (node k (clauses_of t.head))) (sym t.says.kind) ∙ ap (λ c. Some (node (get_or s v.offset 0) c)) t.says.count)
 
 -- what a list has at a place
-pub record Place (rs : List Record) (i k c : ℕ) : Type 0 where
+pub record Place (rs : List Record) (i : ℕ) (n : Node) : Type 0 where
   pub head : Record
   pub fits : i + 1 ≤ length rs
   pub list : drop i rs ≡ head ∷ drop (i + 1) rs
-  pub kind : k ≡ kind_of head
-  pub count : c ≡ clauses_of head
+  pub kind : n.kind ≡ kind_of head
+  pub count : n.clauses ≡ clauses_of head
 
-pub place : (rs : List Record) (i k c : ℕ) → node_of (drop i rs) ≡ Is k c → Place rs i k c
-place rs i k c h = go (drop i rs) refl h
+pub place : (rs : List Record) (i : ℕ) (n : Node) → node_of (drop i rs) ≡ Some n → Place rs i n
+place rs i n h = go (drop i rs) refl h
   where
-    go : (l : List Record) → drop i rs ≡ l → node_of l ≡ Is k c → Place rs i k c
-    go [] e h = let z : ◌≡◌ {A = ℕ} 0 1 = cc in absurd (omega arith)
-    go (r ∷ l) e h = record {
-      head = r;
-      fits = omega (arith, sym (length-drop i rs) ∙ ap length e);
-      list = e ∙ ap (λ z. r ∷ z) (sym (ap (drop 1) e) ∙ drop-drop 1 i rs);
-      kind = cc;
-      count = cc;
-    }
+    go : (l : List Record) → drop i rs ≡ l → node_of l ≡ Some n → Place rs i n
+    go [] e h = absurd (cc)
+    go (r ∷ l) e h =
+        let q : node (kind_of r) (clauses_of r) ≡ n = cc in
+        record {
+          head = r;
+          fits = omega (arith, sym (length-drop i rs) ∙ ap length e);
+          list = e ∙ ap (λ z. r ∷ z) (sym (ap (drop 1) e) ∙ drop-drop 1 i rs);
+          kind = ap (λ (x : Node). x.kind) (sym q);
+          count = ap (λ (x : Node). x.clauses) (sym q);
+        }
 
 -- a parser that reads the record at i and goes on as q
 pub at_record : {A B : Type 0} (p : Parser Record A) (q : Parser Record B) (rs : List Record) (i : ℕ) (r : Record) → i + 1 ≤ length rs
-    → drop i rs ≡ r ∷ drop (i + 1) rs → ((n : ℕ) (l : List Record) → found_in n (p (r ∷ l)) ≡ found_in n (q l)) → stop p rs (At i) ≡ stop q rs (At (i + 1))
+    → drop i rs ≡ r ∷ drop (i + 1) rs → ((n : ℕ) (l : List Record) → found_in n (p (r ∷ l)) ≡ found_in n (q l)) → stop p rs i ≡ stop q rs (i + 1)
 unfolding stop
 at_record p q rs i r h e f =
     let a : i ≤ length rs = omega arith in
     rw (le-leb _ _ a, le-leb _ _ h, e, f (length rs) (drop (i + 1) rs))
 
-pub at-end : {A : Type 0} (p : Parser Record A) (rs : List Record) (i : ℕ) → p [] ≡ refused → node_of (drop i rs) ≡ End → stop p rs (At i) ≡ Nothing
+pub at-end : {A : Type 0} (p : Parser Record A) (rs : List Record) (i : ℕ) → p [] ≡ refused → node_of (drop i rs) ≡ None → stop p rs i ≡ None
 unfolding stop
 at-end p rs i e h = go (drop i rs) refl h (leb i (length rs))
   where
-    go : (l : List Record) → drop i rs ≡ l → node_of l ≡ End → (t : Bool) → cond t (found_in (length rs) (p (drop i rs))) Nothing ≡ Nothing
+    go : (l : List Record) → drop i rs ≡ l → node_of l ≡ None → (t : Bool) → cond t (found_in (length rs) (p (drop i rs))) None ≡ None
     go [] q h true = rw (q, e)
     go [] q h false = refl
-    go (r ∷ l) q h t = let z : ◌≡◌ {A = ℕ} 0 1 = cc in absurd (omega arith)
+    go (r ∷ l) q h t = absurd (cc)
 
-pub kind-small : (rs : List Record) (i k c : ℕ) → node_of (drop i rs) ≡ Is k c → k < kinds
-kind-small rs i k c h = let p = place rs i k c h in rw p.kind (kind-below p.head)
+pub kind-small : (rs : List Record) (i : ℕ) (n : Node) → node_of (drop i rs) ≡ Some n → n.kind < kinds
+kind-small rs i n h = let p = place rs i n h in rw p.kind (kind-below p.head)
 
 clause-yes : (r : Record) → kind_of r ≡ 11 → (n : ℕ) (l : List Record) → found_in n (clause_head (r ∷ l)) ≡ found_in {A = ℕ} n (got 0 l)
 clause-yes (definition i bs) h n l = absurd (omega arith)
@@ -143,22 +151,19 @@ head-empty k (inl e) = rw e refl
 head-empty k (inr e) = rw e refl
 
 module _ (w : ℕ) (o : IsHead w) (rs : List Record) (i : ℕ) where
-  pub head-here : (k c : ℕ) → node_of (drop i rs) ≡ Is k c → k ≡ w → stop (head_parser w) rs (At i) ≡ At (i + 1)
-  head-here k c h e =
-      let v = place rs i k c h in
-      at_record {B = ℕ} (head_parser w) (λ l. got 0 l) rs i v.head v.fits v.list (head-yes w o v.head (sym v.kind ∙ e)) ∙ stop_none {A = ℕ} 0 rs (At (i + 1)) v.fits
+  pub head-here : (n : Node) → node_of (drop i rs) ≡ Some n → n.kind ≡ w → stop (head_parser w) rs i ≡ Some (i + 1)
+  head-here n h e =
+      let v = place rs i n h in
+      at_record {B = ℕ} (head_parser w) (λ l. got 0 l) rs i v.head v.fits v.list (head-yes w o v.head (sym v.kind ∙ e)) ∙ stop_none {A = ℕ} 0 rs (i + 1) v.fits
 
-  pub head-other : (k c : ℕ) → node_of (drop i rs) ≡ Is k c → (k ≡ w → ⊥) → stop (head_parser w) rs (At i) ≡ Nothing
-  head-other k c h e =
-      let v = place rs i k c h in
-      at_record {B = ℕ} (head_parser w) (λ l. refused) rs i v.head v.fits v.list (head_not w o v.head (λ q. e (v.kind ∙ q))) ∙ never-stops Record ℕ rs (At (i + 1))
+  pub head-other : (n : Node) → node_of (drop i rs) ≡ Some n → (n.kind ≡ w → ⊥) → stop (head_parser w) rs i ≡ None
+  head-other n h e =
+      let v = place rs i n h in
+      at_record {B = ℕ} (head_parser w) (λ l. refused) rs i v.head v.fits v.list (head_not w o v.head (λ q. e (v.kind ∙ q))) ∙ never-stops Record ℕ rs (i + 1)
 
-  pub head-end : node_of (drop i rs) ≡ End → stop (head_parser w) rs (At i) ≡ Nothing
+  pub head-end : node_of (drop i rs) ≡ None → stop (head_parser w) rs i ≡ None
   head-end h = at-end (head_parser w) rs i (head-empty w o) h
 
 -- there are few records, and a place with one is small
-pub place-few : (g : Frame) (s : List ℕ) (i k c : ℕ) → Ready g s → node_of (drop i (records_in g s)) ≡ Is k c → i + 1 ≤ 4000
-place-few g s i k c h e = omega (arith, (place (records_in g s) i k c e).fits, records-length g s h, h.few)
-
-pub place-within : (rs : List Record) (i k c : ℕ) → node_of (drop i rs) ≡ Is k c → i + 1 ≤ length rs
-place-within rs i k c e = (place rs i k c e).fits
+pub place-few : (g : Frame) (s : List ℕ) (i : ℕ) (n : Node) → Ready g s → node_of (drop i (records_in g s)) ≡ Some n → i + 1 ≤ 4000
+place-few g s i n h e = omega (arith, (place (records_in g s) i n e).fits, records-length g s h, h.few)
