@@ -126,8 +126,8 @@ pub fn skip_list(bytes: &[u8], w: usize, at: usize) -> Option<usize>
     requires { w ≤ 8 }
     ensures { result ≡ stop (list w) bytes.now at }
 {
-    let first = skip_code(bytes, Layout::MAX_COUNT, at)?;
-    skip_bindings(bytes, w, usize::from(bytes[at]), first)
+    let bindings = skip_code(bytes, Layout::MAX_COUNT, at)?;
+    skip_bindings(bytes, w, usize::from(bytes[at]), bindings)
 }
 
 // Past n pairs of a binding and an identifier.
@@ -148,8 +148,8 @@ pub fn skip_substitution(bytes: &[u8], w: usize, at: usize) -> Option<usize>
     requires { w ≤ 8 }
     ensures { result ≡ stop (counted max_count (pair w)) bytes.now at }
 {
-    let first = skip_code(bytes, Layout::MAX_COUNT, at)?;
-    skip_pairs(bytes, w, usize::from(bytes[at]), first)
+    let pairs = skip_code(bytes, Layout::MAX_COUNT, at)?;
+    skip_pairs(bytes, w, usize::from(bytes[at]), pairs)
 }
 
 // Past the mark of an environment, and its list where it has one.

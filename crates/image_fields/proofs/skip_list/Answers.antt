@@ -5,18 +5,18 @@ use Rattle.image_fields.proofs.Stops.{stop-counted, stop-within, code-inside}
 use Rattle.image_fields.proofs.FieldStops.{stop-list}
 use Rattle.image_fields.proofs.skip_list.Goals as goal
 
-pub returns-in_err-first : goal.returns-in_err-first
-returns-in_err-first c =
+pub returns-in_err-bindings : goal.returns-in_err-bindings
+returns-in_err-bindings c =
     let a = c.args in
-    rw (stop-list a.w, stop-counted max_count (binding a.w) a.bytes.now a.at, ← c.skip_code.ensures, c.in_err-first.was) c.from_residual.ensures
+    rw (stop-list a.w, stop-counted max_count (binding a.w) a.bytes.now a.at, ← c.skip_code.ensures, c.in_err-bindings.was) c.from_residual.ensures
 
 pub bounds-bytes-at : goal.bounds-bytes-at
-bounds-bytes-at c = let a = c.args in code-inside max_count a.bytes.now a.at _ (sym c.skip_code.ensures ∙ c.in_ok-first.was)
+bounds-bytes-at c = let a = c.args in code-inside max_count a.bytes.now a.at _ (sym c.skip_code.ensures ∙ c.in_ok-bindings.was)
 
 pub skip_bindings-requires : goal.skip_bindings-requires
-skip_bindings-requires c = let a = c.args in (c.requires, stop-within (code max_count) a.bytes.now a.at _ (sym c.skip_code.ensures ∙ c.in_ok-first.was))
+skip_bindings-requires c = let a = c.args in (c.requires, stop-within (code max_count) a.bytes.now a.at _ (sym c.skip_code.ensures ∙ c.in_ok-bindings.was))
 
 pub returns : goal.returns
 returns c =
     let a = c.args in
-    rw (stop-list a.w, stop-counted max_count (binding a.w) a.bytes.now a.at, ← c.skip_code.ensures, c.in_ok-first.was, ← c.from.ensures) c.skip_bindings.ensures
+    rw (stop-list a.w, stop-counted max_count (binding a.w) a.bytes.now a.at, ← c.skip_code.ensures, c.in_ok-bindings.was, ← c.from.ensures) c.skip_bindings.ensures
