@@ -1,4 +1,5 @@
 -- Where the identifiers of a record stand in its bytes, and what a record uses and binds, by its kind. Assumes nothing.
+use Rattle.std.specs.Prelude.{Some}
 use Prim.Native.Nat.{ℕ, ◌+◌, ◌-◌, ◌<◌}
 use mathlib.Core.Path.{◌≡◌, refl, sym, ap, ◌∙◌, subst}
 use mathlib.Core.Bool.{cond}
@@ -20,7 +21,6 @@ use Rattle.image_directory.specs.Slots.{records_in}
 use Rattle.image_directory.specs.declared.Frame.{Frame}
 use Rattle.image_directory.proofs.Places.{seen}
 use Rattle.image_shape.specs.Nodes.{node_of}
-use Rattle.image_shape.specs.declared.Node.TheVariants.{Is}
 use Rattle.image_shape.proofs.Heads.{kind-small}
 use Rattle.image_read_parts.specs.Standing.{Stands, RoomIn, head_of}
 use Rattle.image_read_parts.proofs.StandingLaws.{stands-room}
@@ -38,8 +38,8 @@ pub kind-below : (g : Frame) (s : List ℕ) (i k : ℕ) → At g s i k → k < k
 kind-below g s i k a =
     let v = seen g s i a.ready a.inside in
     let r = record_at g s i in
-    let e : node_of (drop i (records_in g s)) ≡ Is (kind_of r) (clauses_of r) = rw v.list refl in
-    subst (λ (n : ℕ). n < kinds) a.kind (kind-small (records_in g s) i (kind_of r) (clauses_of r) e)
+    let e : node_of (drop i (records_in g s)) ≡ Some (record { kind = kind_of r; clauses = clauses_of r }) = rw v.list refl in
+    subst (λ (n : ℕ). n < kinds) a.kind (kind-small (records_in g s) i _ e)
 
 -- ── identifiers ──
 

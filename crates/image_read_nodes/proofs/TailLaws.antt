@@ -1,4 +1,5 @@
 -- What the first bytes of a record's tail say: its mark and its counts, by its kind. Assumes nothing.
+use Rattle.std.specs.Prelude.{Some}
 use Prim.Native.Nat.{ℕ, suc, ◌+◌, ◌-◌, ◌≤◌, ◌<◌}
 use mathlib.Core.Path.{◌≡◌, refl, sym, ap, ◌∙◌}
 use mathlib.Core.Bool.{Bool, true, false, ◌&&◌, cond}
@@ -16,7 +17,7 @@ use Rattle.image_directory.specs.Slots.{Ready, records_in}
 use Rattle.image_directory.specs.declared.Frame.{Frame}
 use Rattle.image_directory.proofs.Places.{records-length}
 use Rattle.image_shape.specs.Nodes.{node_of}
-use Rattle.image_shape.specs.declared.Node.TheVariants.{Is, End}
+use Rattle.image_shape.specs.declared.Node.{Node}
 use Rattle.image_shape.proofs.Heads.{place, kind-small}
 use Rattle.image_read_parts.specs.Standing.{Stands, ReadsAs, RoomIn, head_of}
 use Rattle.image_read_parts.proofs.StandingLaws.{part_room, part-reads, byte_reads, kind-stands}
@@ -25,30 +26,22 @@ use Rattle.image_read_nodes.specs.Nodes.{record_at, At}
 -- ── the record that was looked at ──
 
 module _ (g : Frame) (s : List ℕ) (i : ℕ) where
-  pub record Looked (k c : ℕ) : Type 0 where
-    pub at : At g s i k
-    pub count : clauses_of (record_at g s i) ≡ c
-    pub small : k < kinds
+  pub record Looked (n : Node) : Type 0 where
+    pub at : At g s i n.kind
+    pub count : clauses_of (record_at g s i) ≡ n.clauses
+    pub small : n.kind < kinds
 
-  pub looked : (k c : ℕ) → Ready g s → node_of (drop i (records_in g s)) ≡ Is k c → Looked k c
-  looked k c h e =
-      let p = place (records_in g s) i k c e in
+  pub looked : (n : Node) → Ready g s → node_of (drop i (records_in g s)) ≡ Some n → Looked n
+  looked n h e =
+      let p = place (records_in g s) i n e in
       record {
         at = record { ready = h; inside = omega (arith, p.fits, records-length g s h); kind = ap (λ (l : List Record). kind_of (head_of l)) p.list ∙ sym p.kind };
         count = ap (λ (l : List Record). clauses_of (head_of l)) p.list ∙ sym p.count;
-        small = kind-small (records_in g s) i k c e;
+        small = kind-small (records_in g s) i n e;
       }
 
   pub of-kind : {k m : ℕ} → At g s i k → k ≡ m → At g s i m
   of-kind a e = record { ready = a.ready; inside = a.inside; kind = a.kind ∙ e }
-
-  -- there is one
-  pub not_nowhere : Ready g s → i < g.count → node_of (drop i (records_in g s)) ≡ End → ⊥
-  not_nowhere h t e = go (drop i (records_in g s)) (length-drop i (records_in g s)) e
-    where
-      go : (l : List Record) → length l ≡ length (records_in g s) - i → node_of l ≡ End → ⊥
-      go [] n e = omega (arith, n, records-length g s h)
-      go (r ∷ l) n e = let z : ◌≡◌ {A = ℕ} 0 1 = cc (e) in omega arith
 
 -- ── a byte of the tail ──
 

@@ -9,14 +9,13 @@ ghost use Rattle.image_read_parts.specs.Parts.{list_of};
 ghost use Rattle.image_read_nodes.specs.Nodes.{record_at, At, Followed, has_list, first_at, first_of, operand_of, target_of};
 
 use image_directory::Frame;
-use image_fields::count;
 use image_kinds::kinds::Kind;
 use image_read_parts::{identifier, offset};
-use image_shape::{Node, look};
+use image_shape::look;
 use syntax::names::Identifier;
 
 // The kind of a record, and what follows it: clauses, then bodies.
-#[derive(Clone, Copy)]
+#[derive(Clone, Copy, PartialEq, Eq)]
 pub struct Follows {
     pub kind: u8,
     pub clauses: usize,
@@ -28,21 +27,11 @@ pub fn parts_of(image: &[u8], frame: Frame, i: usize) -> Follows
     requires { Ready frame image.now × (i < frame.count) }
     ensures { Followed frame image.now i result }
 {
-    match look(image, frame, i) {
-        Node::Is { kind, clauses } => {
-            let c = count(clauses);
-            let b = Kind::bodies(kind);
-            Follows {
-                kind,
-                clauses: c,
-                bodies: b,
-            }
-        }
-        Node::End => Follows {
-            kind: 0,
-            clauses: 0,
-            bodies: 0,
-        },
+    let node = look(image, frame, i).unwrap();
+    Follows {
+        kind: node.kind,
+        clauses: usize::from(node.clauses),
+        bodies: Kind::bodies(node.kind),
     }
 }
 
@@ -58,16 +47,11 @@ pub fn list_at(image: &[u8], frame: Frame, i: usize, kind: u8) -> usize
 fn first_at(kind: u8) -> usize
     ensures { result ≡ first_at kind }
 {
-    if kind == Kind::LITERAL {
-        return 9;
+    match kind {
+        Kind::LITERAL => 9,
+        Kind::IFC | Kind::PRINT => 2,
+        _ => 1,
     }
-    if kind == Kind::IFC {
-        return 2;
-    }
-    if kind == Kind::PRINT {
-        return 2;
-    }
-    1
 }
 
 // The first identifier of the record at index i. (A Substitute has none.)

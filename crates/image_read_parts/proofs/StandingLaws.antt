@@ -26,6 +26,7 @@ use Rattle.image_spec.proofs.KindLaws.{kind-first, record_nonempty}
 use Rattle.image_integers.proofs.Halves.{field_join}
 use Rattle.image_directory.specs.Slots.{records_in}
 use Rattle.image_directory.specs.declared.Frame.{Frame}
+use Rattle.image_directory.specs.declared.Slot.{Slot}
 use Rattle.image_directory.proofs.Places.{Spot}
 use Rattle.image_read_parts.specs.Standing.{Stands, ReadsAs, IsCode, head_of, Room, RoomIn}
 
@@ -169,11 +170,11 @@ pub stands-room : {A : Type 0} {e : A → List ℕ} {P : A → Type 0} {s : List
 stands-room {e = e} {s = s} {at = at} {a = a} z h = omega (arith, sym (length-drop at s) ∙ (ap length h.bytes ∙ length-append (e a) h.others))
 
 -- the record that was looked for
-pub spot-stands : {g : Frame} {s : List ℕ} {i o z : ℕ} → Spot g s i o z → Stands (record_bytes g.id) (RecordOk g.id) s o (head_of (drop i (records_in g s)))
-spot-stands {g = g} {s = s} {i = i} {o = o} {z = z} t =
+pub spot-stands : {g : Frame} {s : List ℕ} {i : ℕ} {v : Slot} → Spot g s i v → Stands (record_bytes g.id) (RecordOk g.id) s v.offset (head_of (drop i (records_in g s)))
+spot-stands {g = g} {s = s} {i = i} {v = v} t =
     rw t.list record {
-      others = drop z (drop o s);
-      bytes = sym (take-append-drop z (drop o s)) ∙ ap (λ x. x ++ drop z (drop o s)) t.bytes;
+      others = drop v.size (drop v.offset s);
+      bytes = sym (take-append-drop v.size (drop v.offset s)) ∙ ap (λ x. x ++ drop v.size (drop v.offset s)) t.bytes;
       fits = t.ok;
     }
 

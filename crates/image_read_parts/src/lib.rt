@@ -11,8 +11,8 @@ ghost use Rattle.syntax.specs.Context.{empty_binding};
 ghost use Rattle.image_read_parts.specs.Parts.{list_of, HasList};
 ghost use Rattle.image_read_parts.specs.Standing.{Stands, ReadsAs, IsCode, head_of, Room, RoomIn};
 
-use image_directory::{Frame, Slot, read_slot};
-use image_fields::{count, number};
+use image_directory::{Frame, read_slot};
+use image_fields::number;
 use image_integers::from_bits;
 use image_kinds::kinds::Kind;
 use syntax::context::{Chirality, ContextBinding};
@@ -21,23 +21,14 @@ use syntax::names::{Identifier, Name, VarId};
 use syntax::op::BinOp;
 use syntax::types::Ty;
 
-fn half(n: u32) -> u16
-    requires { n < 65536 }
-    ensures { result ≡ n }
-{
-    n as u16
-}
-
 // An identifier whose ID has w bytes.
 pub fn identifier_at(image: &[u8], w: usize, at: usize) -> Identifier
     requires { Room w at (2 + w) image.now }
     ensures { ReadsAs (identifier_bytes w) (IdentifierOk w) image.now at result }
 {
-    let name = number(image, at, 2);
-    let id = number(image, at + 2, w);
     Identifier {
-        name: Name(half(name)),
-        id: VarId(id),
+        name: Name(number(image, at, 2) as u16),
+        id: VarId(number(image, at + 2, w)),
     }
 }
 
@@ -128,11 +119,7 @@ pub fn offset(image: &[u8], frame: Frame, i: usize) -> usize
     ensures { Stands (record_bytes frame.id) (RecordOk frame.id) image.now result (head_of (drop i (records_in frame image.now))) }
 {
     let place = frame.place;
-    let from = frame.from;
-    match read_slot(image, place, from + i * (place + place)) {
-        Slot::Here { offset, size: _ } => offset,
-        Slot::Short => 0,
-    }
+    read_slot(image, place, frame.from + i * (place + place)).unwrap().offset
 }
 
 // The byte at a place of the record at index i: a code, a mark or a count.
@@ -182,7 +169,7 @@ pub fn list_count(image: &[u8], frame: Frame, i: usize) -> usize
     let w = frame.id;
     let start = offset(image, frame, i);
     let at = Kind::fixed(image[start], w);
-    count(image[start + at])
+    usize::from(image[start + at])
 }
 
 // The binding at place j of that list.

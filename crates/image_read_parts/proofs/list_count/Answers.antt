@@ -36,4 +36,4 @@ bounds-image-start-2 c = omega (arith, byte-room _ _ _ (place (goal.at.bounds-im
 pub returns : goal.returns
 returns c =
     let h = place (goal.at.returns c).After-fixed-at in
-    c.count.ensures ∙ byte-run c.args.image.now h.others (c.offset-start.result + c.fixed-at.result) _ h.bytes
+    c.from.ensures ∙ byte-run c.args.image.now h.others (c.offset-start.result + c.fixed-at.result) _ h.bytes
