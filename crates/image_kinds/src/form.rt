@@ -33,7 +33,11 @@ pub fn skip_content(bytes: &[u8], w: usize, k: u8) -> Option<usize>
         6 => {
             let ty = skip_identifier(bytes, w, 1)?;
             let environment = skip_type(bytes, w, ty)?;
-            skip_code(bytes, Layout::MAX_COUNT, skip_environment(bytes, w, environment)?)
+            skip_code(
+                bytes,
+                Layout::MAX_COUNT,
+                skip_environment(bytes, w, environment)?,
+            )
         }
         7 => {
             let tag = skip_identifier(bytes, w, 1)?;

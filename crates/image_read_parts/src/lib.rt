@@ -119,7 +119,9 @@ pub fn offset(image: &[u8], frame: Frame, i: usize) -> usize
     ensures { Stands (record_bytes frame.id) (RecordOk frame.id) image.now result (head_of (drop i (records_in frame image.now))) }
 {
     let place = frame.place;
-    read_slot(image, place, frame.from + i * (place + place)).unwrap().offset
+    read_slot(image, place, frame.from + i * (place + place))
+        .unwrap()
+        .offset
 }
 
 // The byte at a place of the record at index i: a code, a mark or a count.

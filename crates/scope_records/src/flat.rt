@@ -10,7 +10,7 @@ ghost use Rattle.scope_records.specs.Tests.{test_of};
 use image_directory::Frame;
 use image_kinds::kinds::Kind;
 use image_read_parts::{byte, offset};
-use image_shape::{Node, look};
+use image_shape::look;
 
 // What is asked of each record alone.
 #[derive(Clone, Copy)]
@@ -56,15 +56,8 @@ fn small_create(image: &[u8], frame: Frame, i: usize) -> bool
     requires { At frame image.now i 6 }
     ensures { result ≡ (small_environment_lem (record_at frame image.now i) && leb (clauses_of (record_at frame image.now i)) 32) }
 {
-    match look(image, frame, i) {
-        Node::Is { kind: _, clauses } => {
-            if small_environment(image, frame, i) {
-                return clauses <= Frame::MAX_SOURCE_COUNT;
-            }
-            false
-        }
-        Node::End => false,
-    }
+    let node = look(image, frame, i).unwrap();
+    small_environment(image, frame, i) && node.clauses <= Frame::MAX_SOURCE_COUNT
 }
 
 // The counts in the record at index i (question 7).

@@ -1,4 +1,5 @@
 -- One pass over the slots of a store: kinds of records, a value, the turn of the loops. Assumes nothing.
+use Rattle.std.specs.Prelude.{Option, Some, None}
 use Prim.Native.Nat.{ℕ, zero, suc, ◌+◌, ◌-◌, ◌*◌, ◌^◌, ◌≤◌, ◌<◌}
 use mathlib.Core.Path.{◌≡◌, refl, sym, ap, ap₂, ◌∙◌}
 use mathlib.Core.Bool.{Bool, true, false, not, ◌&&◌, cond}
@@ -11,7 +12,6 @@ use lib.ListN.{length, drop}
 use Rattle.model.specs.Syntax.{Prog}
 use Rattle.image_spec.specs.Records.{Record, definition, substitute, call, let', switch, create, invoke, literal, op, ifc, clause', print, exit}
 use Rattle.image_shape.specs.declared.Node.{Node}
-use Rattle.image_shape.specs.declared.Node.TheVariants.{Is, End}
 use Rattle.image_shape.specs.Nodes.{node_of}
 use Rattle.step_slots.specs.declared.Slot.{Slot}
 use Rattle.step_slots.specs.Slots.{is_cell_lem}
@@ -25,9 +25,9 @@ use Rattle.step_scan.specs.Pass.{Of, kind_in, pass}
 
 -- ── kinds of records ──
 
-abbrev pub kind_of_node : Node → ℕ
-kind_of_node End = 0
-kind_of_node (Is k c) = k
+abbrev pub kind_of_node : Option Node → ℕ
+kind_of_node None = 0
+kind_of_node (Some n) = n.kind
 
 pub node_kind : (rs : List Record) → kind_of_node (node_of rs) ≡ kind_in rs
 node_kind [] = refl

@@ -13,7 +13,7 @@ ghost use Rattle.step_scan.specs.Pass.{Of, kind_in, pass};
 
 use image_directory::{Frame, long};
 use image_kinds::kinds::Kind;
-use image_shape::{Node, look};
+use image_shape::look;
 use step_header::place;
 use step_slots::{Slot, read};
 
@@ -23,8 +23,8 @@ fn kind_at(image: &[u8], frame: Frame, i: usize) -> u8
     ensures { result ≡ kind_in (drop i (records_in frame image.now)) }
 {
     match look(image, frame, i) {
-        Node::Is { kind, clauses: _ } => kind,
-        Node::End => 0,
+        Some(node) => node.kind,
+        None => 0,
     }
 }
 

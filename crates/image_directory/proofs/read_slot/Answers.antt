@@ -13,7 +13,7 @@ returns c =
     let a = c.args in
     let h : length a.image.now < a.at + (a.place + a.place) =
     elim c.else-at-image.branch [
-      else-at-image-via-then-at-image+else-place-image w ↦ omega arith
-    | else-at-image-via-else-at-image w ↦ omega arith
+      | else-at-image-via-then-at-image+else-place-image w ↦ omega arith
+      | else-at-image-via-else-at-image w ↦ omega arith
     ] in
     sym (slot-short a.place a.image.now a.at (omega arith) h)

@@ -20,9 +20,9 @@ returns-then-slot-here c =
     let q = sym c.read_slot.ensures ∙ c.in-Some.is in
     let t : 0 < a.n - l.counter = omega arith in
     elim c.then-slot-here.branch [
-      then-slot-here-via-then-slot-here w ↦ sym (l.invariant.1 ∙ tiled_off a.place s (a.n - l.counter) l.at l.here _ t q w.if-slot-here.true)
-    | then-slot-here-via-else-slot-here+then-len-here w ↦
-      sym (l.invariant.1 ∙ (tiled_on a.place s (a.n - l.counter) l.at l.here _ t q w.if-slot-here.false ∙ tiled-past a.place s _ _ _ (omega arith)))
+      | then-slot-here-via-then-slot-here w ↦ sym (l.invariant.1 ∙ tiled_off a.place s (a.n - l.counter) l.at l.here _ t q w.if-slot-here.true)
+      | then-slot-here-via-else-slot-here+then-len-here w ↦
+          sym (l.invariant.1 ∙ (tiled_on a.place s (a.n - l.counter) l.at l.here _ t q w.if-slot-here.false ∙ tiled-past a.place s _ _ _ (omega arith)))
     ]
 
 pub overflow_add-at-in-loop : goal.overflow_add-at-in-loop

@@ -22,4 +22,4 @@ loop-i-preserved c =
     let p : a.at + l.i ≡ suc (a.at + (l.i - 1)) = omega arith in
     let q : l.n * 256 + c.from-in-loop-i.result ≡ get_or a.bytes.now (a.at + (l.i - 1)) 0 + 256 * l.n = omega arith in
     rw k (number_step a.bytes.now (λ i. omega (arith, c.type_inv.bytes i)) (a.w - l.i) (a.at + (l.i - 1)) l.n _ _
-        (omega arith) q (rw p at l.invariant))
+    (omega arith) q (rw p at l.invariant))

@@ -40,8 +40,11 @@ skip_clauses-returns-in_err-body t c =
     let rs = records_in a.frame a.image.now in
     let l = c.loop in
     let e : option_and_then (stop (stmt a.depth) rs) (stop clause_head rs l.here) ≡ None = ap (option_and_then (stop (stmt a.depth) rs)) (sym c.head.ensures ∙ c.in_err-body.was) in
-    cc (turn-stops (λ n. stop (clauses (stmt a.depth) n) rs) (λ at. option_and_then (stop (stmt a.depth) rs) (stop clause_head rs at)) (clauses-more a.depth (stmt a.depth) (stmt_exact a.depth) rs) _
-        a.n l.counter l.here (omega arith) l.invariant.1 e, c.from_residual.ensures)
+    cc (
+      turn-stops (λ n. stop (clauses (stmt a.depth) n) rs) (λ at. option_and_then (stop (stmt a.depth) rs) (stop clause_head rs at)) (clauses-more a.depth (stmt a.depth) (stmt_exact a.depth) rs) _
+          a.n l.counter l.here (omega arith) l.invariant.1 e,
+      c.from_residual.ensures,
+    )
 
 pub skip_clauses-returns-in_err-here : goal.skip_clauses-returns-in_err-here
 skip_clauses-returns-in_err-here t c =
@@ -50,8 +53,11 @@ skip_clauses-returns-in_err-here t c =
     let l = c.loop in
     let e : option_and_then (stop (stmt a.depth) rs) (stop clause_head rs l.here) ≡ None =
     ap (option_and_then (stop (stmt a.depth) rs)) (sym c.head.ensures ∙ c.in_ok-body.was) ∙ (sym c.statement.ensures ∙ c.in_err-here.was) in
-    cc (turn-stops (λ n. stop (clauses (stmt a.depth) n) rs) (λ at. option_and_then (stop (stmt a.depth) rs) (stop clause_head rs at)) (clauses-more a.depth (stmt a.depth) (stmt_exact a.depth) rs) _
-        a.n l.counter l.here (omega arith) l.invariant.1 e, c.from_residual-in_err-here.ensures)
+    cc (
+      turn-stops (λ n. stop (clauses (stmt a.depth) n) rs) (λ at. option_and_then (stop (stmt a.depth) rs) (stop clause_head rs at)) (clauses-more a.depth (stmt a.depth) (stmt_exact a.depth) rs) _
+          a.n l.counter l.here (omega arith) l.invariant.1 e,
+      c.from_residual-in_err-here.ensures,
+    )
 
 pub skip_clauses-loop-preserved : goal.skip_clauses-loop-preserved
 skip_clauses-loop-preserved t c =

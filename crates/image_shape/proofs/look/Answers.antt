@@ -41,8 +41,8 @@ pub returns-then-kind-eq-CREATE : goal.returns-then-kind-eq-CREATE
 returns-then-kind-eq-CREATE c =
     let t = here (goal.at.returns-then-kind-eq-CREATE c).In_ok-slot in
     elim c.if-kind-eq-CREATE.either [
-      inl e ↦ sym (spot_node t ∙ rw (eq-eqb _ _ e))
-    | inr q ↦ sym (spot_node t ∙ rw (ne_eqb _ _ q.0, eq-eqb _ _ q.1))
+      | inl e ↦ sym (spot_node t ∙ rw (eq-eqb _ _ e))
+      | inr q ↦ sym (spot_node t ∙ rw (ne_eqb _ _ q.0, eq-eqb _ _ q.1))
     ]
 
 pub returns-else-kind-eq-CREATE : goal.returns-else-kind-eq-CREATE

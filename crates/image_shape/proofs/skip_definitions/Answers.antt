@@ -13,8 +13,11 @@ returns-in_err-body c =
     let rs = records_in a.frame a.image.now in
     let l = c.loop in
     let e : option_and_then (stop (stmt max_depth) rs) (stop definition_head rs l.here) ≡ None = ap (option_and_then (stop (stmt max_depth) rs)) (sym c.head.ensures ∙ c.in_err-body.was) in
-    cc (turn-stops (λ n. stop (times n one_def) rs) (λ at. option_and_then (stop (stmt max_depth) rs) (stop definition_head rs at)) (λ n. definition-more n rs) _
-        a.n l.counter l.here (omega arith) l.invariant.1 e, c.from_residual.ensures)
+    cc (
+      turn-stops (λ n. stop (times n one_def) rs) (λ at. option_and_then (stop (stmt max_depth) rs) (stop definition_head rs at)) (λ n. definition-more n rs) _
+          a.n l.counter l.here (omega arith) l.invariant.1 e,
+      c.from_residual.ensures,
+    )
 
 pub returns-in_err-here : goal.returns-in_err-here
 returns-in_err-here c =
@@ -23,8 +26,11 @@ returns-in_err-here c =
     let l = c.loop in
     let e : option_and_then (stop (stmt max_depth) rs) (stop definition_head rs l.here) ≡ None =
     ap (option_and_then (stop (stmt max_depth) rs)) (sym c.head.ensures ∙ c.in_ok-body.was) ∙ (sym c.statement.ensures ∙ c.in_err-here.was) in
-    cc (turn-stops (λ n. stop (times n one_def) rs) (λ at. option_and_then (stop (stmt max_depth) rs) (stop definition_head rs at)) (λ n. definition-more n rs) _
-        a.n l.counter l.here (omega arith) l.invariant.1 e, c.from_residual-in_err-here.ensures)
+    cc (
+      turn-stops (λ n. stop (times n one_def) rs) (λ at. option_and_then (stop (stmt max_depth) rs) (stop definition_head rs at)) (λ n. definition-more n rs) _
+          a.n l.counter l.here (omega arith) l.invariant.1 e,
+      c.from_residual-in_err-here.ensures,
+    )
 
 pub loop-preserved : goal.loop-preserved
 loop-preserved c =

@@ -15,8 +15,8 @@ returns-then-node-eq-DEFINITION c =
     let a = c.args in
     let e = sym c.look.ensures ∙ c.in_ok-node.was in
     elim c.then-node-eq-DEFINITION.branch [
-      then-node-eq-DEFINITION-via-then-node-eq-DEFINITION w ↦ sym (parts-other (records_in a.frame a.image.now) a.at _ e (inl w.if-node-eq-DEFINITION.true))
-    | then-node-eq-DEFINITION-via-else-node-eq-DEFINITION+then-node-eq-CLAUSE w ↦ sym (parts-other (records_in a.frame a.image.now) a.at _ e (inr w.if-node-eq-CLAUSE.true))
+      | then-node-eq-DEFINITION-via-then-node-eq-DEFINITION w ↦ sym (parts-other (records_in a.frame a.image.now) a.at _ e (inl w.if-node-eq-DEFINITION.true))
+      | then-node-eq-DEFINITION-via-else-node-eq-DEFINITION+then-node-eq-CLAUSE w ↦ sym (parts-other (records_in a.frame a.image.now) a.at _ e (inr w.if-node-eq-CLAUSE.true))
     ]
 
 pub bodies-requires : goal.bodies-requires

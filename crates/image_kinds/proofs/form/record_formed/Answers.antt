@@ -11,8 +11,8 @@ pub returns-then-kind-ge-COUNT : goal.returns-then-kind-ge-COUNT
 returns-then-kind-ge-COUNT c =
     let a = c.args in
     elim c.then-kind-ge-COUNT.branch [
-      then-kind-ge-COUNT-via-then-kind-ge-COUNT w ↦ sym (formed-other a.w a.bytes.now w.if-kind-ge-COUNT.true)
-    | then-kind-ge-COUNT-via-else-kind-ge-COUNT+then-bytes-fixed w ↦ sym (formed-short a.w a.bytes.now (subst (λ n. length a.bytes.now < n) w.fixed.ensures w.if-bytes-fixed.true))
+      | then-kind-ge-COUNT-via-then-kind-ge-COUNT w ↦ sym (formed-other a.w a.bytes.now w.if-kind-ge-COUNT.true)
+      | then-kind-ge-COUNT-via-else-kind-ge-COUNT+then-bytes-fixed w ↦ sym (formed-short a.w a.bytes.now (subst (λ n. length a.bytes.now < n) w.fixed.ensures w.if-bytes-fixed.true))
     ]
 
 pub returns : goal.returns
