@@ -1,4 +1,4 @@
-use Rattle.std.proofs.Common.{arith, sym, ◌≡◌, ◌+◌, ◌-◌, ◌<◌, ◌∙◌, length}
+use Rattle.std.proofs.Common.{arith, sym, ◌≡◌, ◌+◌, ◌-◌, ◌<◌, ◌∙◌}
 use Rattle.image_directory.proofs.Tiling.{slot-room, tiled-past, tiled_off, tiled_on, tiled-short, tiled-end}
 use Rattle.image_directory.proofs.tiled.Goals as goal
 use Rattle.image_directory.proofs.tiled.Goals.{then-slot-here-via-then-slot-here, then-slot-here-via-else-slot-here+then-len-here}

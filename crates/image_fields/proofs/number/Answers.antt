@@ -1,5 +1,5 @@
 use Rattle.std.proofs.Common.{arith, suc, ◌≡◌, ◌+◌, ◌-◌, ◌*◌, ◌≤◌, get_or}
-use Rattle.image_fields.proofs.Stops.{number_small, number_step, number-pair}
+use Rattle.image_fields.proofs.Stops.{number_small, number_step}
 use Rattle.image_fields.proofs.number.Goals as goal
 
 pub overflow_mul-n : goal.overflow_mul-n

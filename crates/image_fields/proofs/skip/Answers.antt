@@ -1,7 +1,5 @@
-use Rattle.std.proofs.Common.{arith, ◌+◌, ◌≤◌, ◌<◌, ◌≡◌, sym, cond, leb, length, Some, None}
+use Rattle.std.proofs.Common.{arith, ◌+◌, ◌<◌, length}
 use borrow.Author.Tests.{lt-leb}
-use Rattle.image_spec.specs.Parse.{number}
-use Rattle.image_fields.specs.Found.{stop}
 use Rattle.image_fields.proofs.Stops.{stop-number, chosen}
 use Rattle.image_fields.proofs.skip.Goals as goal
 

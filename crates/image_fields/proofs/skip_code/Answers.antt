@@ -1,4 +1,4 @@
-use Rattle.std.proofs.Common.{arith, ◌≤◌}
+use Rattle.std.proofs.Common.{arith}
 use Rattle.image_fields.proofs.Stops.{code-good, code_bad, code-past, got_none, got_some}
 use Rattle.image_fields.proofs.skip_code.Goals as goal
 

@@ -1,4 +1,4 @@
-use Rattle.std.proofs.Common.{arith, sym, ◌∙◌}
+use Rattle.std.proofs.Common.{arith}
 use Rattle.image_spec.specs.Fields.{list}
 use Rattle.image_fields.proofs.Stops.{marked_none, marked_some, marked_bad, marked-past, got_none, got_some}
 use Rattle.image_fields.proofs.skip_environment.Goals as goal

@@ -1,4 +1,4 @@
-use Rattle.std.proofs.Common.{arith, sym, ◌∙◌}
+use Rattle.std.proofs.Common.{sym, ◌∙◌}
 use Rattle.image_spec.specs.Parse.{code}
 use Rattle.image_spec.specs.Fields.{max_count, pair}
 use Rattle.image_fields.proofs.Stops.{stop-counted, stop-within, code-inside}

@@ -1,4 +1,4 @@
-use Rattle.std.proofs.Common.{◌≡◌, ◌-◌, arith, refl, sym, ap, ◌∙◌}
+use Rattle.std.proofs.Common.{◌≡◌, ◌-◌, arith, sym, ap, ◌∙◌}
 use Rattle.image_spec.specs.Parse.{code, zeros}
 use Rattle.image_fields.specs.Found.{stop}
 use Rattle.image_fields.proofs.Stops.{stop-zeros, stop_none, stop-within, turn-goes, turn-stops}

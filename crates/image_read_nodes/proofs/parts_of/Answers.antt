@@ -1,7 +1,6 @@
-use Rattle.std.proofs.Common.{refl, sym, ap, ◌≡◌, ◌∙◌}
+use Rattle.std.proofs.Common.{refl, sym, ap, ◌∙◌}
 use Rattle.image_spec.specs.Kinds.{bodies}
 use Rattle.image_directory.proofs.Places.{seen}
-use Rattle.image_shape.specs.Nodes.{node_of}
 use Rattle.image_read_nodes.proofs.TailLaws.{Looked, looked}
 use Rattle.image_read_nodes.proofs.parts_of.Goals as goal
 use Rattle.image_read_nodes.proofs.parts_of.Goals.{After-unwrap-node}

@@ -1,4 +1,3 @@
-use Rattle.std.proofs.Common.{sym, ◌∙◌}
 use Rattle.image_directory.specs.Slots.{records_in}
 use Rattle.image_directory.proofs.Places.{records-length}
 use Rattle.image_shape.proofs.Steps.{program-ends}

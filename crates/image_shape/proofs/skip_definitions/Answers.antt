@@ -1,4 +1,4 @@
-use Rattle.std.proofs.Common.{◌≡◌, ◌-◌, arith, sym, ap, ◌∙◌, [], inl, refl, Some, None, option_and_then}
+use Rattle.std.proofs.Common.{◌≡◌, ◌-◌, arith, sym, ap, ◌∙◌, [], Some, None, option_and_then}
 use Rattle.image_spec.specs.Parse.{times}
 use Rattle.image_spec.specs.Shape.{stmt, definition_head, one_def, max_depth}
 use Rattle.image_fields.specs.Found.{stop}
