@@ -71,14 +71,14 @@ opened-image L s g D m k e = go (reading L s) refl e
     go (refuse q) h e = let z : ◌≡◌ {A = ℕ} 0 1 = cc (e) in absurd (omega arith)
     go (accept p) h e =
         let x = accepted L s p h in
-        let o : record { frame = g; definitions = D; max_id = m } ≡ record { frame = frame_of L (record_count L s); definitions = definition_count L s; max_id = p.max_id } = cc (e) in
-        rw (ap frame o) record {
+        let o : ◌≡◌ {A = Opened} (record { frame = g; definitions = D; max_id = m }) (record { frame = frame_of L (record_count L s); definitions = definition_count L s; max_id = p.max_id }) = cc (e) in
+        rw (ap (λ (x : Opened). x.frame) o) record {
           program = p;
           reads = h;
           ok = x.ok;
           written = x.written;
-          max_id = ap max_id o;
-          count = ap definitions o ∙ x.count;
+          max_id = ap (λ (x : Opened). x.max_id) o;
+          count = ap (λ (x : Opened). x.definitions) o ∙ x.count;
           frame = refl;
           records = ap (λ o. if_some o [] (λ rs. rs)) x.records;
           ready = frame-ready L s p k h;
