@@ -4,7 +4,7 @@
 ghost use Rattle.image_open.specs.Opening.{Known};
 ghost use Rattle.step_ask.specs.Asking.{Asks};
 
-use image_open::{Opened, open};
+use image_open::open;
 use image_spec::{Layout, Refusal};
 use scope_check::check::check_image;
 use step_rule::Stepper;
@@ -13,14 +13,12 @@ pub fn ask(image: &[u8], layout: Layout, linear: bool) -> Result<Stepper, Refusa
     requires { Known layout }
     ensures { Asks layout linear image.now result }
 {
-    let Opened {
-        frame,
-        definitions,
-        max_id,
-    } = open(image, layout)?;
+    let opened = open(image, layout)?;
+    let frame = opened.frame;
+    let definitions = opened.definitions;
     if !linear {
         let mut none = [0u64; 1];
-        check_image(image, frame, definitions, max_id, &mut none)?;
+        check_image(image, frame, definitions, opened.max_id, &mut none)?;
     }
     Ok(Stepper {
         frame,
