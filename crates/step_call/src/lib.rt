@@ -68,7 +68,13 @@ fn answer(ran: Ran) -> Result<Shown, Failure>
 }
 
 // At most so many steps on an image whose questions were answered with yes.
-fn step_on(image: &[u8], stepper: Stepper, steps: u64, store: &mut [u8], events: &mut [u8]) -> Result<Shown, Failure>
+fn step_on(
+    image: &[u8],
+    stepper: Stepper,
+    steps: u64,
+    store: &mut [u8],
+    events: &mut [u8],
+) -> Result<Shown, Failure>
     requires { Accepted stepper image.now }
     ensures { StepsOn stepper image.now steps store.old events.old store.new events.new result }
 {

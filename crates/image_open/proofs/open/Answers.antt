@@ -9,9 +9,9 @@ use Rattle.image_open.proofs.open.Goals.{then-image-id-via-then-image-id, then-i
 
 pub returns-then-image-id : goal.returns-then-image-id
 returns-then-image-id c = elim c.then-image-id.branch [
-      then-image-id-via-then-image-id w ↦ sym (short _ _ w.if-image-id.true)
-    | then-image-id-via-else-image-id+then-layout-image w ↦ sym (long _ _ w.if-image-id.false w.if-layout-image.true)
-    ]
+  | then-image-id-via-then-image-id w ↦ sym (short _ _ w.if-image-id.true)
+  | then-image-id-via-else-image-id+then-layout-image w ↦ sym (long _ _ w.if-image-id.false w.if-layout-image.true)
+]
 
 pub returns-then-number-layout : goal.returns-then-number-layout
 returns-then-number-layout c = sym (other-layout _ _ _ c.number.ensures c.if-image-id.false c.if-layout-image.false c.if-number-layout.true)

@@ -25,8 +25,8 @@ returns-then-out-length c =
     let b = c.body_at in
     let n = b.result + (a.so_far.at - a.start) in
     let no : leb n (length a.out.now) && leb n a.layout.largest ≡ false = elim c.then-out-length.branch [
-        then-out-length-via-then-out-length w ↦ rw (lt-leb n (length a.out.now) w.if-out-length.true) refl
-        | then-out-length-via-else-out-length+then-layout-length w ↦ rw (le-leb n (length a.out.now) w.if-out-length.false, lt-leb n a.layout.largest w.if-layout-length.true) refl
+      | then-out-length-via-then-out-length w ↦ rw (lt-leb n (length a.out.now) w.if-out-length.true) refl
+      | then-out-length-via-else-out-length+then-layout-length w ↦ rw (le-leb n (length a.out.now) w.if-out-length.false, lt-leb n a.layout.largest w.if-layout-length.true) refl
     ] in
     finishes-room n (ap (λ (z : ℕ). z + (a.so_far.at - a.start)) b.ensures) c.if-max_id-gt-MAX_ID.false no c.refuse-then-out-length.ensures
 

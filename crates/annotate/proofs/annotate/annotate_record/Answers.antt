@@ -9,9 +9,9 @@ pub returns-then-frame-i : goal.returns-then-frame-i
 returns-then-frame-i c =
     let a = c.args in
     elim c.then-frame-i.branch [
-        then-frame-i-via-then-frame-i w ↦ misplaced c.requires a.i (place-no c.requires a.i w.if-frame-i.true)
-        | then-frame-i-via-else-frame-i+then-not-has_annotation w ↦
-            misplaced c.requires a.i (place-yes c.requires a.i w.if-frame-i.false ∙ (has-kind (record_at a.frame a.image.now a.i) ∙ (ap annotated_kind w.parts_of.ensures.at.kind ∙ (sym w.has_annotation.ensures ∙ w.if-not-has_annotation.true))))
+      | then-frame-i-via-then-frame-i w ↦ misplaced c.requires a.i (place-no c.requires a.i w.if-frame-i.true)
+      | then-frame-i-via-else-frame-i+then-not-has_annotation w ↦
+          misplaced c.requires a.i (place-yes c.requires a.i w.if-frame-i.false ∙ (has-kind (record_at a.frame a.image.now a.i) ∙ (ap annotated_kind w.parts_of.ensures.at.kind ∙ (sym w.has_annotation.ensures ∙ w.if-not-has_annotation.true))))
     ]
 
 pub put_annotation-written-requires : goal.put_annotation-written-requires
