@@ -17,8 +17,8 @@ use Rattle.image_spec.specs.Parse.{each, field, All}
 use Rattle.image_spec.specs.Records.{Record, definition, substitute, call, let', switch, create, invoke, literal, op, ifc, clause', print, exit, RecordOk}
 use Rattle.image_spec.specs.Kinds.{kind_of, clauses_of, bodies}
 use Rattle.image_spec.specs.Shape.{flatten, flatten_clauses, flatten_defs, max_depth}
-use Rattle.image_spec.specs.declared.Answer.{Answer}
-use Rattle.image_spec.specs.declared.Answer.TheVariants.{Refused}
+use Rattle.std.specs.Prelude.{Err}
+use Rattle.image_spec.specs.Answers.{Answer}
 use Rattle.image_spec.specs.declared.Refusal.{Refusal}
 use Rattle.image_spec.specs.declared.Refusal.TheVariants.{Linearized, Limits, Room, Place}
 use Rattle.image_spec.specs.declared.Layout.{Layout}
@@ -30,7 +30,6 @@ use Rattle.image_read_parts.specs.Standing.{head_of}
 use Rattle.image_spec.proofs.ListLaws.{all_left}
 use Rattle.image_read_parts.proofs.TailPlaces.{record_ok}
 use Rattle.image_open.specs.Opening.{opened_of}
-use Rattle.image_open.specs.declared.Opened.TheVariants.{Closed}
 use Rattle.image_open.proofs.OpenedLaws.{IsOpened}
 use Rattle.image_places_spec.specs.Views.{record_of, clauses_in, bodies_of, binders}
 use Rattle.image_places_spec.specs.Places.{Begins, stmt_at, clauses_at, StmtStands, ClausesStand, BodiesStand}
@@ -323,7 +322,7 @@ module _ {g : Frame} {s : List ℕ} {d m : ℕ} (l : Limited g s d m) (i : ℕ) 
       go false e = record { answers = q.answer ∙ rw (test ∙ e); leaves = q.buffer ∙ rw (test ∙ e, size) }
 
   -- .. and where question 13 says no
-  pub misplaced : {before : List ℕ} → question13 P i ≡ false → Replies (placing g.id P i (length before)) (Refused Place) before before
+  pub misplaced : {before : List ℕ} → question13 P i ≡ false → Replies (placing g.id P i (length before)) (Err Place) before before
   unfolding placing
   misplaced n = rw n record { answers = refl; leaves = refl }
 
@@ -333,11 +332,11 @@ module _ (w : ℕ) (P : Prog) (i : ℕ) {before after : List ℕ} {r : Answer} w
   unfolding annotating
   annotated a b p = rw (a, b) p
 
-pub not_limited : (w : ℕ) (P : Prog) (i : ℕ) (before : List ℕ) → question6 P ≡ true → question7 P ≡ false → Replies (annotating w P i (length before)) (Refused Limits) before before
+pub not_limited : (w : ℕ) (P : Prog) (i : ℕ) (before : List ℕ) → question6 P ≡ true → question7 P ≡ false → Replies (annotating w P i (length before)) (Err Limits) before before
 unfolding annotating
 not_limited w P i before a b = rw (a, b) record { answers = refl; leaves = refl }
 
-pub not_source : (w : ℕ) (P : Prog) (i : ℕ) (before : List ℕ) → question6 P ≡ false → Replies (annotating w P i (length before)) (Refused Linearized) before before
+pub not_source : (w : ℕ) (P : Prog) (i : ℕ) (before : List ℕ) → question6 P ≡ false → Replies (annotating w P i (length before)) (Err Linearized) before before
 unfolding annotating
 not_source w P i before a = rw a record { answers = refl; leaves = refl }
 
@@ -349,6 +348,6 @@ opened_reply {L} {s} {g} {D} {m} o i {before} {after} {r} p =
     opened-replies o (λ (P : Prog). annotating L.id P i (length before))
     (subst (λ (w : ℕ). Replies (annotating w (program_in D (records_in g s) m) i (length before)) r before after) (ap (λ (f : Frame). f.id) o.frame) p)
 
-pub closed_reply : (L : Layout) (s : List ℕ) (i : ℕ) (before : List ℕ) {q : Refusal} → opened_of L s ≡ Closed q → Replies (annotate_of L s i (length before)) (Refused q) before before
+pub closed_reply : (L : Layout) (s : List ℕ) (i : ℕ) (before : List ℕ) {q : Refusal} → opened_of L s ≡ Err q → Replies (annotate_of L s i (length before)) (Err q) before before
 unfolding annotate_of
 closed_reply L s i before e = closed-replies L s (λ (P : Prog). annotating L.id P i (length before)) before e

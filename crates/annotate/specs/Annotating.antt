@@ -1,11 +1,10 @@
 -- What the functions of annotation need, and what they write.
-use Rattle.std.specs.Prelude.{ℕ, ◌≤◌, ◌≡◌, Bool, true, ◌&&◌, ◌||◌, cond, List, [], leb, eqb, length, replicate}
+use Rattle.std.specs.Prelude.{ℕ, ◌≤◌, ◌≡◌, Bool, true, ◌&&◌, ◌||◌, cond, List, [], leb, eqb, length, replicate, Ok, Err}
 use Rattle.syntax.specs.declared.names.VarId.{VarId}
 use Rattle.model.specs.Questions.{asked, plain, any_binders, question6, question7}
 use Rattle.image_spec.specs.Shape.{max_depth}
 use Rattle.image_spec.specs.declared.Refusal.TheVariants.{Room}
-use Rattle.image_spec.specs.declared.Answer.{Answer}
-use Rattle.image_spec.specs.declared.Answer.TheVariants.{Accepted, Refused}
+use Rattle.image_spec.specs.Answers.{Answer}
 use Rattle.image_directory.specs.Slots.{Ready, records_in}
 use Rattle.image_directory.specs.declared.Frame.{Frame}
 use Rattle.image_places_spec.specs.Places.{stmt_at, StmtStands}
@@ -48,5 +47,5 @@ pub record Limited (g : Frame) (s : List ℕ) (d m : ℕ) : Type 0 where
 
 -- document 01, question 12: does the answer fit the lent buffer? If not, all of it is set to zero
 pub record Settled (r : Answer) (before after : List ℕ) (written max_id : ℕ) : Type 0 where
-  pub answer : r ≡ cond (leb written (length before)) (Accepted written max_id) (Refused Room)
+  pub answer : r ≡ cond (leb written (length before)) (Ok (record { length = written; max_id = max_id })) (Err Room)
   pub buffer : after ≡ cond (leb written (length before)) before (replicate (length before) 0)

@@ -20,9 +20,9 @@ use crate::walk::{clauses, statement};
 use annotate_marks::put_set;
 use image_directory::Frame;
 use image_kinds::kinds::Kind;
-use image_open::{Opened, open};
+use image_open::open;
 use image_read_nodes::parts_of;
-use image_spec::{Answer, Layout, Refusal};
+use image_spec::{Accepted, Answer, Layout, Refusal};
 use image_write_bytes::bytes::clear;
 use scope_check::check::within_limits;
 use scope_check::definitions::walk_definitions;
@@ -39,19 +39,10 @@ pub struct Written {
 fn has_annotation(kind: u8) -> bool
     ensures { result ≡ annotated_kind kind }
 {
-    if kind < Kind::LET {
-        return false;
-    }
-    if kind <= Kind::CREATE {
-        return true;
-    }
-    if kind < Kind::LITERAL {
-        return false;
-    }
-    if kind <= Kind::OP {
-        return true;
-    }
-    kind == Kind::PRINT
+    matches!(
+        kind,
+        Kind::LET | Kind::SWITCH | Kind::CREATE | Kind::LITERAL | Kind::OP | Kind::PRINT
+    )
 }
 
 // Writes the free variables of the statement at index i.
@@ -111,14 +102,14 @@ fn put_annotation(image: &[u8], frame: Frame, i: usize, row: &mut [u8], out: &mu
 fn settle(out: &mut [u8], written: usize, max_id: u32) -> Answer
     ensures { Settled result out.old out.new written max_id }
 {
-    if written <= out.len() {
-        return Answer::Accepted {
-            length: written,
-            max_id,
-        };
+    if out.len() < written {
+        clear(out);
+        return Err(Refusal::Room);
     }
-    clear(out);
-    Answer::Refused(Refusal::Room)
+    Ok(Accepted {
+        length: written,
+        max_id,
+    })
 }
 
 // Questions 13 and 12, of an image that has passed 1 to 7.
@@ -133,16 +124,12 @@ fn annotate_record(
     requires { Limited frame image.now defs max_id }
     ensures { Replies (placing frame.id (program_in defs (records_in frame image.now) max_id) i (length out.old)) result out.old out.new }
 {
-    let count = frame.count;
-    if i < count {
-        let f = parts_of(image, frame, i);
-        if has_annotation(f.kind) {
-            let mut row = [0u8; Layout::IDS];
-            let written = put_annotation(image, frame, i, &mut row, out);
-            return settle(out, written, max_id);
-        }
+    if frame.count <= i || !has_annotation(parts_of(image, frame, i).kind) {
+        return Err(Refusal::Place);
     }
-    Answer::Refused(Refusal::Place)
+    let mut row = [0u8; Layout::IDS];
+    let written = put_annotation(image, frame, i, &mut row, out);
+    settle(out, written, max_id)
 }
 
 // Question 7, of an image that is opened, with d definitions.
@@ -150,12 +137,9 @@ fn in_limits(image: &[u8], frame: Frame, defs: usize, max_id: u32) -> bool
     requires { Ready frame image.now × Defined defs (records_in frame image.now) }
     ensures { result ≡ question7 (program_in defs (records_in frame image.now) max_id) }
 {
-    if within_limits(image, frame, defs) {
-        let mut none = [0u64; 1];
-        let v = walk_definitions(image, frame, defs, max_id, &mut none);
-        return v.room;
-    }
-    false
+    let mut none = [0u64; 1];
+    within_limits(image, frame, defs)
+        && walk_definitions(image, frame, defs, max_id, &mut none).room
 }
 
 // Questions 6, 7, 13 and 12.
@@ -170,13 +154,13 @@ fn annotate_image(
     requires { Ready frame image.now × (Defined defs (records_in frame image.now) × (frame.id ≤ 2)) }
     ensures { Replies (annotating frame.id (program_in defs (records_in frame image.now) max_id) i (length out.old)) result out.old out.new }
 {
-    if all_records(image, frame, Alone::Plain) {
-        if in_limits(image, frame, defs, max_id) {
-            return annotate_record(image, frame, defs, max_id, i, out);
-        }
-        return Answer::Refused(Refusal::Limits);
+    if !all_records(image, frame, Alone::Plain) {
+        return Err(Refusal::Linearized);
     }
-    Answer::Refused(Refusal::Linearized)
+    if !in_limits(image, frame, defs, max_id) {
+        return Err(Refusal::Limits);
+    }
+    annotate_record(image, frame, defs, max_id, i, out)
 }
 
 // Annotates the record at index i of an image of a layout whose IDs have at most two bytes.
@@ -184,12 +168,13 @@ pub fn annotate(image: &[u8], layout: Layout, i: usize, out: &mut [u8]) -> Answe
     requires { Known layout × (layout.id ≤ 2) }
     ensures { Replies (annotate_of layout image.now i (length out.old)) result out.old out.new }
 {
-    match open(image, layout) {
-        Opened::Image {
-            frame,
-            definitions,
-            max_id,
-        } => annotate_image(image, frame, definitions, max_id, i, out),
-        Opened::Closed(question) => Answer::Refused(question),
-    }
+    let opened = open(image, layout)?;
+    annotate_image(
+        image,
+        opened.frame,
+        opened.definitions,
+        opened.max_id,
+        i,
+        out,
+    )
 }

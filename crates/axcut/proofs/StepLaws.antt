@@ -19,20 +19,23 @@ use Rattle.step_spec.specs.Events.{givens}
 use Rattle.step_spec.specs.Calls.{Stepper, Result, source_stepper, linear_stepper, unchanged, starts_with, start_with, start_at, starting, start_call, step_call_lem}
 use Rattle.step_spec.specs.Claims.{Stepping}
 use Rattle.step_spec.proofs.Stepping as stepping
-use Rattle.step_answer_spec.specs.declared.Said.{Said}
-use Rattle.step_answer_spec.specs.declared.Said.TheVariants.{Refused, NoState, NoRoom, Done}
+use Rattle.std.specs.Prelude as std
+use Rattle.std.specs.Prelude.{Ok, Err}
+use Rattle.step_answer_spec.specs.declared.Shown.{Shown}
+use Rattle.step_answer_spec.specs.declared.Failure.{Failure}
+use Rattle.step_answer_spec.specs.declared.Failure.TheVariants.{Refused, NoState, NoRoom}
 use Rattle.step_answer_spec.specs.Saying.{result_of}
 use Rattle.step_ask.specs.Asking.{stepper_of}
 use Rattle.axcut.specs.Steps.{step_result}
 
 -- number, steps and bytes are the answer's
-said_is : (said : Said) (store events : List ℕ) → step_result (result_of said [] []).number (result_of said [] []).steps (result_of said [] []).length store events ≡ result_of said store events
-said_is (Refused q) store events = refl
-said_is NoState store events = refl
-said_is (NoRoom n k) store events = refl
-said_is (Done n k) store events = refl
+said_is : (said : std.Result Shown Failure) (store events : List ℕ) → step_result (result_of said [] []).number (result_of said [] []).steps (result_of said [] []).length store events ≡ result_of said store events
+said_is (Err (Refused q)) store events = refl
+said_is (Err NoState) store events = refl
+said_is (Err (NoRoom s)) store events = refl
+said_is (Ok s) store events = refl
 
-module _ (linear : Bool) {L : Layout} (one : L ≡ layout1) (said : Said) where
+module _ (linear : Bool) {L : Layout} (one : L ≡ layout1) (said : std.Result Shown Failure) where
   pub told-steps : (image : List ℕ) (n : ℕ) (store events : List ℕ) {store' events' : List ℕ} {number steps length : ℕ} → result_of said store' events' ≡ step_call_lem (stepper_of linear L) image n store events
       → (number ≡ (result_of said [] []).number) × ((steps ≡ (result_of said [] []).steps) × (length ≡ (result_of said [] []).length))
       → step_result number steps length store' events' ≡ step_call_lem (stepper_of linear layout1) image n store events
@@ -70,19 +73,19 @@ starts-unchanged S image n values store = asked (S.asks image)
     asked (accept P) = found P (nth n P.defs)
 
 -- number and store are the answer's
-number_is : (said : Said) (store : List ℕ) → (result_of said [] []).number ≡ (result_of said store []).number
-number_is (Refused q) store = refl
-number_is NoState store = refl
-number_is (NoRoom n k) store = refl
-number_is (Done n k) store = refl
+number_is : (said : std.Result Shown Failure) (store : List ℕ) → (result_of said [] []).number ≡ (result_of said store []).number
+number_is (Err (Refused q)) store = refl
+number_is (Err NoState) store = refl
+number_is (Err (NoRoom s)) store = refl
+number_is (Ok s) store = refl
 
-store_is : (said : Said) (store : List ℕ) → store ≡ (result_of said store []).store
-store_is (Refused q) store = refl
-store_is NoState store = refl
-store_is (NoRoom n k) store = refl
-store_is (Done n k) store = refl
+store_is : (said : std.Result Shown Failure) (store : List ℕ) → store ≡ (result_of said store []).store
+store_is (Err (Refused q)) store = refl
+store_is (Err NoState) store = refl
+store_is (Err (NoRoom s)) store = refl
+store_is (Ok s) store = refl
 
-pub told-start : (linear : Bool) {L : Layout} → L ≡ layout1 → (said : Said) (image : List ℕ) (n : ℕ) (values store : List ℕ) {store' : List ℕ} {number : ℕ}
+pub told-start : (linear : Bool) {L : Layout} → L ≡ layout1 → (said : std.Result Shown Failure) (image : List ℕ) (n : ℕ) (values store : List ℕ) {store' : List ℕ} {number : ℕ}
     → result_of said store' [] ≡ start_call (stepper_of linear L) image n values store → number ≡ (result_of said [] []).number
     → unchanged number store' [] ≡ start_call (stepper_of linear layout1) image n values store
 told-start linear {L} one said image n values store {store'} e t =

@@ -5,78 +5,52 @@ ghost use Rattle.std.specs.Prelude.{◌≡◌, []};
 ghost use Rattle.image_spec.specs.Answers.{Reports, report};
 ghost use Rattle.step_answer_spec.specs.Saying.{result_of};
 
-use image_spec::Answer;
-use step_answer_spec::Said;
+use image_spec::{Accepted, Answer};
+use step_answer_spec::{Failure, Shown};
 
 // The number of an answer. Sets what the caller is lent to report in, zeros with a refusal.
 pub fn tell(answer: Answer, length: &mut usize, max_id: &mut u32) -> u32
     ensures { Reports (report answer) result length.new max_id.new }
 {
-    match answer {
-        Answer::Accepted {
-            length: written,
-            max_id: top,
-        } => {
-            *length = written;
-            *max_id = top;
-            0u32
-        }
-        Answer::Refused(question) => {
-            *length = 0;
-            *max_id = 0;
-            question.number()
-        }
-    }
+    let (number, accepted) = match answer {
+        Ok(accepted) => (0, accepted),
+        Err(question) => (
+            question.number(),
+            Accepted {
+                length: 0,
+                max_id: 0,
+            },
+        ),
+    };
+    *length = accepted.length;
+    *max_id = accepted.max_id;
+    number
 }
 
 // The number of a stepper's answer.
-pub fn number_of(said: Said) -> u32
+pub fn number_of(said: Result<Shown, Failure>) -> u32
     ensures { result ≡ (result_of said [] []).number }
 {
     match said {
-        Said::Refused(question) => question.number(),
-        Said::NoState => 14,
-        Said::NoRoom {
-            steps: _,
-            length: _,
-        } => 15,
-        Said::Done {
-            steps: _,
-            length: _,
-        } => 0,
+        Ok(_) => 0,
+        Err(Failure::Refused(question)) => question.number(),
+        Err(Failure::NoState) => 14,
+        Err(Failure::NoRoom(_)) => 15,
     }
 }
 
 // The number of a stepper's answer. Sets the steps that were made and the bytes of their events.
-pub fn tell_steps(said: Said, made: &mut u64, length: &mut usize) -> u32
+pub fn tell_steps(said: Result<Shown, Failure>, made: &mut u64, length: &mut usize) -> u32
     ensures { (result ≡ (result_of said [] []).number) × ((made.new ≡ (result_of said [] []).steps) × (length.new ≡ (result_of said [] []).length)) }
 {
-    match said {
-        Said::Refused(question) => {
-            *made = 0;
-            *length = 0;
-            question.number()
-        }
-        Said::NoState => {
-            *made = 0;
-            *length = 0;
-            14
-        }
-        Said::NoRoom {
-            steps,
-            length: shown,
-        } => {
-            *made = steps;
-            *length = shown;
-            15
-        }
-        Said::Done {
-            steps,
-            length: shown,
-        } => {
-            *made = steps;
-            *length = shown;
-            0
-        }
-    }
+    let shown = match said {
+        Ok(shown) | Err(Failure::NoRoom(shown)) => shown,
+        Err(_) => Shown {
+            steps: 0,
+            length: 0,
+        },
+    };
+    *made = shown.steps;
+    *length = shown.length;
+    number_of(said)
 }

@@ -9,8 +9,8 @@ use lib.Dec.{leb}
 use lib.ListN.{length}
 use Rattle.model.specs.Syntax.{Prog}
 use Rattle.image_spec.specs.declared.Layout.{Layout}
-use Rattle.image_spec.specs.declared.Answer.{Answer}
-use Rattle.image_spec.specs.declared.Answer.TheVariants.{Accepted, Refused}
+use Rattle.image_spec.specs.declared.Refusal.{Refusal}
+use Rattle.image_spec.specs.Answers.{Answer}
 use Rattle.image_spec.specs.Layout.{layout1, max_records}
 use Rattle.image_spec.specs.Shape.{flatten_defs}
 use Rattle.image_spec.specs.Image.{if_some, image, ImageOk}
@@ -21,15 +21,15 @@ use Rattle.image_directory.specs.Slots.{formed_from, records_in, Ready}
 use Rattle.image_directory.specs.declared.Frame.{Frame}
 use Rattle.image_open.specs.Opening.{Known, frame_of, opened_by, opened_of}
 use Rattle.image_open.specs.declared.Opened.{Opened}
-use Rattle.image_open.specs.declared.Opened.TheVariants.{Image, Closed}
+use Rattle.std.specs.Prelude.{Result, Ok, Err}
 
 pub layout1-known : Known layout1
 layout1-known = record { id = (omega arith, omega arith); place = (omega arith, omega arith) }
 
 -- the answer of reading, of what was opened
-abbrev pub answer_for : Opened → Answer
-answer_for (Image g D m) = Accepted 0 m
-answer_for (Closed q) = Refused q
+abbrev pub answer_for : Result Opened Refusal → Answer
+answer_for (Ok o) = Ok (record { length = 0; max_id = o.max_id })
+answer_for (Err q) = Err q
 
 pub answer-opened : (L : Layout) (s : List ℕ) → answer_for (opened_of L s) ≡ answer_of (reading L s)
 unfolding opened_of
@@ -63,23 +63,22 @@ frame-ready L s p k e =
       formed = a.yes4;
     }
 
-pub opened-image : (L : Layout) (s : List ℕ) (g : Frame) (D m : ℕ) → Known L → opened_of L s ≡ Image g D m → IsOpened L s g D m
+pub opened-image : (L : Layout) (s : List ℕ) (g : Frame) (D m : ℕ) → Known L → opened_of L s ≡ Ok (record { frame = g; definitions = D; max_id = m }) → IsOpened L s g D m
 unfolding opened_of records_in records_of
 opened-image L s g D m k e = go (reading L s) refl e
   where
-    go : (r : Reading) → reading L s ≡ r → opened_by L s r ≡ Image g D m → IsOpened L s g D m
+    go : (r : Reading) → reading L s ≡ r → opened_by L s r ≡ Ok (record { frame = g; definitions = D; max_id = m }) → IsOpened L s g D m
     go (refuse q) h e = let z : ◌≡◌ {A = ℕ} 0 1 = cc (e) in absurd (omega arith)
     go (accept p) h e =
         let x = accepted L s p h in
-        let f : g ≡ frame_of L (record_count L s) = cc (e) in
-        let d : D ≡ definition_count L s = cc (e) in
-        rw f record {
+        let o : ◌≡◌ {A = Opened} (record { frame = g; definitions = D; max_id = m }) (record { frame = frame_of L (record_count L s); definitions = definition_count L s; max_id = p.max_id }) = cc (e) in
+        rw (ap (λ (x : Opened). x.frame) o) record {
           program = p;
           reads = h;
           ok = x.ok;
           written = x.written;
-          max_id = cc (e);
-          count = d ∙ x.count;
+          max_id = ap (λ (x : Opened). x.max_id) o;
+          count = ap (λ (x : Opened). x.definitions) o ∙ x.count;
           frame = refl;
           records = ap (λ o. if_some o [] (λ rs. rs)) x.records;
           ready = frame-ready L s p k h;

@@ -16,14 +16,14 @@ use Rattle.image_spec.specs.Reading.{header_of, records_of, definitions_of, ques
 use Rattle.image_spec.proofs.ReadingLaws.{first_no1, first_no2, first_no3, first_no4, first_no5, all_yes}
 use Rattle.image_directory.specs.Slots.{formed_from, records_in}
 use Rattle.image_open.specs.Opening.{Head, frame_of, opened_by, opened_of}
-use Rattle.image_open.specs.declared.Opened.TheVariants.{Image, Closed}
+use Rattle.std.specs.Prelude.{Ok, Err}
 
 module _ (L : Layout) (s : List ℕ) where
-  pub short : length s < header_size L → opened_of L s ≡ Closed Size
+  pub short : length s < header_size L → opened_of L s ≡ Err Size
   unfolding opened_of question1
   short h = let n : question1 L s ≡ false = rw (lt-leb (header_size L) (length s) h) in rw (first_no1 L s n)
 
-  pub long : header_size L ≤ length s → L.largest < length s → opened_of L s ≡ Closed Size
+  pub long : header_size L ≤ length s → L.largest < length s → opened_of L s ≡ Err Size
   unfolding opened_of question1
   long a h = let n : question1 L s ≡ false = rw (le-leb _ _ a, lt-leb _ _ h) in rw (first_no1 L s n)
 
@@ -40,7 +40,7 @@ module _ (L : Layout) (s : List ℕ) (v : ℕ) (e : number 2 (drop 0 s) ≡ got 
       go refused = refl
       go (got b k) = ne_eqb _ _ h
 
-  pub other-layout : header_size L ≤ length s → length s ≤ L.largest → (v ≡ L.number → ⊥) → opened_of L s ≡ Closed LayoutNumber
+  pub other-layout : header_size L ≤ length s → length s ≤ L.largest → (v ≡ L.number → ⊥) → opened_of L s ≡ Err LayoutNumber
   unfolding opened_of
   other-layout a b h = rw (first_no2 L s (sized L s a b) (not_layout h))
 
@@ -74,12 +74,12 @@ module _ (L : Layout) (s : List ℕ) (D m n : ℕ) (hd : Head L s D m n) where
   unfolding question5 definitions_of records_in
   shape_is = λ i. is_some (definitions (head_of i).1.0 (if_some (records-are i) [] (λ rs. rs)))
 
-  pub many : max_records < n → opened_of L s ≡ Closed Directory
+  pub many : max_records < n → opened_of L s ≡ Err Directory
   unfolding opened_of
   many h = let e : question3 L s ≡ false = tiled_is ∙ rw (lt-leb _ _ h) in rw (first_no3 L s y1 y2 e)
 
   module _ (few : n ≤ max_records) where
-    pub gaps : tiled_from L.place n (header_size L) (body_at L n) s ≡ false → opened_of L s ≡ Closed Directory
+    pub gaps : tiled_from L.place n (header_size L) (body_at L n) s ≡ false → opened_of L s ≡ Err Directory
     unfolding opened_of
     gaps h = let e : question3 L s ≡ false = tiled_is ∙ rw (le-leb _ _ few, h) in rw (first_no3 L s y1 y2 e)
 
@@ -87,15 +87,15 @@ module _ (L : Layout) (s : List ℕ) (D m n : ℕ) (hd : Head L s D m n) where
       y3 : question3 L s ≡ true
       y3 = tiled_is ∙ rw (le-leb _ _ few, t)
 
-      pub unformed : formed_from L.id L.place n (header_size L) (body_at L n) s ≡ false → opened_of L s ≡ Closed RecordForm
+      pub unformed : formed_from L.id L.place n (header_size L) (body_at L n) s ≡ false → opened_of L s ≡ Err RecordForm
       unfolding opened_of
       unformed h = rw (first_no4 L s y1 y2 y3 (formed_is ∙ h))
 
       module _ (f : formed_from L.id L.place n (header_size L) (body_at L n) s ≡ true) where
-        pub misshapen : is_some (definitions D (records_in (frame_of L n) s)) ≡ false → opened_of L s ≡ Closed Shape
+        pub misshapen : is_some (definitions D (records_in (frame_of L n) s)) ≡ false → opened_of L s ≡ Err Shape
         unfolding opened_of
         misshapen h = rw (first_no5 L s y1 y2 y3 (formed_is ∙ f) (shape_is ∙ h))
 
-        pub accepted : is_some (definitions D (records_in (frame_of L n) s)) ≡ true → opened_of L s ≡ Image (frame_of L n) D m
+        pub accepted : is_some (definitions D (records_in (frame_of L n) s)) ≡ true → opened_of L s ≡ Ok (record { frame = frame_of L n; definitions = D; max_id = m })
         unfolding opened_of program_of
-        accepted h = ap (opened_by L s) (all_yes L s y1 y2 y3 (formed_is ∙ f) (shape_is ∙ h)) ∙ (λ i. Image (frame_of L (head_of i).1.1.1) (head_of i).1.0 (head_of i).1.1.0)
+        accepted h = ap (opened_by L s) (all_yes L s y1 y2 y3 (formed_is ∙ f) (shape_is ∙ h)) ∙ (λ i. Ok (record { frame = frame_of L (head_of i).1.1.1; definitions = (head_of i).1.0; max_id = (head_of i).1.1.0 }))

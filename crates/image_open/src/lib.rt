@@ -6,44 +6,35 @@ ghost use Rattle.image_spec.specs.Layout.{layout1};
 ghost use Rattle.image_spec.specs.Reading.{reading, answer_of};
 ghost use Rattle.image_open.specs.Opening.{Known, Head, opened_of};
 
-use image_directory::{Frame, all_formed, long, tiled};
+use image_directory::{Frame, all_formed, tiled};
 use image_fields::number;
 use image_shape::shaped;
-use image_spec::{Answer, Layout, Refusal};
+use image_spec::{Accepted, Answer, Layout, Refusal};
 
 // An image that is accepted: where its records are, how many definitions they are, and its max_id.
 #[derive(Clone, Copy)]
-pub enum Opened {
-    Image {
-        frame: Frame,
-        definitions: usize,
-        max_id: u32,
-    },
-    Closed(Refusal),
+pub struct Opened {
+    pub frame: Frame,
+    pub definitions: usize,
+    pub max_id: u32,
 }
 
 // Asks the questions of an image of a layout, in their order.
-pub fn open(image: &[u8], layout: Layout) -> Opened
+pub fn open(image: &[u8], layout: Layout) -> Result<Opened, Refusal>
     requires { Known layout }
     ensures { result ≡ opened_of layout image.now }
 {
-    let len = image.len();
     let id = layout.id;
     let place = layout.place;
-    if len < 2 + (2 + (id + place)) {
-        return Opened::Closed(Refusal::Size);
+    if image.len() < 2 + (2 + (id + place)) || layout.largest < image.len() {
+        return Err(Refusal::Size);
     }
-    let largest = layout.largest;
-    if largest < len {
-        return Opened::Closed(Refusal::Size);
+    if number(image, 0, 2) != layout.number {
+        return Err(Refusal::LayoutNumber);
     }
-    let wanted = layout.number;
-    if number(image, 0, 2) != wanted {
-        return Opened::Closed(Refusal::LayoutNumber);
-    }
-    let definitions = long(number(image, 2, 2));
+    let definitions = number(image, 2, 2) as usize;
     let max_id = number(image, 4, id);
-    let count = long(number(image, 4 + id, place));
+    let count = number(image, 4 + id, place) as usize;
     open_records(image, layout, definitions, max_id, count)
 }
 
@@ -54,50 +45,47 @@ fn open_records(
     definitions: usize,
     max_id: u32,
     count: usize,
-) -> Opened
+) -> Result<Opened, Refusal>
     requires { Known layout × Head layout image.now definitions max_id count }
     ensures { result ≡ opened_of layout image.now }
 {
     if Layout::MAX_RECORDS < count {
-        return Opened::Closed(Refusal::Directory);
+        return Err(Refusal::Directory);
     }
     let id = layout.id;
     let place = layout.place;
     let from = 2 + (2 + (id + place));
     let start = from + count * (place + place);
-    if tiled(image, place, count, from, start) {
-        if all_formed(image, id, place, count, from, start) {
-            let frame = Frame {
-                id,
-                place,
-                count,
-                from,
-                start,
-            };
-            if shaped(image, frame, definitions) {
-                return Opened::Image {
-                    frame,
-                    definitions,
-                    max_id,
-                };
-            }
-            return Opened::Closed(Refusal::Shape);
-        }
-        return Opened::Closed(Refusal::RecordForm);
+    if !tiled(image, place, count, from, start) {
+        return Err(Refusal::Directory);
     }
-    Opened::Closed(Refusal::Directory)
+    if !all_formed(image, id, place, count, from, start) {
+        return Err(Refusal::RecordForm);
+    }
+    let frame = Frame {
+        id,
+        place,
+        count,
+        from,
+        start,
+    };
+    if !shaped(image, frame, definitions) {
+        return Err(Refusal::Shape);
+    }
+    Ok(Opened {
+        frame,
+        definitions,
+        max_id,
+    })
 }
 
 // Reads an image of layout 1.
 pub fn read(image: &[u8]) -> Answer
     ensures { result ≡ answer_of (reading layout1 image.now) }
 {
-    match open(image, Layout::one()) {
-        Opened::Image {
-            frame: _,
-            definitions: _,
-            max_id,
-        } => Answer::Accepted { length: 0, max_id },
-        Opened::Closed(question) => Answer::Refused(question),
-    }
+    let opened = open(image, Layout::one())?;
+    Ok(Accepted {
+        length: 0,
+        max_id: opened.max_id,
+    })
 }

@@ -1,9 +1,8 @@
--- What a call reports: number, length and max_id, by the answer that the code declares.
-use Rattle.std.specs.Prelude.{ℕ, ◌≡◌}
+-- What a call answers, and what it reports: number, length and max_id.
+use Rattle.std.specs.Prelude.{ℕ, ◌≡◌, Result, Ok, Err}
 use Rattle.image_spec.specs.declared.Refusal.{Refusal}
 use Rattle.image_spec.specs.declared.Refusal.TheVariants.{Size, LayoutNumber, Directory, RecordForm, Shape, Linearized, Limits, Binders, Scope, MaxId, Draws, Room, Place}
-use Rattle.image_spec.specs.declared.Answer.{Answer}
-use Rattle.image_spec.specs.declared.Answer.TheVariants.{Accepted, Refused}
+use Rattle.image_spec.specs.declared.Accepted.{Accepted}
 
 -- document 01, "The questions, and the number for no"
 abbrev pub number_of : Refusal → ℕ
@@ -34,6 +33,10 @@ number_of Room = 12
 -- 13. Is the record, given by its place from 0, below N and one with an annotation?
 number_of Place = 13
 
+-- the answer to a call: what an accepted call reports, or the question that refused it
+abbrev pub Answer : Type 0
+Answer = Result Accepted Refusal
+
 pub record Report : Type 0 where
   pub number : ℕ
   pub length : ℕ
@@ -41,8 +44,8 @@ pub record Report : Type 0 where
 
 -- document 01, "The questions": 0 is acceptance. Acceptance reports the bytes written and max_id; a refusal reports length 0 and max_id 0
 abbrev pub report : Answer → Report
-report (Accepted length max_id) = record { number = 0; length = length; max_id = max_id }
-report (Refused q) = record { number = number_of q; length = 0; max_id = 0 }
+report (Ok a) = record { number = 0; length = a.length; max_id = a.max_id }
+report (Err q) = record { number = number_of q; length = 0; max_id = 0 }
 
 -- what a call returned, and left in its two numbers, is this report
 pub record Reports (r : Report) (number length max_id : ℕ) : Type 0 where

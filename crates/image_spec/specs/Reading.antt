@@ -1,17 +1,15 @@
 -- Questions 1 to 5 as tests of any list of bytes, and what reading answers: the first no, or the program.
-use Rattle.std.specs.Prelude.{ℕ, List, [], Bool, true, false, ◌&&◌, leb, eqb, length}
+use Rattle.std.specs.Prelude.{ℕ, List, [], Bool, true, false, ◌&&◌, leb, eqb, length, Ok, Err}
 use Rattle.std.proofs.Math.Option.{Option}
 use Rattle.model.specs.Syntax.{Def, Prog}
 use Rattle.image_spec.specs.declared.Layout.{Layout}
 use Rattle.image_spec.specs.declared.Refusal.{Refusal}
 use Rattle.image_spec.specs.declared.Refusal.TheVariants.{Size, LayoutNumber, Directory, RecordForm, Shape}
-use Rattle.image_spec.specs.declared.Answer.{Answer}
-use Rattle.image_spec.specs.declared.Answer.TheVariants.{Accepted, Refused}
 use Rattle.image_spec.specs.Layout.{layout1, max_records, header_size, body_at}
 use Rattle.image_spec.specs.Records.{Record}
 use Rattle.image_spec.specs.Shape.{definitions}
 use Rattle.image_spec.specs.Image.{if_got, if_some, is_some, Header, header, tiled_from, records_from}
-use Rattle.image_spec.specs.Answers.{Report, report}
+use Rattle.image_spec.specs.Answers.{Answer, Report, report}
 
 module _ (L : Layout) (s : List ℕ) where
   -- the numbers of the header; zeros where there is none
@@ -81,8 +79,8 @@ reading L s =
 
 -- document 01, "The questions": acceptance reports the bytes written (0 for reading) and the image's max_id
 abbrev pub answer_of : Reading → Answer
-answer_of (refuse q) = Refused q
-answer_of (accept p) = Accepted 0 p.max_id
+answer_of (refuse q) = Err q
+answer_of (accept p) = Ok (record { length = 0; max_id = p.max_id })
 
 -- a call of `axcut_read`
 unfoldable pub read_call : List ℕ → Report

@@ -6,7 +6,7 @@ ghost use Rattle.image_spec.specs.Layout.{layout1};
 ghost use Rattle.image_spec.specs.Answers.{number_of};
 
 // What the fields of an image measure.
-#[derive(Clone, Copy)]
+#[derive(Clone, Copy, PartialEq, Eq, Debug)]
 pub struct Layout {
     pub number: u32,
     // The bytes of an ID.
@@ -46,7 +46,7 @@ impl Layout {
 }
 
 // The first question that is answered no, in document 01's order.
-#[derive(Clone, Copy)]
+#[derive(Clone, Copy, PartialEq, Eq, Debug)]
 pub enum Refusal {
     Size,
     LayoutNumber,
@@ -86,9 +86,12 @@ impl Refusal {
     }
 }
 
-// The answer to a call: the bytes that were written and the max_id to report, or the question that refused it.
-#[derive(Clone, Copy)]
-pub enum Answer {
-    Accepted { length: usize, max_id: u32 },
-    Refused(Refusal),
+// What an accepted call reports: the bytes that were written and the max_id.
+#[derive(Clone, Copy, PartialEq, Eq, Debug)]
+pub struct Accepted {
+    pub length: usize,
+    pub max_id: u32,
 }
+
+// The answer to a call: what it reports, or the question that refused it.
+pub type Answer = Result<Accepted, Refusal>;

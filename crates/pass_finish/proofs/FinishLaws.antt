@@ -17,8 +17,8 @@ use Rattle.model.specs.Questions.{question6, question7, question8, question9, qu
 use Rattle.image_spec.specs.declared.Layout.{Layout}
 use Rattle.image_spec.specs.declared.Refusal.{Refusal}
 use Rattle.image_spec.specs.declared.Refusal.TheVariants.{Linearized, Limits, Binders, Scope, MaxId, Draws, Room}
-use Rattle.image_spec.specs.declared.Answer.{Answer}
-use Rattle.image_spec.specs.declared.Answer.TheVariants.{Accepted}
+use Rattle.std.specs.Prelude.{Ok}
+use Rattle.image_spec.specs.Answers.{Answer}
 use Rattle.image_spec.specs.Parse.{each}
 use Rattle.image_spec.specs.Layout.{header_size, body_at}
 use Rattle.image_spec.specs.Records.{Record, record_bytes}
@@ -180,7 +180,7 @@ module _ {L : Layout} {d start : ℕ} {p : Progress} {lengths out out' : List �
 
   pub finishes-image : (n : ℕ) → n ≡ body_at L p.count + (p.at - start) → p.max_id ≤ 65535 → n ≤ length out → n ≤ L.largest → Finishable L lengths d start p
       → out' ≡ sets (sets out (body_at L p.count) (take (p.at - start) (drop start out))) 0 (heading L d p.max_id p.count (take p.count lengths))
-      → r ≡ Accepted n p.max_id → Finishes L d start p lengths out out' r
+      → r ≡ Ok (record { length = n; max_id = p.max_id }) → Finishes L d start p lengths out out' r
   unfolding closing
   finishes-image n w k h g f c t = record {
     replies = λ Q before lengths₀ m a b e.
@@ -190,7 +190,7 @@ module _ {L : Layout} {d start : ℕ} {p : Progress} {lengths out out' : List �
         let z : leb (length (image L Q)) (length before) ≡ true = le-leb (length (image L Q)) (length before) (omega (arith, h, i, s)) in
         let z' : leb (length (image L Q)) L.largest ≡ true = le-leb (length (image L Q)) L.largest (omega (arith, g, i)) in
         rw (y, z, z') (record {
-          answers = t ∙ ap (λ (x : ℕ). Accepted x p.max_id) (sym i) ∙ ap (λ (x : ℕ). Accepted (length (image L Q)) x) (sym b);
+          answers = t ∙ (λ j. Ok (record { length = sym i j; max_id = sym b j }));
           leaves = c
               ∙ ap (λ (x : ℕ). sets moved 0 (heading L x p.max_id p.count (take p.count lengths))) (sym a)
               ∙ ap (λ (x : ℕ). sets moved 0 (heading L (length Q.defs) x p.count (take p.count lengths))) (sym b)

@@ -1,11 +1,10 @@
 -- The end of linearization: what the code needs there, and what it has done then.
-use Rattle.std.specs.Prelude.{ℕ, ◌+◌, ◌≤◌, ◌<◌, ◌^◌, ◌≡◌, ◌&&◌, List, ◌++◌, leb, length, take, replicate}
+use Rattle.std.specs.Prelude.{ℕ, ◌+◌, ◌≤◌, ◌<◌, ◌^◌, ◌≡◌, ◌&&◌, List, ◌++◌, leb, length, take, replicate, Err}
 use Rattle.model.specs.Syntax.{Prog}
 use Rattle.image_spec.specs.declared.Layout.{Layout}
 use Rattle.image_spec.specs.declared.Refusal.{Refusal}
 use Rattle.image_spec.specs.declared.Refusal.TheVariants.{Draws, Room}
-use Rattle.image_spec.specs.declared.Answer.{Answer}
-use Rattle.image_spec.specs.declared.Answer.TheVariants.{Refused}
+use Rattle.image_spec.specs.Answers.{Answer}
 use Rattle.image_spec.specs.Parse.{each}
 use Rattle.image_spec.specs.Layout.{body_at}
 use Rattle.image_spec.specs.Shape.{flatten_defs}
@@ -28,7 +27,7 @@ heading L d m n sizes = header_bytes L (L.number, (d, (m, n))) ++ each (entry_by
 
 -- a refusal that sets the whole buffer to zero
 pub record Clears (q : Refusal) (r : Answer) (before after : List ℕ) : Type 0 where
-  pub answer : r ≡ Refused q
+  pub answer : r ≡ Err q
   pub buffer : after ≡ replicate (length before) 0
 
 -- records of these lengths were written from `start` on, not behind the place that they have in the image

@@ -7,7 +7,7 @@ ghost use Rattle.image_spec.specs.Layout.{body_at};
 ghost use Rattle.image_open.specs.Opening.{Known};
 ghost use Rattle.pass_finish.specs.Finishing.{heading, Clears, Finishable, Finishes};
 
-use image_spec::{Answer, Layout, Refusal};
+use image_spec::{Accepted, Answer, Layout, Refusal};
 use image_write_bytes::bytes::{clear, move_up};
 use image_write_directory::directory::{narrow, put_directory, put_header};
 use image_write_directory::progress::Progress;
@@ -27,7 +27,7 @@ fn refuse(out: &mut [u8], question: Refusal) -> Answer
     ensures { Clears question result out.old out.new }
 {
     clear(out);
-    Answer::Refused(question)
+    Err(question)
 }
 
 // Moves the records from `start` up to their place, and writes the header and the directory before them.
@@ -66,12 +66,9 @@ pub fn finish(
         return refuse(out, Refusal::Draws);
     }
     let length = body_at(layout, so_far.count) + (so_far.at - start);
-    if out.len() < length {
-        return refuse(out, Refusal::Room);
-    }
-    if layout.largest < length {
+    if out.len() < length || layout.largest < length {
         return refuse(out, Refusal::Room);
     }
     complete(out, lengths, layout, defs, start, so_far);
-    Answer::Accepted { length, max_id }
+    Ok(Accepted { length, max_id })
 }

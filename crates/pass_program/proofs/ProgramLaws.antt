@@ -16,8 +16,9 @@ use Rattle.model.specs.Pass.{linearize_defs, linearize}
 use Rattle.model.specs.Questions.{question6, question7, question8, question9, question10}
 use Rattle.model.proofs.Widths.{leb_says}
 use Rattle.image_spec.specs.declared.Layout.{Layout}
-use Rattle.image_spec.specs.declared.Answer.{Answer}
-use Rattle.image_spec.specs.declared.Answer.TheVariants.{Accepted, Refused}
+use Rattle.std.specs.Prelude.{Ok, Err}
+use Rattle.image_spec.specs.declared.Accepted.{Accepted}
+use Rattle.image_spec.specs.Answers.{Answer}
 use Rattle.image_spec.specs.declared.Refusal.{Refusal}
 use Rattle.image_spec.specs.declared.Refusal.TheVariants.{Linearized, Limits, Binders, Scope, MaxId}
 use Rattle.image_spec.specs.Layout.{body_at}
@@ -165,8 +166,8 @@ module _ {L : Layout} {g : Frame} {s : List ℕ} {d m : ℕ} (r : Read L g s d m
   abbrev program : Prog
   program = program_in d (records_in g s) m
 
-  all_yes : {size top : ℕ} (a b c u v : Bool) → question6 program ≡ a → question7 program ≡ b → question8 program ≡ c → question9 program ≡ u → question10 program ≡ v
-      → answer_of (if_yes a Linearized (if_yes b Limits (if_yes c Binders (if_yes u Scope (if_yes v MaxId (accept program)))))) ≡ Accepted size top → Checked L g s d m
+  all_yes : {told : Accepted} (a b c u v : Bool) → question6 program ≡ a → question7 program ≡ b → question8 program ≡ c → question9 program ≡ u → question10 program ≡ v
+      → answer_of (if_yes a Linearized (if_yes b Limits (if_yes c Binders (if_yes u Scope (if_yes v MaxId (accept program)))))) ≡ Ok told → Checked L g s d m
   all_yes true true true true true six seven eight nine ten e = record { read = r; six = six; seven = seven; eight = eight; nine = nine; ten = ten }
   all_yes false b c u v six seven eight nine ten e = let z : ◌≡◌ {A = ℕ} 0 1 = cc (e) in absurd (omega arith)
   all_yes true false c u v six seven eight nine ten e = let z : ◌≡◌ {A = ℕ} 0 1 = cc (e) in absurd (omega arith)
@@ -174,7 +175,7 @@ module _ {L : Layout} {g : Frame} {s : List ℕ} {d m : ℕ} (r : Read L g s d m
   all_yes true true true false v six seven eight nine ten e = let z : ◌≡◌ {A = ℕ} 0 1 = cc (e) in absurd (omega arith)
   all_yes true true true true false six seven eight nine ten e = let z : ◌≡◌ {A = ℕ} 0 1 = cc (e) in absurd (omega arith)
 
-  pub checked_yes : {size top : ℕ} → answer_of (checking program) ≡ Accepted size top → Checked L g s d m
+  pub checked_yes : {told : Accepted} → answer_of (checking program) ≡ Ok told → Checked L g s d m
   unfolding checking
   checked_yes e = all_yes (question6 program) (question7 program) (question8 program) (question9 program) (question10 program) refl refl refl refl refl e
 
@@ -182,12 +183,12 @@ pub replied : {L : Layout} {g : Frame} {s : List ℕ} {d m : ℕ} → Checked L 
     → Replies (closing L (linearize (program_in d (records_in g s) m)) size) r before after → Replies (linearizing L (program_in d (records_in g s) m) size) r before after
 replied {L} {g} {s} {d} {m} c size x = rw (closing_is L (program_in d (records_in g s) m) size, c.six, c.seven, c.eight, c.nine, c.ten) x
 
-pub checked_no : (L : Layout) (P : Prog) (size : ℕ) (before : List ℕ) {q : Refusal} → answer_of (checking P) ≡ Refused q → Replies (linearizing L P size) (Refused q) before before
+pub checked_no : (L : Layout) (P : Prog) (size : ℕ) (before : List ℕ) {q : Refusal} → answer_of (checking P) ≡ Err q → Replies (linearizing L P size) (Err q) before before
 unfolding checking linearizing
 checked_no L P size before {q} e = go (question6 P) (question7 P) (question8 P) (question9 P) (question10 P) _ e
   where
-    go : (a b c u v : Bool) (k : Reply) → answer_of (if_yes a Linearized (if_yes b Limits (if_yes c Binders (if_yes u Scope (if_yes v MaxId (accept P)))))) ≡ Refused q
-        → Replies (reply_if_yes a Linearized (reply_if_yes b Limits (reply_if_yes c Binders (reply_if_yes u Scope (reply_if_yes v MaxId k))))) (Refused q) before before
+    go : (a b c u v : Bool) (k : Reply) → answer_of (if_yes a Linearized (if_yes b Limits (if_yes c Binders (if_yes u Scope (if_yes v MaxId (accept P)))))) ≡ Err q
+        → Replies (reply_if_yes a Linearized (reply_if_yes b Limits (reply_if_yes c Binders (reply_if_yes u Scope (reply_if_yes v MaxId k))))) (Err q) before before
     go true true true true true k e = let z : ◌≡◌ {A = ℕ} 0 1 = cc (e) in absurd (omega arith)
     go false b c u v k e = let z : q ≡ Linearized = cc (e) in rw z record { answers = refl; leaves = refl }
     go true false c u v k e = let z : q ≡ Limits = cc (e) in rw z record { answers = refl; leaves = refl }

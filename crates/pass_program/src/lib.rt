@@ -15,7 +15,7 @@ ghost use Rattle.pass_finish.specs.Finishing.{closing};
 ghost use Rattle.pass_program.specs.Programs.{Read, Checked};
 
 use image_directory::Frame;
-use image_open::{Opened, open};
+use image_open::open;
 use image_spec::{Answer, Layout};
 use image_write_directory::progress::Progress;
 use pass_definitions::program::definitions;
@@ -62,13 +62,8 @@ fn linearize_lent(
     requires { Read layout frame image.now defs max_id × (frame.count ≤ 2000 → (2 * frame.count ≤ length rows.old) × (2 * frame.count ≤ length lengths.old)) }
     ensures { Replies (linearizing layout (program_in defs (records_in frame image.now) max_id) (length out.old)) result out.old out.new }
 {
-    match check_image(image, frame, defs, max_id, rows) {
-        Answer::Accepted {
-            length: _,
-            max_id: _,
-        } => linearize_program(image, layout, frame, defs, max_id, rows, lengths, out),
-        Answer::Refused(question) => Answer::Refused(question),
-    }
+    check_image(image, frame, defs, max_id, rows)?;
+    linearize_program(image, layout, frame, defs, max_id, rows, lengths, out)
 }
 
 // Questions 6 to 12.
@@ -116,12 +111,13 @@ pub fn linearize(image: &[u8], layout: Layout, out: &mut [u8]) -> Answer
     requires { Known layout × (layout.id ≤ 2) }
     ensures { Replies (linearize_of layout image.now (length out.old)) result out.old out.new }
 {
-    match open(image, layout) {
-        Opened::Image {
-            frame,
-            definitions: defs,
-            max_id,
-        } => linearize_image(image, layout, frame, defs, max_id, out),
-        Opened::Closed(question) => Answer::Refused(question),
-    }
+    let opened = open(image, layout)?;
+    linearize_image(
+        image,
+        layout,
+        opened.frame,
+        opened.definitions,
+        opened.max_id,
+        out,
+    )
 }

@@ -15,7 +15,7 @@ use Rattle.image_spec.specs.Records.{Record}
 use Rattle.image_spec.specs.declared.Layout.{Layout}
 use Rattle.image_spec.specs.declared.Refusal.{Refusal}
 use Rattle.image_spec.specs.declared.Refusal.TheVariants.{Linearized, Limits, Binders, Scope, MaxId}
-use Rattle.image_spec.specs.declared.Answer.TheVariants.{Accepted, Refused}
+use Rattle.std.specs.Prelude.{Ok, Err}
 use Rattle.image_spec.specs.Shape.{flatten_defs, DefOk}
 use Rattle.image_spec.specs.Reading.{Reading, refuse, accept, if_yes, reading, answer_of}
 use Rattle.image_spec.proofs.ShapeLaws.{parse_flatten, shallow-all}
@@ -24,7 +24,6 @@ use Rattle.image_spec.proofs.DirectoryLaws.{and_right}
 use Rattle.image_directory.specs.Slots.{records_in}
 use Rattle.image_directory.specs.declared.Frame.{Frame}
 use Rattle.image_open.specs.Opening.{opened_by, opened_of}
-use Rattle.image_open.specs.declared.Opened.TheVariants.{Closed}
 use Rattle.image_open.proofs.OpenedLaws.{IsOpened}
 use Rattle.scope_spec.specs.declared.Verdict.{Verdict}
 use Rattle.scope_spec.specs.Flat.{all_records_lem, plain_record_lem, small_record_lem}
@@ -56,11 +55,11 @@ module _ (P : Prog) where
       shuffle true true false d = refl
       shuffle true true true d = refl
 
-  pub not_plain : all_records_lem plain_record_lem (flatten_defs P.defs) ≡ false → answer_of (checking P) ≡ Refused Linearized
+  pub not_plain : all_records_lem plain_record_lem (flatten_defs P.defs) ≡ false → answer_of (checking P) ≡ Err Linearized
   unfolding checking
   not_plain e = rw (question6-flat P, e) refl
 
-  pub not_within : all_records_lem plain_record_lem (flatten_defs P.defs) ≡ true → in_limits ≡ false → answer_of (checking P) ≡ Refused Limits
+  pub not_within : all_records_lem plain_record_lem (flatten_defs P.defs) ≡ true → in_limits ≡ false → answer_of (checking P) ≡ Err Limits
   unfolding checking
   not_within e h = rw (question6-flat P, e, question7_is, h) refl
 
@@ -71,16 +70,16 @@ module _ (P : Prog) where
       rest : Reading
       rest = if_yes (question8 P) Binders (if_yes (question9 P) Scope (if_yes (question10 P) MaxId (accept P)))
 
-      last : (i : Bool) → answer_of (if_yes i MaxId (accept P)) ≡ cond i (Accepted 0 P.max_id) (Refused MaxId)
+      last : (i : Bool) → answer_of (if_yes i MaxId (accept P)) ≡ cond i (Ok (record { length = 0; max_id = P.max_id })) (Err MaxId)
       last true = refl
       last false = refl
 
-      both : (u i : Bool) → answer_of (if_yes u Scope (if_yes i MaxId (accept P))) ≡ cond u (cond i (Accepted 0 P.max_id) (Refused MaxId)) (Refused Scope)
+      both : (u i : Bool) → answer_of (if_yes u Scope (if_yes i MaxId (accept P))) ≡ cond u (cond i (Ok (record { length = 0; max_id = P.max_id })) (Err MaxId)) (Err Scope)
       both true i = last i
       both false i = refl
 
       three : (b u i : Bool) → answer_of (if_yes b Binders (if_yes u Scope (if_yes i MaxId (accept P))))
-          ≡ cond b (cond u (cond i (Accepted 0 P.max_id) (Refused MaxId)) (Refused Scope)) (Refused Binders)
+          ≡ cond b (cond u (cond i (Ok (record { length = 0; max_id = P.max_id })) (Err MaxId)) (Err Scope)) (Err Binders)
       three true u i = both u i
       three false u i = refl
 
@@ -122,10 +121,10 @@ module _ {d : ℕ} {rs : List Record} (h : Defined d rs) where
         → question7 P ≡ ((leb n 2000 && (all_records_lem small_record_lem rs && leb (depth_defs (defs_in d rs)) 64)) && (walk_defs (defs_in d rs) m clean).room)
     answer-room n e = question7_is P ∙ rw (limits n e, ← (walk_answers (defs_in d rs) m).room) refl
 
-    pub answer_6 : all_records_lem plain_record_lem rs ≡ false → answer_of (checking P) ≡ Refused Linearized
+    pub answer_6 : all_records_lem plain_record_lem rs ≡ false → answer_of (checking P) ≡ Err Linearized
     answer_6 e = not_plain P (plain-records false e)
 
-    pub answer_7 : (n : ℕ) → length rs ≡ n → all_records_lem plain_record_lem rs ≡ true → (leb n 2000 && (all_records_lem small_record_lem rs && leb (depth_defs (defs_in d rs)) 64)) ≡ false → answer_of (checking P) ≡ Refused Limits
+    pub answer_7 : (n : ℕ) → length rs ≡ n → all_records_lem plain_record_lem rs ≡ true → (leb n 2000 && (all_records_lem small_record_lem rs && leb (depth_defs (defs_in d rs)) 64)) ≡ false → answer_of (checking P) ≡ Err Limits
     answer_7 n k e f = not_within P (plain-records true e) (limits n k ∙ f)
 
     pub answer_walk : (n : ℕ) → length rs ≡ n → all_records_lem plain_record_lem rs ≡ true → (leb n 2000 && (all_records_lem small_record_lem rs && leb (depth_defs (defs_in d rs)) 64)) ≡ true
@@ -155,10 +154,10 @@ module _ {L : Layout} {s : List ℕ} {g : Frame} {D m : ℕ} (o : IsOpened L s g
       rw o.reads
       (ap (λ (P : Prog). answer_of (checking P)) (λ j. record { defs = opened-defs j; max_id = o.max_id j }))
 
-pub closed-answer : (L : Layout) (s : List ℕ) {q : Refusal} → opened_of L s ≡ Closed q → answer_of (check_of L s) ≡ Refused q
+pub closed-answer : (L : Layout) (s : List ℕ) {q : Refusal} → opened_of L s ≡ Err q → answer_of (check_of L s) ≡ Err q
 unfolding opened_of check_of
 closed-answer L s {q} e = go (reading L s) e
   where
-    go : (r : Reading) → opened_by L s r ≡ Closed q → answer_of (after_reading r checking) ≡ Refused q
+    go : (r : Reading) → opened_by L s r ≡ Err q → answer_of (after_reading r checking) ≡ Err q
     go (refuse p) e = cc (e)
     go (accept p) e = let z : ◌≡◌ {A = ℕ} 0 1 = cc (e) in absurd (omega arith)

@@ -51,6 +51,10 @@ pub record DefsLeft (d : ℕ) (rs : List Record) (left here : ℕ) (P : List Def
   pub stand : DefsStand d left rs here rest
   pub holds : P rest
 
+-- the number that is left, as a loop that counts up says it
+pub recount : {d : ℕ} {rs : List Record} {left more here : ℕ} {P : List Def → Type 0} → left ≡ more → DefsLeft d rs left here P → DefsLeft d rs more here P
+recount {d} {rs} {here = here} {P = P} e = subst (λ (n : ℕ). DefsLeft d rs n here P) e
+
 -- the definition of this name and these parameters
 abbrev pub def_of : Identifier → Context → Stmt → Def
 def_of x Γ t = record { name = x; context = Γ; body = t }

@@ -6,8 +6,8 @@ use mathlib.Core.Bool.{Bool, true, false}
 use mathlib.Core.List.{List}
 use native.Mathlib.Omega.{arith}
 use Rattle.model.specs.Syntax.{Prog}
-use Rattle.image_spec.specs.declared.Answer.{Answer}
-use Rattle.image_spec.specs.declared.Answer.TheVariants.{Refused}
+use Rattle.std.specs.Prelude.{Err}
+use Rattle.image_spec.specs.Answers.{Answer}
 use Rattle.image_spec.specs.declared.Refusal.{Refusal}
 use Rattle.image_spec.specs.declared.Refusal.TheVariants.{Size, LayoutNumber, Directory, RecordForm, Shape}
 use Rattle.image_spec.specs.declared.Layout.{Layout}
@@ -15,7 +15,6 @@ use Rattle.image_spec.specs.Reading.{Reading, refuse, accept, if_yes, question1,
 use Rattle.image_directory.specs.Slots.{records_in}
 use Rattle.image_directory.specs.declared.Frame.{Frame}
 use Rattle.image_open.specs.Opening.{opened_by, opened_of}
-use Rattle.image_open.specs.declared.Opened.TheVariants.{Closed}
 use Rattle.image_open.proofs.OpenedLaws.{IsOpened}
 use Rattle.scope_spec.specs.Calls.{Reply, after_refusal, reply_after, Replies}
 use Rattle.scope_check.specs.Deciding.{program_in}
@@ -45,10 +44,10 @@ reading-leaves L s =
     (asked-leaves (question4 L s) RecordForm _ (λ out. refl)
     (asked-leaves (question5 L s) Shape (accept (program_of L s)) (λ out. refl) tt))))
 
-pub closed-replies : (L : Layout) (s : List ℕ) (k : Prog → Reply) (before : List ℕ) {q : Refusal} → opened_of L s ≡ Closed q → Replies (reply_after (reading L s) k) (Refused q) before before
+pub closed-replies : (L : Layout) (s : List ℕ) (k : Prog → Reply) (before : List ℕ) {q : Refusal} → opened_of L s ≡ Err q → Replies (reply_after (reading L s) k) (Err q) before before
 unfolding opened_of Leaves
 closed-replies L s k before {q} e = go (reading L s) (reading-leaves L s) e
   where
-    go : (r : Reading) → Leaves r → opened_by L s r ≡ Closed q → Replies (reply_after r k) (Refused q) before before
+    go : (r : Reading) → Leaves r → opened_by L s r ≡ Err q → Replies (reply_after r k) (Err q) before before
     go (refuse p) h e = let z : q ≡ p = cc (e) in rw z record { answers = refl; leaves = sym (h before) }
     go (accept p) h e = let z : ◌≡◌ {A = ℕ} 0 1 = cc (e) in absurd (omega arith)

@@ -14,8 +14,8 @@ ghost use Rattle.scope_walk.specs.Masks.{Passed};
 
 use crate::definitions::{all_shallow, walk_definitions};
 use image_directory::Frame;
-use image_open::{Opened, open};
-use image_spec::{Answer, Layout, Refusal};
+use image_open::open;
+use image_spec::{Accepted, Answer, Layout, Refusal};
 use scope_records::flat::{Alone, all_records};
 use scope_spec::Verdict;
 
@@ -24,33 +24,28 @@ pub fn within_limits(image: &[u8], frame: Frame, defs: usize) -> bool
     requires { Ready frame image.now × Defined defs (records_in frame image.now) }
     ensures { result ≡ (leb frame.count 2000 && (all_records_lem small_record_lem (records_in frame image.now) && leb (depth_defs (defs_in defs (records_in frame image.now))) 64)) }
 {
-    let count = frame.count;
-    if Frame::MAX_SOURCE_RECORDS < count {
-        return false;
-    }
-    if all_records(image, frame, Alone::Small) {
-        return all_shallow(image, frame, defs);
-    }
-    false
+    frame.count <= Frame::MAX_SOURCE_RECORDS
+        && all_records(image, frame, Alone::Small)
+        && all_shallow(image, frame, defs)
 }
 
 // What the walk's verdict says of questions 7 to 10.
 fn decide(v: Verdict, max_id: u32) -> Answer
     ensures { result ≡ decided v max_id }
 {
-    if v.room {
-        if v.binders {
-            if v.uses {
-                if v.ids {
-                    return Answer::Accepted { length: 0, max_id };
-                }
-                return Answer::Refused(Refusal::MaxId);
-            }
-            return Answer::Refused(Refusal::Scope);
-        }
-        return Answer::Refused(Refusal::Binders);
+    if !v.room {
+        return Err(Refusal::Limits);
     }
-    Answer::Refused(Refusal::Limits)
+    if !v.binders {
+        return Err(Refusal::Binders);
+    }
+    if !v.uses {
+        return Err(Refusal::Scope);
+    }
+    if !v.ids {
+        return Err(Refusal::MaxId);
+    }
+    Ok(Accepted { length: 0, max_id })
 }
 
 // Questions 6 to 10 of an image that is opened, with d definitions. If 6, 7 and 8 have a yes, the rows have two masks for each record then. (A
@@ -59,13 +54,13 @@ pub fn check_image(image: &[u8], frame: Frame, defs: usize, max_id: u32, rows: &
     requires { Ready frame image.now × Defined defs (records_in frame image.now) }
     ensures { (result ≡ answer_of (checking (program_in defs (records_in frame image.now) max_id))) × (Passed (program_in defs (records_in frame image.now) 0) → rows.new ≡ sets rows.old 0 (rows_defs (defs_in defs (records_in frame image.now)))) }
 {
-    if all_records(image, frame, Alone::Plain) {
-        if within_limits(image, frame, defs) {
-            return decide(walk_definitions(image, frame, defs, max_id, rows), max_id);
-        }
-        return Answer::Refused(Refusal::Limits);
+    if !all_records(image, frame, Alone::Plain) {
+        return Err(Refusal::Linearized);
     }
-    Answer::Refused(Refusal::Linearized)
+    if !within_limits(image, frame, defs) {
+        return Err(Refusal::Limits);
+    }
+    decide(walk_definitions(image, frame, defs, max_id, rows), max_id)
 }
 
 // Checks an image of a layout.
@@ -73,15 +68,13 @@ pub fn check(image: &[u8], layout: Layout) -> Answer
     requires { Known layout }
     ensures { result ≡ answer_of (check_of layout image.now) }
 {
-    match open(image, layout) {
-        Opened::Image {
-            frame,
-            definitions,
-            max_id,
-        } => {
-            let mut none = [0u64; 1];
-            check_image(image, frame, definitions, max_id, &mut none)
-        }
-        Opened::Closed(question) => Answer::Refused(question),
-    }
+    let opened = open(image, layout)?;
+    let mut none = [0u64; 1];
+    check_image(
+        image,
+        opened.frame,
+        opened.definitions,
+        opened.max_id,
+        &mut none,
+    )
 }

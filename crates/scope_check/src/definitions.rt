@@ -23,16 +23,10 @@ pub fn all_shallow(image: &[u8], frame: Frame, defs: usize) -> bool
     ensures { result ≡ leb (depth_defs (defs_in defs (records_in frame image.now))) 64 }
 {
     let mut at = 0;
-    let mut left = defs;
-    while 0 < left {
+    for _ in 0..defs {
         match shape_statement(image, frame, Frame::MAX_SOURCE_DEPTH, Found::At(at + 1)) {
-            Found::At(next) => {
-                at = next;
-                left = left - 1;
-            }
-            Found::Nothing => {
-                return false;
-            }
+            Found::At(next) => at = next,
+            Found::Nothing => return false,
         }
     }
     true
@@ -61,8 +55,7 @@ pub fn walk_definitions(
         verdict,
         free: 0,
     };
-    let mut left = defs;
-    while 0 < left {
+    for _ in 0..defs {
         let e = enter_head(image, frame, Kind::DEFINITION, here, &mut scope, 0, max_id);
         let b = statement(
             image,
@@ -77,7 +70,6 @@ pub fn walk_definitions(
         );
         put_row(rows, here.next, 0, b.free);
         here = b;
-        left = left - 1;
     }
     here.verdict
 }

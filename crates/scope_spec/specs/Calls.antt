@@ -1,5 +1,5 @@
 -- What the scope check and annotation answer: the calls of `axcut_check` and `axcut_annotate`, for every input.
-use Rattle.std.specs.Prelude.{ℕ, ◌≡◌, Bool, true, false, List, [], ◌∷◌, ◌++◌, leb, length, drop, replicate}
+use Rattle.std.specs.Prelude.{ℕ, ◌≡◌, Bool, true, false, List, [], ◌∷◌, ◌++◌, leb, length, drop, replicate, Ok, Err}
 use Rattle.std.proofs.lemmas.List.Edits.{sets}
 use Rattle.syntax.specs.declared.names.VarId.{VarId}
 use Rattle.model.specs.Syntax.{Prog}
@@ -8,13 +8,11 @@ use Rattle.model.specs.Questions.{question6, question7, question8, question9, qu
 use Rattle.image_spec.specs.declared.Layout.{Layout}
 use Rattle.image_spec.specs.declared.Refusal.{Refusal}
 use Rattle.image_spec.specs.declared.Refusal.TheVariants.{Size, LayoutNumber, Directory, RecordForm, Shape, Linearized, Limits, Binders, Scope, MaxId, Draws, Room, Place}
-use Rattle.image_spec.specs.declared.Answer.{Answer}
-use Rattle.image_spec.specs.declared.Answer.TheVariants.{Accepted, Refused}
 use Rattle.image_spec.specs.Parse.{each, field}
 use Rattle.image_spec.specs.Layout.{layout1}
 use Rattle.image_spec.specs.Records.{Record, definition, substitute, call, let', switch, create, invoke, literal, op, ifc, clause', print, exit}
 use Rattle.image_spec.specs.Shape.{flatten_defs, max_depth}
-use Rattle.image_spec.specs.Answers.{Report, Reports, report}
+use Rattle.image_spec.specs.Answers.{Answer, Report, Reports, report}
 use Rattle.image_spec.specs.Reading.{Reading, refuse, accept, if_yes, reading, answer_of}
 use Rattle.image_places_spec.specs.Places.{stmt_at}
 
@@ -46,8 +44,8 @@ pub data Reply : Type 0 where
   writes : (bytes : List ℕ) (max_id : ℕ) → Reply
 
 abbrev pub reply_answer : Reply → Answer
-reply_answer (refuses q) = Refused q
-reply_answer (writes bytes m) = Accepted (length bytes) m
+reply_answer (refuses q) = Err q
+reply_answer (writes bytes m) = Ok (record { length = length bytes; max_id = m })
 
 -- document 01, "The questions": numbers 11 and 12 set the whole output buffer to zero; others leave it
 abbrev pub after_refusal : Refusal → List ℕ → List ℕ

@@ -17,7 +17,7 @@ use Rattle.step_spec.proofs.Stepping.{Readable, read-readable, check_readable}
 use Rattle.step_rule.specs.declared.Stepper.{Stepper}
 use Rattle.step_rule.specs.Rules.{ProgramOf, machine_in}
 use Rattle.step_ask.specs.Asking.{stepper_of, Asks, closed, opened}
-use Rattle.step_ask.specs.declared.Asked.TheVariants.{Image, Closed}
+use Rattle.std.specs.Prelude.{Ok, Err}
 use Rattle.step_answer_spec.specs.Saying.{Accepted}
 
 module _ {L : Layout} (known : Known L) where
@@ -30,14 +30,14 @@ module _ {L : Layout} (known : Known L) where
   machine-of false = refl
 
   -- what the questions leave known
-  pub accepted : {b : Bool} {bytes : List ℕ} {s : Stepper} → Asks L b bytes (Image s) → Accepted s bytes
+  pub accepted : {b : Bool} {bytes : List ℕ} {s : Stepper} → Asks L b bytes (Ok s) → Accepted s bytes
   accepted {b} {bytes} (opened P e p y q) = record { program = P; is = p; readable = readable_of b bytes P e; ready = y }
 
   module _ (answer : Machine → Reading → Result) where
-    pub answers-accepted : {b : Bool} {bytes : List ℕ} {s : Stepper} → Asks L b bytes (Image s) → {x : Result} → ((P : Prog) → ProgramOf P s bytes → Readable P → x ≡ answer (machine_in s) (accept P))
+    pub answers-accepted : {b : Bool} {bytes : List ℕ} {s : Stepper} → Asks L b bytes (Ok s) → {x : Result} → ((P : Prog) → ProgramOf P s bytes → Readable P → x ≡ answer (machine_in s) (accept P))
         → x ≡ answer (stepper_of b L).machine ((stepper_of b L).asks bytes)
     answers-accepted {b} {bytes} {s} (opened P e p y q) {x} f =
         f P p (readable_of b bytes P e) ∙ ap₂ {C = Result} answer (ap (λ (c : Bool). cond c linear_machine source_machine) q ∙ machine-of b) (sym e)
 
-    pub answers-refused : {b : Bool} {bytes : List ℕ} {q : Refusal} → Asks L b bytes (Closed q) → answer (stepper_of b L).machine (refuse q) ≡ answer (stepper_of b L).machine ((stepper_of b L).asks bytes)
+    pub answers-refused : {b : Bool} {bytes : List ℕ} {q : Refusal} → Asks L b bytes (Err q) → answer (stepper_of b L).machine (refuse q) ≡ answer (stepper_of b L).machine ((stepper_of b L).asks bytes)
     answers-refused {b} (closed e) = ap (answer (stepper_of b L).machine) (sym e)

@@ -1,13 +1,30 @@
 // What a stepper's call answers.
 #![tactic(auto)]
 
+ghost use Rattle.std.specs.Prelude.{◌≡◌};
+ghost use Rattle.step_answer_spec.specs.declared.Failure.TheVariants.{Refused};
+
 use image_spec::Refusal;
 
-// A question of the image was answered with no; there is no state or start (14); the start or the next step has no room (15); or neither.
-#[derive(Clone, Copy)]
-pub enum Said {
+// The steps that were made, and the bytes of their events.
+#[derive(Clone, Copy, PartialEq, Eq, Debug)]
+pub struct Shown {
+    pub steps: u64,
+    pub length: usize,
+}
+
+// A question of the image was answered with no; there is no state or start (14); or the start or the next step has no room (15).
+#[derive(Clone, Copy, PartialEq, Eq, Debug)]
+pub enum Failure {
     Refused(Refusal),
     NoState,
-    NoRoom { steps: u64, length: usize },
-    Done { steps: u64, length: usize },
+    NoRoom(Shown),
+}
+
+impl From<Refusal> for Failure {
+    ghost from_gives = { λ question failure. failure ≡ Refused question };
+
+    fn from(question: Refusal) -> Failure {
+        Failure::Refused(question)
+    }
 }

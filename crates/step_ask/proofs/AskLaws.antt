@@ -7,13 +7,13 @@ use native.Mathlib.Omega.{arith}
 use Rattle.model.specs.Syntax.{Prog}
 use Rattle.image_spec.specs.declared.Layout.{Layout}
 use Rattle.image_spec.specs.declared.Refusal.{Refusal}
-use Rattle.image_spec.specs.declared.Answer.{Answer}
-use Rattle.image_spec.specs.declared.Answer.TheVariants.{Accepted, Refused}
+use Rattle.std.specs.Prelude.{Ok, Err}
+use Rattle.image_spec.specs.declared.Accepted.{Accepted}
+use Rattle.image_spec.specs.Answers.{Answer}
 use Rattle.image_spec.specs.Reading.{Reading, refuse, accept, reading, answer_of}
 use Rattle.image_directory.specs.Slots.{records_in}
 use Rattle.image_directory.specs.declared.Frame.{Frame}
 use Rattle.image_open.specs.Opening.{opened_by, opened_of}
-use Rattle.image_open.specs.declared.Opened.TheVariants.{Closed}
 use Rattle.image_open.proofs.OpenedLaws.{IsOpened}
 use Rattle.scope_spec.specs.Calls.{after_reading, checking, check_of}
 use Rattle.scope_check.specs.Deciding.{program_in}
@@ -22,18 +22,17 @@ use Rattle.step_spec.proofs.Stepping.{checked_is}
 use Rattle.step_rule.specs.declared.Stepper.{Stepper}
 use Rattle.step_rule.specs.Rules.{ProgramOf}
 use Rattle.step_ask.specs.Asking.{stepper_of, Asks, closed, opened}
-use Rattle.step_ask.specs.declared.Asked.TheVariants as asked
 
-refused : (r : Reading) (q : Refusal) → answer_of r ≡ Refused q → r ≡ refuse q
+refused : (r : Reading) (q : Refusal) → answer_of r ≡ Err q → r ≡ refuse q
 refused (refuse p) q e = let z : p ≡ q = cc (e) in ap refuse z
 refused (accept P) q e = let z : ◌≡◌ {A = ℕ} 0 1 = cc (e) in absurd (omega arith)
 
 -- an image that is refused when it is opened
-pub closed-asks : (L : Layout) (s : List ℕ) (b : Bool) {q : Refusal} → opened_of L s ≡ Closed q → Asks L b s (asked.Closed q)
+pub closed-asks : (L : Layout) (s : List ℕ) (b : Bool) {q : Refusal} → opened_of L s ≡ Err q → Asks L b s (Err q)
 unfolding opened_of check_of
 closed-asks L s b {q} e = closed (go b)
   where
-    read : (r : Reading) → opened_by L s r ≡ Closed q → r ≡ refuse q
+    read : (r : Reading) → opened_by L s r ≡ Err q → r ≡ refuse q
     read (refuse p) e = let z : p ≡ q = cc (e) in ap refuse z
     read (accept p) e = let z : ◌≡◌ {A = ℕ} 0 1 = cc (e) in absurd (omega arith)
 
@@ -48,7 +47,7 @@ module _ {L : Layout} {s : List ℕ} {g : Frame} {D m : ℕ} (o : IsOpened L s g
   program-of : (b : Bool) → ProgramOf o.program (stepper b) s
   program-of b = record { records = o.records; shallow = o.ok.shallow; count = sym o.count }
 
-  pub linear-asks : Asks L true s (asked.Image (stepper true))
+  pub linear-asks : Asks L true s (Ok (stepper true))
   linear-asks = opened o.program o.reads (program-of true) o.ready refl
 
   check_is : check_of L s ≡ checking o.program
@@ -56,12 +55,12 @@ module _ {L : Layout} {s : List ℕ} {g : Frame} {D m : ℕ} (o : IsOpened L s g
   check_is = ap (λ (r : Reading). after_reading r checking) o.reads
 
   -- .. of a source, by what the scope check answers
-  pub source-asks : (r : Answer) (n k : ℕ) → r ≡ answer_of (checking (program_in D (records_in g s) m)) → r ≡ Accepted n k → Asks L false s (asked.Image (stepper false))
-  source-asks r n k e f = opened o.program (check_is ∙ go (checking o.program) refl (ap answer_of (sym check_is) ∙ (sym (e ∙ opened-answer o) ∙ f))) (program-of false) o.ready refl
+  pub source-asks : (r : Answer) (told : Accepted) → r ≡ answer_of (checking (program_in D (records_in g s) m)) → r ≡ Ok told → Asks L false s (Ok (stepper false))
+  source-asks r told e f = opened o.program (check_is ∙ go (checking o.program) refl (ap answer_of (sym check_is) ∙ (sym (e ∙ opened-answer o) ∙ f))) (program-of false) o.ready refl
     where
-      go : (c : Reading) → checking o.program ≡ c → answer_of c ≡ Accepted n k → c ≡ accept o.program
+      go : (c : Reading) → checking o.program ≡ c → answer_of c ≡ Ok told → c ≡ accept o.program
       go (refuse q) p e = let z : ◌≡◌ {A = ℕ} 0 1 = cc (e) in absurd (omega arith)
       go (accept Q) p e = ap accept (sym (checked_is o.program Q p))
 
-  pub source-closed : (r : Answer) (q : Refusal) → r ≡ answer_of (checking (program_in D (records_in g s) m)) → r ≡ Refused q → Asks L false s (asked.Closed q)
+  pub source-closed : (r : Answer) (q : Refusal) → r ≡ answer_of (checking (program_in D (records_in g s) m)) → r ≡ Err q → Asks L false s (Err q)
   source-closed r q e f = closed (refused (check_of L s) q (sym (e ∙ opened-answer o) ∙ f))

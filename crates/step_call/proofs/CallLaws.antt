@@ -12,7 +12,8 @@ use Rattle.step_spec.specs.Store.{state_from}
 use Rattle.step_spec.specs.Calls.{Result, Progress, stays, onward, making, space_number, made', step_from}
 use Rattle.step_run.specs.declared.Ran.{Ran}
 use Rattle.step_run.specs.Runs.{Did}
-use Rattle.step_answer_spec.specs.declared.Said.TheVariants.{NoState, Done}
+use Rattle.std.specs.Prelude.{Ok, Err}
+use Rattle.step_answer_spec.specs.declared.Failure.TheVariants.{NoState}
 use Rattle.step_answer_spec.specs.Saying.{result_of}
 use Rattle.step_call.specs.Stepping.{said_if, said_of}
 
@@ -40,7 +41,7 @@ settled_flag false s e f = e
 
 module _ (M : Machine) (P : Prog) (n : ℕ) (store events : List ℕ) where
   -- 14
-  pub from_none : state_from P store ≡ none → result_of NoState store events ≡ step_from M P n (state_from P store) store events
+  pub from_none : state_from P store ≡ none → result_of (Err NoState) store events ≡ step_from M P n (state_from P store) store events
   from_none e = sym (ap (λ (o : Option Located). step_from M P n o store events) e)
 
   stays-there : (k : ℕ) (l : Located) → located_step M P l ≡ none → making M P k l store (length events) ≡ stays false l store
@@ -50,7 +51,7 @@ module _ (M : Machine) (P : Prog) (n : ℕ) (store events : List ℕ) where
 
   module _ (l : Located) (read : state_from P store ≡ some l) where
     -- there is no step
-    pub from-resting : located_step M P l ≡ none → result_of (Done 0 0) store events ≡ step_from M P n (state_from P store) store events
+    pub from-resting : located_step M P l ≡ none → result_of (Ok (record { steps = 0; length = 0 })) store events ≡ step_from M P n (state_from P store) store events
     from-resting e = sym (ap (λ (o : Option Located). step_from M P n o store events) read ∙ ap (λ (p : Progress). made' p events) (stays-there n l e))
 
     -- steps were made

@@ -18,8 +18,10 @@ use Rattle.step_settle.proofs.Reading.{reads-holds, reads-inside}
 use Rattle.step_turn.specs.Turning.{Living, Lives}
 use Rattle.step_run.specs.declared.Ran.{Ran}
 use Rattle.step_run.specs.Runs.{Runs}
-use Rattle.step_answer_spec.specs.declared.Said.{Said}
-use Rattle.step_answer_spec.specs.declared.Said.TheVariants.{NoState, Done}
+use Rattle.std.specs.Prelude.{Result, Ok, Err}
+use Rattle.step_answer_spec.specs.declared.Shown.{Shown}
+use Rattle.step_answer_spec.specs.declared.Failure.{Failure}
+use Rattle.step_answer_spec.specs.declared.Failure.TheVariants.{NoState}
 use Rattle.step_answer_spec.specs.Saying.{result_of, Accepted}
 use Rattle.step_call.specs.Stepping.{said_of, Forged, StepsOn}
 use Rattle.step_call.proofs.OpenedState.{not_opened, opened-reads}
@@ -27,7 +29,7 @@ use Rattle.step_call.proofs.CallLaws.{forged_step, settled_flag, from_none, from
 
 module _ {stepper : Stepper} {bytes store : List ℕ} {h : Header} (o : Opens stepper.frame bytes store h) where
   -- it is no state
-  pub none_steps : 1 < h.ended → {n : ℕ} {events : List ℕ} → StepsOn stepper bytes n store events store events NoState
+  pub none_steps : 1 < h.ended → {n : ℕ} {events : List ℕ} → StepsOn stepper bytes n store events store events (Err NoState)
   none_steps e {n} {events} = record { steps = λ P p r. from_none (machine_in stepper) P n store events (not_opened p o (lt-leb h.ended 1 e)) }
 
   module _ (e : h.ended ≤ 1) where
@@ -38,7 +40,7 @@ module _ {stepper : Stepper} {bytes store : List ℕ} {h : Header} (o : Opens st
     opened-holds a = let r = state-read a.is in (reads-inside r a.ready a.is, reads-holds r)
 
     -- its flag is clear where the machine stops
-    pub forged_steps : {b : Bool} → Forged stepper bytes store h b → b ≡ true → {n : ℕ} {events : List ℕ} → StepsOn stepper bytes n store events store events (Done 0 0)
+    pub forged_steps : {b : Bool} → Forged stepper bytes store h b → b ≡ true → {n : ℕ} {events : List ℕ} → StepsOn stepper bytes n store events store events (Ok (record { steps = 0; length = 0 }))
     forged_steps f q {n} {events} = record {
       steps = λ P p r.
           let s = state-read p in
@@ -56,10 +58,10 @@ module _ {stepper : Stepper} {bytes store : List ℕ} {h : Header} (o : Opens st
       opened-lives a = record { program = a.program; state = seen store h; living = living a.is a.readable }
 
       -- steps were made
-      pub ran-steps : {n : ℕ} {events store' events' : List ℕ} {r : Ran} → Runs (machine_in stepper) stepper bytes n store events h store' events' r → {s : Said} → s ≡ said_of r
+      pub ran-steps : {n : ℕ} {events store' events' : List ℕ} {r : Ran} → Runs (machine_in stepper) stepper bytes n store events h store' events' r → {s : Result Shown Failure} → s ≡ said_of r
           → StepsOn stepper bytes n store events store' events' s
       ran-steps {n} {events} {store'} {events'} {r} w {s} k = record {
         steps = λ P p d.
-            ap (λ (z : Said). result_of z store' events') k
+            ap (λ (z : Result Shown Failure). result_of z store' events') k
             ∙ from-ran (machine_in stepper) P n store events (seen store h) (state-read p).read (w.runs P (seen store h) (living p d));
       }

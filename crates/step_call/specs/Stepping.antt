@@ -1,5 +1,5 @@
 -- Steps on an image whose questions were answered with yes.
-use Rattle.std.specs.Prelude.{ℕ, ◌≡◌, Bool, true, false, not, ◌&&◌, List}
+use Rattle.std.specs.Prelude.{ℕ, ◌≡◌, Bool, true, false, not, ◌&&◌, List, Result, Ok, Err}
 use Rattle.model.specs.Syntax.{Prog}
 use Rattle.step_spec.specs.Located.{Located, project, is_stop}
 use Rattle.step_spec.specs.Store.{state_from}
@@ -9,16 +9,17 @@ use Rattle.step_header.specs.declared.Header.{Header}
 use Rattle.step_rule.specs.declared.Stepper.{Stepper}
 use Rattle.step_rule.specs.Rules.{ProgramOf, machine_in, Reads}
 use Rattle.step_run.specs.declared.Ran.{Ran}
-use Rattle.step_answer_spec.specs.declared.Said.{Said}
-use Rattle.step_answer_spec.specs.declared.Said.TheVariants.{NoRoom, Done}
+use Rattle.step_answer_spec.specs.declared.Shown.{Shown}
+use Rattle.step_answer_spec.specs.declared.Failure.{Failure}
+use Rattle.step_answer_spec.specs.declared.Failure.TheVariants.{NoRoom}
 use Rattle.step_answer_spec.specs.Saying.{result_of}
 
 -- the answer after steps that were made
-abbrev pub said_if : (full : Bool) (steps length : ℕ) → Said
-said_if true n k = NoRoom n k
-said_if false n k = Done n k
+abbrev pub said_if : (full : Bool) (steps length : ℕ) → Result Shown Failure
+said_if true n k = Err (NoRoom (record { steps = n; length = k }))
+said_if false n k = Ok (record { steps = n; length = k })
 
-abbrev pub said_of : Ran → Said
+abbrev pub said_of : Ran → Result Shown Failure
 said_of r = said_if r.full r.steps r.length
 
 -- does the machine stop at the state that the store is read as, though its flag is clear?
@@ -26,5 +27,5 @@ pub record Forged (stepper : Stepper) (bytes store : List ℕ) (h : Header) (b :
   pub is : (P : Prog) (l : Located) → ProgramOf P stepper bytes → Reads P store h l → b ≡ (not l.has_stopped && is_stop ((machine_in stepper).step P (project P l)))
 
 -- the steps and the answer are those of the definition, whatever program the image is that of
-pub record StepsOn (stepper : Stepper) (bytes : List ℕ) (n : ℕ) (store events store' events' : List ℕ) (r : Said) : Type 0 where
+pub record StepsOn (stepper : Stepper) (bytes : List ℕ) (n : ℕ) (store events store' events' : List ℕ) (r : Result Shown Failure) : Type 0 where
   pub steps : (P : Prog) → ProgramOf P stepper bytes → Readable P → result_of r store' events' ≡ step_from (machine_in stepper) P n (state_from P store) store events

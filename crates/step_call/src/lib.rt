@@ -13,8 +13,8 @@ ghost use Rattle.step_answer_spec.specs.Saying.{result_of, Accepted};
 ghost use Rattle.step_call.specs.Stepping.{said_of, Forged, StepsOn};
 
 use image_spec::Layout;
-use step_answer_spec::Said;
-use step_ask::{Asked, ask};
+use step_answer_spec::{Failure, Shown};
+use step_ask::ask;
 use step_header::Header;
 use step_open::open_store;
 use step_order::list::entries_row;
@@ -54,19 +54,27 @@ fn is_sure(stepper: Stepper, store: &[u8], header: Header) -> bool
     false
 }
 
-fn answer(ran: Ran) -> Said
+fn answer(ran: Ran) -> Result<Shown, Failure>
     ensures { result ≡ said_of ran }
 {
-    let steps = ran.steps;
-    let length = ran.length;
+    let shown = Shown {
+        steps: ran.steps,
+        length: ran.length,
+    };
     if ran.full {
-        return Said::NoRoom { steps, length };
+        return Err(Failure::NoRoom(shown));
     }
-    Said::Done { steps, length }
+    Ok(shown)
 }
 
 // At most so many steps on an image whose questions were answered with yes.
-fn step_on(image: &[u8], stepper: Stepper, steps: u64, store: &mut [u8], events: &mut [u8]) -> Said
+fn step_on(
+    image: &[u8],
+    stepper: Stepper,
+    steps: u64,
+    store: &mut [u8],
+    events: &mut [u8],
+) -> Result<Shown, Failure>
     requires { Accepted stepper image.now }
     ensures { StepsOn stepper image.now steps store.old events.old store.new events.new result }
 {
@@ -74,15 +82,15 @@ fn step_on(image: &[u8], stepper: Stepper, steps: u64, store: &mut [u8], events:
     let header = open_store(image, frame, store);
     let ended = header.ended;
     if 1 < ended {
-        return Said::NoState;
+        return Err(Failure::NoState);
     }
     let mut ends = [0u32; 4000];
     fill_ends(image, frame, &mut ends);
     if is_forged(image, stepper, &ends, store, header) {
-        return Said::Done {
+        return Ok(Shown {
             steps: 0,
             length: 0,
-        };
+        });
     }
     let sure = is_sure(stepper, store, header);
     let mut scratch = [0u8; 2080];
@@ -107,12 +115,10 @@ pub fn step(
     steps: u64,
     store: &mut [u8],
     events: &mut [u8],
-) -> Said
+) -> Result<Shown, Failure>
     requires { Known layout }
     ensures { result_of result store.new events.new ≡ step_call_lem (stepper_of linear layout) image.now steps store.old events.old }
 {
-    match ask(image, layout, linear) {
-        Asked::Closed(question) => Said::Refused(question),
-        Asked::Image(stepper) => step_on(image, stepper, steps, store, events),
-    }
+    let stepper = ask(image, layout, linear)?;
+    step_on(image, stepper, steps, store, events)
 }

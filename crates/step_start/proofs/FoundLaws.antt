@@ -16,8 +16,10 @@ use Rattle.step_places.specs.Searches.{FindsDef, FindsDefinition}
 use Rattle.step_places.proofs.NextPlaces.{found_at, none_found}
 use Rattle.step_rule.specs.declared.Stepper.{Stepper}
 use Rattle.step_rule.specs.Rules.{ProgramOf, machine_in}
-use Rattle.step_answer_spec.specs.declared.Said.{Said}
-use Rattle.step_answer_spec.specs.declared.Said.TheVariants.{NoState}
+use Rattle.std.specs.Prelude.{Result, Ok, Err}
+use Rattle.step_answer_spec.specs.declared.Shown.{Shown}
+use Rattle.step_answer_spec.specs.declared.Failure.{Failure}
+use Rattle.step_answer_spec.specs.declared.Failure.TheVariants.{NoState}
 use Rattle.step_answer_spec.specs.Saying.{Accepted}
 use Rattle.step_start.specs.Starting.{DefinedAt, HasDefinition, StartsIn, StartsOn}
 
@@ -34,12 +36,12 @@ module _ {stepper : Stepper} {bytes : List ℕ} {n : ℕ} {found : Found} (f : F
   has-definition {i} e a = record { accepted = a; place = n; defined = defined e a.is; record' = f.at i e }
 
   -- 14: there is no such definition
-  pub starts_nowhere : found ≡ Nothing → {values store : List ℕ} → StartsOn stepper bytes n values store store NoState
+  pub starts_nowhere : found ≡ Nothing → {values store : List ℕ} → StartsOn stepper bytes n values store store (Err NoState)
   starts_nowhere e {values} {store} = record {
     starts = λ P p o. sym (ap (λ (d : Option Def). start_at (machine_in stepper) P n d values store) (none_found e (finds_in p)));
   }
 
-  pub starts-there : {i : ℕ} → found ≡ At i → {values store store' : List ℕ} {r : Said} → StartsIn stepper bytes i values store store' r → StartsOn stepper bytes n values store store' r
+  pub starts-there : {i : ℕ} → found ≡ At i → {values store store' : List ℕ} {r : Result Shown Failure} → StartsIn stepper bytes i values store store' r → StartsOn stepper bytes n values store store' r
   starts-there e {values} {store} s = record {
     starts = λ P p o.
         let d = defined e p in

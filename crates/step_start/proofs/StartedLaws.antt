@@ -40,7 +40,8 @@ use Rattle.step_values.proofs.ValueLaws.{given_slot, are-given, not_given_all}
 use Rattle.step_rule.specs.declared.Stepper.{Stepper}
 use Rattle.step_rule.specs.Rules.{ProgramOf, machine_in, Reads}
 use Rattle.step_settle.specs.Settling.{flagged}
-use Rattle.step_answer_spec.specs.declared.Said.TheVariants.{NoState, NoRoom, Done}
+use Rattle.std.specs.Prelude.{Ok, Err}
+use Rattle.step_answer_spec.specs.declared.Failure.TheVariants.{NoState, NoRoom}
 use Rattle.step_answer_spec.specs.Saying.{result_of}
 use Rattle.step_start.specs.Starting.{first_header_lem, start_stops, Flags, DefinedAt}
 use Rattle.step_start.proofs.StartLaws.{first, ε, first-slots, first-bytes, machine-begins, first-size, first-sound}
@@ -54,7 +55,7 @@ module _ {P : Prog} {stepper : Stepper} {bytes : List ℕ} {n i : ℕ} (d : Defi
   row_count = sym (ids-length bytes row) ∙ (ap length row_is ∙ length-map d.def.context id_of)
 
   -- 14: the values are not as many, or one of them is none that a start may give
-  pub not_given : (M : Machine) (values : List ℕ) {store : List ℕ} → are_given_lem row.len values ≡ false → result_of NoState store [] ≡ start_with M P n (givens (length d.def.context) values) store
+  pub not_given : (M : Machine) (values : List ℕ) {store : List ℕ} → are_given_lem row.len values ≡ false → result_of (Err NoState) store [] ≡ start_with M P n (givens (length d.def.context) values) store
   not_given M values {store} e =
       sym (ap (λ (o : Option (List Given)). start_with M P n o store) (ap (λ (k : ℕ). givens k values) (sym row_count) ∙ not_given_all row.len values e))
 
@@ -89,7 +90,7 @@ module _ {P : Prog} {stepper : Stepper} {bytes : List ℕ} {n i : ℕ} (d : Defi
         ∙ ap (λ (xs : List VarId). starts_with (some (flagged (start_stops stepper.linear xs (is_stop ((machine_in stepper).step P (project P begun)))) begun)) store) (sym row_is))
 
     -- 15
-    pub no_room : {store : List ℕ} → length store < 64 + 16 * row.len → result_of (NoRoom 0 0) store [] ≡ start_with (machine_in stepper) P n (givens (length d.def.context) values) store
+    pub no_room : {store : List ℕ} → length store < 64 + 16 * row.len → result_of (Err (NoRoom (record { steps = 0; length = 0 }))) store [] ≡ start_with (machine_in stepper) P n (givens (length d.def.context) values) store
     no_room {store} k =
         let W = store_bytes (flagged stops begun) in
         let long : length store < length W = omega (arith, k, begun-size stops) in
@@ -125,11 +126,11 @@ module _ {P : Prog} {stepper : Stepper} {bytes : List ℕ} {n i : ℕ} (d : Defi
 
       -- with the flag, they are those of the start
       pub room-starts : ProgramOf P stepper bytes → {store' : List ℕ} → Flags stepper bytes row store₁ h store'
-          → result_of (Done 0 0) store' [] ≡ start_with (machine_in stepper) P n (givens (length d.def.context) values) store
+          → result_of (Ok (record { steps = 0; length = 0 })) store' [] ≡ start_with (machine_in stepper) P n (givens (length d.def.context) values) store
       room-starts p {store'} f =
           let W = store_bytes (flagged stops begun) in
           let fits : length W ≤ length store = omega (arith, room, begun-size stops) in
           let over = hidden store 0 (store_bytes begun) W (omega (arith, begun-size false, begun-size stops)) fits in
           let done : store' ≡ sets store 0 W = f.flags P begun p begun-reads refl ∙ (ap (λ (z : List ℕ). sets z 0 W) begun-stored ∙ over) in
-          ap (λ (z : List ℕ). result_of (Done 0 0) z []) done
+          ap (λ (z : List ℕ). result_of (Ok (record { steps = 0; length = 0 })) z []) done
           ∙ sym (starts store ∙ ap (λ (b : Bool). cond b (unchanged 0 (sets store 0 W) []) (unchanged 15 store [])) (le-leb (length W) (length store) fits))

@@ -1,5 +1,5 @@
 -- A start: its header, its stopped flag, and what it has done.
-use Rattle.std.specs.Prelude.{ℕ, ◌+◌, ◌≡◌, Bool, true, false, cond, List, [], length}
+use Rattle.std.specs.Prelude.{ℕ, ◌+◌, ◌≡◌, Bool, true, false, cond, List, [], length, Result}
 use Rattle.std.proofs.Math.Option.{some}
 use Rattle.std.proofs.lemmas.List.Edits.{sets}
 use Rattle.syntax.specs.Sets.{distinct}
@@ -20,7 +20,8 @@ use Rattle.step_rows.specs.Rows.{ids_in}
 use Rattle.step_rule.specs.declared.Stepper.{Stepper}
 use Rattle.step_rule.specs.Rules.{ProgramOf, machine_in, Reads}
 use Rattle.step_settle.specs.Settling.{flagged}
-use Rattle.step_answer_spec.specs.declared.Said.{Said}
+use Rattle.step_answer_spec.specs.declared.Shown.{Shown}
+use Rattle.step_answer_spec.specs.declared.Failure.{Failure}
 use Rattle.step_answer_spec.specs.Saying.{result_of, Accepted}
 
 -- the header of a state before the first step
@@ -52,10 +53,10 @@ pub record HasDefinition (stepper : Stepper) (bytes : List ℕ) (i : ℕ) : Type
   pub record' : At stepper.frame bytes i 1
 
 -- a start at this definition, whatever program the image is that of
-pub record StartsIn (stepper : Stepper) (bytes : List ℕ) (i : ℕ) (values store store' : List ℕ) (r : Said) : Type 0 where
+pub record StartsIn (stepper : Stepper) (bytes : List ℕ) (i : ℕ) (values store store' : List ℕ) (r : Result Shown Failure) : Type 0 where
   pub starts : (P : Prog) (n : ℕ) → ProgramOf P stepper bytes → Readable P → (d : DefinedAt P stepper bytes n i)
       → result_of r store' [] ≡ start_with (machine_in stepper) P n (givens (length d.def.context) values) store
 
 -- a start at place n among the definitions, whatever program the image is that of
-pub record StartsOn (stepper : Stepper) (bytes : List ℕ) (n : ℕ) (values store store' : List ℕ) (r : Said) : Type 0 where
+pub record StartsOn (stepper : Stepper) (bytes : List ℕ) (n : ℕ) (values store store' : List ℕ) (r : Result Shown Failure) : Type 0 where
   pub starts : (P : Prog) → ProgramOf P stepper bytes → Readable P → result_of r store' [] ≡ start_at (machine_in stepper) P n (nth n P.defs) values store

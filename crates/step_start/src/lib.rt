@@ -23,8 +23,8 @@ use image_kinds::kinds::Kind;
 use image_spec::Layout;
 use image_write_bytes::bytes::copy;
 use image_write_directory::directory::narrow;
-use step_answer_spec::Said;
-use step_ask::{Asked, ask};
+use step_answer_spec::{Failure, Shown};
+use step_ask::ask;
 use step_gather::rename;
 use step_header::{Header, put_header};
 use step_places::ends::fill_ends;
@@ -88,29 +88,27 @@ fn start_in(
     i: usize,
     values: &[u8],
     store: &mut [u8],
-) -> Said
+) -> Result<Shown, Failure>
     requires { HasDefinition stepper image.now i × Ends (records_in stepper.frame image.now) ends.now }
     ensures { StartsIn stepper image.now i values.now store.old store.new result }
 {
     let frame = stepper.frame;
     let row = list_row(image, frame, i, Kind::DEFINITION);
     let len = row.len;
-    if are_given(values, len) {
-        if store.len() < 64 + 16 * len {
-            return Said::NoRoom {
-                steps: 0,
-                length: 0,
-            };
-        }
-        let header = first_header(narrow(i + 1), len as u64);
-        begin(image, row, values, store, header);
-        flag(image, stepper, ends, row, store, header);
-        return Said::Done {
-            steps: 0,
-            length: 0,
-        };
+    let none = Shown {
+        steps: 0,
+        length: 0,
+    };
+    if !are_given(values, len) {
+        return Err(Failure::NoState);
     }
-    Said::NoState
+    if store.len() < 64 + 16 * len {
+        return Err(Failure::NoRoom(none));
+    }
+    let header = first_header(narrow(i + 1), len as u64);
+    begin(image, row, values, store, header);
+    flag(image, stepper, ends, row, store, header);
+    Ok(none)
 }
 
 // A start on an image whose questions were answered with yes.
@@ -120,7 +118,7 @@ fn start_on(
     definition: usize,
     values: &[u8],
     store: &mut [u8],
-) -> Said
+) -> Result<Shown, Failure>
     requires { Accepted stepper image.now }
     ensures { StartsOn stepper image.now definition values.now store.old store.new result }
 {
@@ -129,7 +127,7 @@ fn start_on(
     let mut ends = [0u32; 4000];
     fill_ends(image, frame, &mut ends);
     match find_definition(image, frame, &ends, definitions, definition) {
-        Found::Nothing => Said::NoState,
+        Found::Nothing => Err(Failure::NoState),
         Found::At(i) => start_in(image, stepper, &ends, i, values, store),
     }
 }
@@ -142,12 +140,10 @@ pub fn start(
     definition: usize,
     values: &[u8],
     store: &mut [u8],
-) -> Said
+) -> Result<Shown, Failure>
     requires { Known layout }
     ensures { result_of result store.new [] ≡ start_call (stepper_of linear layout) image.now definition values.now store.old }
 {
-    match ask(image, layout, linear) {
-        Asked::Closed(question) => Said::Refused(question),
-        Asked::Image(stepper) => start_on(image, stepper, definition, values, store),
-    }
+    let stepper = ask(image, layout, linear)?;
+    start_on(image, stepper, definition, values, store)
 }

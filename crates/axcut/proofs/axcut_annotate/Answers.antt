@@ -2,8 +2,7 @@ use mathlib.Core.Path.{sym, ap, ◌∙◌, subst}
 use native.Mathlib.Omega.{arith}
 use lib.ListN.{length}
 use Rattle.image_spec.specs.declared.Layout.{Layout}
-use Rattle.image_spec.specs.declared.Answer.{Answer}
-use Rattle.image_spec.specs.Answers.{Reports, report}
+use Rattle.image_spec.specs.Answers.{Answer, Reports, report}
 use Rattle.scope_spec.specs.Calls.{annotate_of, annotate_call, Replies}
 use Rattle.image_open.specs.Opening.{Known}
 use Rattle.image_open.proofs.OpenedLaws.{layout1-known}

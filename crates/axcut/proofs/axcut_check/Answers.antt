@@ -1,7 +1,6 @@
 use mathlib.Core.Path.{sym, ap, ◌∙◌, subst}
 use Rattle.image_spec.specs.declared.Layout.{Layout}
-use Rattle.image_spec.specs.declared.Answer.{Answer}
-use Rattle.image_spec.specs.Answers.{Reports, report}
+use Rattle.image_spec.specs.Answers.{Answer, Reports, report}
 use Rattle.image_spec.specs.Reading.{answer_of}
 use Rattle.scope_spec.specs.Calls.{check_of, check_call}
 use Rattle.image_open.specs.Opening.{Known}

@@ -2,8 +2,7 @@ use mathlib.Core.Path.{sym, ap, ◌∙◌, subst}
 use native.Mathlib.Omega.{arith}
 use lib.ListN.{length}
 use Rattle.image_spec.specs.declared.Layout.{Layout}
-use Rattle.image_spec.specs.declared.Answer.{Answer}
-use Rattle.image_spec.specs.Answers.{Reports, report}
+use Rattle.image_spec.specs.Answers.{Answer, Reports, report}
 use Rattle.scope_spec.specs.Calls.{Replies}
 use Rattle.pass_answer_spec.specs.Calls.{linearize_of, linearize_call}
 use Rattle.image_open.specs.Opening.{Known}

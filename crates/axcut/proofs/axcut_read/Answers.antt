@@ -1,6 +1,5 @@
 use mathlib.Core.Path.{subst}
-use Rattle.image_spec.specs.declared.Answer.{Answer}
-use Rattle.image_spec.specs.Answers.{Reports, report}
+use Rattle.image_spec.specs.Answers.{Answer, Reports, report}
 use Rattle.image_spec.specs.Reading.{read_call}
 use Rattle.axcut.proofs.axcut_read.Goals as goal
 

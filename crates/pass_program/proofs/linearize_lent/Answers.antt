@@ -1,28 +1,26 @@
 -- `linearize_lent` meets its contract. Assumes nothing.
 use mathlib.Core.Path.{sym, ◌∙◌}
-use borrow.Author.Rules.{rules}
+use Rattle.std.proofs.Common.{rules}
 use lib.ListN.{length}
 use Rattle.image_directory.specs.Slots.{records_in}
 use Rattle.scope_check.specs.Deciding.{program_in}
 use Rattle.pass_program.proofs.ProgramLaws.{passed, few, rows-begin, checked_yes, replied, checked_no}
 use Rattle.pass_program.proofs.linearize_lent.Goals as goal
 
-pub check_image-requires : goal.check_image-requires
-check_image-requires c = let h = c.requires.0 in (h.ready, h.defined)
-
 pub linearize_program-requires : goal.linearize_program-requires
 linearize_program-requires c =
     let k = c.check_image.ensures in
-    let x = checked_yes c.requires.0 (sym k.0 ∙ c.in-Accepted.is) in
+    let x = checked_yes c.requires.0 (sym k.0 ∙ c.in_ok-check_image.was) in
     let room = c.requires.1 (few x) in
     (x, (rows-begin x c.args.rows.now room.0 (k.1 (passed x)), room.1))
 
-pub returns-in-Accepted : goal.returns-in-Accepted
-returns-in-Accepted c =
-    let x = checked_yes c.requires.0 (sym c.check_image.ensures.0 ∙ c.in-Accepted.is) in
+pub returns : goal.returns
+returns c =
+    let x = checked_yes c.requires.0 (sym c.check_image.ensures.0 ∙ c.in_ok-check_image.was) in
     replied x (length c.args.out.now) c.linearize_program.ensures
 
-pub returns-in-Refused : goal.returns-in-Refused
-returns-in-Refused c =
+pub returns-in_err-check_image : goal.returns-in_err-check_image
+returns-in_err-check_image c =
     let a = c.args in
-    checked_no a.layout (program_in a.defs (records_in a.frame a.image.now) a.max_id) (length a.out.now) a.out.now (sym c.check_image.ensures.0 ∙ c.in-Refused.is)
+    let r = checked_no a.layout (program_in a.defs (records_in a.frame a.image.now) a.max_id) (length a.out.now) a.out.now (sym c.check_image.ensures.0 ∙ c.in_err-check_image.was) in
+    search (rules, r)

@@ -1,35 +1,34 @@
 -- `step` meets its contract. Assumes nothing.
-use mathlib.Core.Path.{subst}
+use mathlib.Core.Path.{◌≡◌, sym, ap, ◌∙◌, subst}
+use Rattle.std.proofs.Common.{rules, Result, Ok, Err}
 use Rattle.image_spec.specs.Reading.{Reading}
 use Rattle.step_spec.specs.Located.{Machine}
 use Rattle.step_spec.specs.Calls.{stepping, step_call_lem}
 use Rattle.step_ask.specs.Asking.{Asks}
-use Rattle.step_ask.specs.declared.Asked.TheVariants.{Image, Closed}
+use Rattle.step_answer_spec.specs.declared.Shown.{Shown}
+use Rattle.step_answer_spec.specs.declared.Failure.{Failure}
+use Rattle.step_answer_spec.specs.declared.Failure.TheVariants.{Refused}
+use Rattle.step_answer_spec.specs.Saying.{result_of}
 use Rattle.step_answer_spec.proofs.AnswerLaws.{accepted, answers-accepted, answers-refused}
-use borrow.Author.Rules.{rules}
-use Rattle.step_call.proofs.step.Reads as reads
-use Rattle.step_call.proofs.step.Lts as lts
-use Rattle.step_ask.proofs.ask.Reads as ask-reads
-use Rattle.step_call.proofs.step_on.Reads as step-on-reads
 use Rattle.step_call.proofs.step.Goals as goal
-use Rattle.step_call.proofs.step.Goals.{In-Closed, In-Image}
+use Rattle.step_call.proofs.step.Goals.{In_ok-stepper}
 
--- the answer to the questions, in the arm for it
-refused : (c : In-Closed) → let a = c.args in Asks a.layout a.linear a.image.now (Closed c.in-Closed.question)
-refused c = let a = c.args in subst (Asks a.layout a.linear a.image.now) c.in-Closed.is c.ask.ensures
-
-opened : (c : In-Image) → let a = c.args in Asks a.layout a.linear a.image.now (Image c.in-Image.stepper)
-opened c = let a = c.args in subst (Asks a.layout a.linear a.image.now) c.in-Image.is c.ask.ensures
+-- the answer to the questions is yes
+opened : (c : In_ok-stepper) → let a = c.args in Asks a.layout a.linear a.image.now (Ok c.in_ok-stepper.stepper)
+opened c = let a = c.args in subst (Asks a.layout a.linear a.image.now) c.in_ok-stepper.was c.ask.ensures
 
 pub step_on-requires : goal.step_on-requires
-step_on-requires c = accepted c.requires (opened (goal.at.step_on-requires c).In-Image)
+step_on-requires c = accepted c.requires (opened (goal.at.step_on-requires c).In_ok-stepper)
 
-pub returns-in-Closed : goal.returns-in-Closed
+pub returns-in_err-stepper : goal.returns-in_err-stepper
 unfolding step_call_lem
-returns-in-Closed c =
-    answers-refused c.requires (λ (M : Machine) (r : Reading). stepping M r c.args.steps c.args.store.now c.args.events.now) (refused (goal.at.returns-in-Closed c).In-Closed)
+returns-in_err-stepper c =
+    let a = c.args in
+    let e : c.from_residual.result ≡ Err (Refused c.in_err-stepper.field-0.0) = search rules in
+    ap (λ (r : Result Shown Failure). result_of r a.store.now a.events.now) e
+    ∙ answers-refused c.requires (λ (M : Machine) (r : Reading). stepping M r a.steps a.store.now a.events.now) (subst (Asks a.layout a.linear a.image.now) c.in_err-stepper.was c.ask.ensures)
 
-pub returns-in-Image : goal.returns-in-Image
+pub returns : goal.returns
 unfolding step_call_lem
-returns-in-Image c =
-    answers-accepted c.requires (λ (M : Machine) (r : Reading). stepping M r c.args.steps c.args.store.now c.args.events.now) (opened (goal.at.returns-in-Image c).In-Image) c.step_on.ensures.steps
+returns c =
+    answers-accepted c.requires (λ (M : Machine) (r : Reading). stepping M r c.args.steps c.args.store.now c.args.events.now) (opened (goal.at.returns c).In_ok-stepper) c.step_on.ensures.steps

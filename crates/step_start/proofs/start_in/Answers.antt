@@ -12,55 +12,55 @@ use Rattle.step_start.specs.Starting.{first_header_lem}
 use Rattle.step_start.proofs.StartedLaws.{not_given, no_room, begun-reads, room-starts}
 use borrow.Author.Rules.{rules}
 use Rattle.step_start.proofs.start_in.Goals as goal
-use Rattle.step_start.proofs.start_in.Goals.{After-first_header-header, Start, Then-are_given}
+use Rattle.step_start.proofs.start_in.Goals.{After-first_header-header, Start, Else-not-are_given}
 
 short : (s : Start) → length s.args.store.now < 2 ^ 64
 short s = omega (arith, s.well_formed)
 
 -- the values are given
-given : (c : Then-are_given) → are_given_lem c.list_row-row.result.len c.args.values.now ≡ true
-given c = sym c.are_given.ensures ∙ c.if-are_given.true
+given : (c : Else-not-are_given) → are_given_lem c.list_row-row.result.len c.args.values.now ≡ true
+given c = sym c.are_given.ensures ∙ c.if-not-are_given.false
 
-values_length : (c : Then-are_given) → length c.args.values.now ≡ 16 * c.list_row-row.result.len
+values_length : (c : Else-not-are_given) → length c.args.values.now ≡ 16 * c.list_row-row.result.len
 values_length c = (are-given c.list_row-row.result.len c.args.values.now (given c)).2
 
 header_is : (c : After-first_header-header) → c.first_header-header.result ≡ first_header_lem (c.args.i + 1) c.list_row-row.result.len
 header_is c = c.first_header-header.ensures ∙ ap (λ (k : ℕ). first_header_lem k c.list_row-row.result.len) c.narrow.ensures
 
 pub overflow_mul-len : goal.overflow_mul-len
-overflow_mul-len c = omega (arith, values_length (goal.at.overflow_mul-len c).Then-are_given, c.well_formed)
+overflow_mul-len c = omega (arith, values_length (goal.at.overflow_mul-len c).Else-not-are_given, c.well_formed)
 
 pub overflow_add-len : goal.overflow_add-len
-overflow_add-len c = omega (arith, values_length (goal.at.overflow_add-len c).Then-are_given, c.well_formed)
+overflow_add-len c = omega (arith, values_length (goal.at.overflow_add-len c).Else-not-are_given, c.well_formed)
 
 pub returns-then-store-len : goal.returns-then-store-len
 returns-then-store-len c = record {
   starts = λ P n p o d.
-      no_room d c.list_row-row.ensures o c.args.values.now (given (goal.at.returns-then-store-len c).Then-are_given) c.if-store-len.true;
+      no_room d c.list_row-row.ensures o c.args.values.now (given (goal.at.returns-then-store-len c).Else-not-are_given) c.if-store-len.true;
 }
 
 pub begin-requires : goal.begin-requires
 begin-requires c =
-    let g = are-given c.list_row-row.result.len c.args.values.now (given (goal.at.begin-requires c).Then-are_given) in
+    let g = are-given c.list_row-row.result.len c.args.values.now (given (goal.at.begin-requires c).Else-not-are_given) in
     (c.list_row-row.ensures.inside, (g.2, (c.if-store-len.false, g.3)))
 
 pub flag-requires : goal.flag-requires
 flag-requires c =
     let h = c.requires.0 in
-    let o = begun-reads h.defined c.list_row-row.ensures h.accepted.readable c.args.values.now (given (goal.at.flag-requires c).Then-are_given) c.args.store.now c.if-store-len.false (short (goal.at.flag-requires c).Start) (header_is (goal.at.flag-requires c).After-first_header-header)
+    let o = begun-reads h.defined c.list_row-row.ensures h.accepted.readable c.args.values.now (given (goal.at.flag-requires c).Else-not-are_given) c.args.store.now c.if-store-len.false (short (goal.at.flag-requires c).Start) (header_is (goal.at.flag-requires c).After-first_header-header)
     c.begin.ensures in
     (c.list_row-row.ensures.inside, (h.record'.ready, (reads-inside o h.record'.ready h.accepted.is, (reads-holds o, c.requires.1))))
-
-pub returns-then-are_given : goal.returns-then-are_given
-returns-then-are_given c = record {
-  starts = λ P n p o d.
-      room-starts d c.list_row-row.ensures o c.args.values.now (given (goal.at.returns-then-are_given c).Then-are_given) c.args.store.now c.if-store-len.false (short (goal.at.returns-then-are_given c).Start) (header_is (goal.at.returns-then-are_given c).After-first_header-header) c.begin.ensures p
-      c.flag.ensures;
-}
 
 pub returns : goal.returns
 returns c = record {
   starts = λ P n p o d.
+      room-starts d c.list_row-row.ensures o c.args.values.now (given (goal.at.returns c).Else-not-are_given) c.args.store.now c.if-store-len.false (short (goal.at.returns c).Start) (header_is (goal.at.returns c).After-first_header-header) c.begin.ensures p
+      c.flag.ensures;
+}
+
+pub returns-then-not-are_given : goal.returns-then-not-are_given
+returns-then-not-are_given c = record {
+  starts = λ P n p o d.
       let a = c.args in
-      not_given d c.list_row-row.ensures (machine_in a.stepper) a.values.now (sym c.are_given.ensures ∙ c.if-are_given.false);
+      not_given d c.list_row-row.ensures (machine_in a.stepper) a.values.now (sym c.are_given.ensures ∙ c.if-not-are_given.true);
 }

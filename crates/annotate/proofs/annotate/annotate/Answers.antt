@@ -1,28 +1,29 @@
 use mathlib.Core.Path.{sym, ap, ◌∙◌, subst}
 use native.Mathlib.Omega.{arith}
-use borrow.Author.Rules.{rules}
+use Rattle.std.proofs.Common.{rules}
 use Rattle.image_directory.specs.declared.Frame.{Frame}
 use Rattle.image_open.proofs.OpenedLaws.{IsOpened, opened-image}
 use Rattle.scope_check.proofs.CheckLaws.{opened-defined}
 use Rattle.annotate.proofs.AnnotateLaws.{opened_reply, closed_reply}
 use Rattle.annotate.proofs.annotate.annotate.Goals as goal
-use Rattle.annotate.proofs.annotate.annotate.Goals.{In-Image}
+use Rattle.annotate.proofs.annotate.annotate.Goals.{In_ok-opened}
 
 -- the image that was opened
-opened : (c : In-Image) → IsOpened c.args.layout c.args.image.now c.in-Image.frame c.in-Image.definitions c.in-Image.max_id
+opened : (c : In_ok-opened) → let o = c.in_ok-opened.opened in IsOpened c.args.layout c.args.image.now o.frame o.definitions o.max_id
 opened c =
     let a = c.args in
-    opened-image a.layout a.image.now _ _ _ c.requires.0 (sym c.open.ensures ∙ c.in-Image.is)
+    opened-image a.layout a.image.now _ _ _ c.requires.0 (sym c.open.ensures ∙ c.in_ok-opened.was)
 
 pub annotate_image-requires : goal.annotate_image-requires
 annotate_image-requires c =
-    let o = opened (goal.at.annotate_image-requires c).In-Image in
+    let o = opened (goal.at.annotate_image-requires c).In_ok-opened in
     (o.ready, (opened-defined o, omega (arith, c.requires.1, ap (λ (g : Frame). g.id) o.frame)))
 
-pub returns-in-Image : goal.returns-in-Image
-returns-in-Image c = opened_reply (opened (goal.at.returns-in-Image c).In-Image) c.args.i c.annotate_image.ensures
+pub returns : goal.returns
+returns c = opened_reply (opened (goal.at.returns c).In_ok-opened) c.args.i c.annotate_image.ensures
 
-pub returns-in-Closed : goal.returns-in-Closed
-returns-in-Closed c =
+pub returns-in_err-opened : goal.returns-in_err-opened
+returns-in_err-opened c =
     let a = c.args in
-    closed_reply a.layout a.image.now a.i a.out.now (sym c.open.ensures ∙ c.in-Closed.is)
+    let r = closed_reply a.layout a.image.now a.i a.out.now (sym c.open.ensures ∙ c.in_err-opened.was) in
+    search (rules, r)

@@ -1,28 +1,27 @@
 -- `in_limits` meets its contract. Assumes nothing.
 use mathlib.Core.Path.{sym, ap, ◌∙◌}
-use borrow.Author.Rules.{rules}
 use Rattle.image_directory.proofs.Places.{records-length}
 use Rattle.scope_spec.specs.declared.Verdict.{Verdict}
 use Rattle.scope_check.proofs.CheckLaws.{walk_stand, answer-room}
 use Rattle.annotate.proofs.annotate.in_limits.Goals as goal
 
-pub walk_definitions-v-requires : goal.walk_definitions-v-requires
-walk_definitions-v-requires c =
-    let a = c.args in
+pub walk_definitions-requires : goal.walk_definitions-requires
+walk_definitions-requires c =
     let h = c.requires in
-    (h.0, walk_stand h.1 a.frame.count (sym c.within_limits.ensures ∙ c.if-within_limits.true))
+    (h.0, walk_stand h.1 c.args.frame.count (sym c.within_limits.ensures ∙ c.if-within_limits.true))
 
 pub returns-then-within_limits : goal.returns-then-within_limits
 returns-then-within_limits c =
     let a = c.args in
     let h = c.requires in
-    ap (λ (v : Verdict). v.room) c.walk_definitions-v.ensures.0
+    ap (λ (v : Verdict). v.room) c.walk_definitions.ensures.0
     ∙ sym (answer-room h.1 a.max_id a.frame.count (records-length a.frame a.image.now h.0)
     ∙ rw (← c.within_limits.ensures, c.if-within_limits.true))
 
-pub returns : goal.returns
-returns c =
+pub returns-else-within_limits : goal.returns-else-within_limits
+returns-else-within_limits c =
     let a = c.args in
     let h = c.requires in
-    sym (answer-room h.1 a.max_id a.frame.count (records-length a.frame a.image.now h.0)
+    c.if-within_limits.false
+    ∙ sym (answer-room h.1 a.max_id a.frame.count (records-length a.frame a.image.now h.0)
     ∙ rw (← c.within_limits.ensures, c.if-within_limits.false))

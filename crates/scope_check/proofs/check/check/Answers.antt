@@ -2,23 +2,24 @@
 use mathlib.Core.Path.{sym, ◌∙◌}
 use Rattle.image_open.proofs.OpenedLaws.{IsOpened, opened-image}
 use Rattle.scope_check.proofs.CheckLaws.{opened-defined, opened-answer, closed-answer}
-use borrow.Author.Rules.{rules}
+use Rattle.std.proofs.Common.{rules}
 use Rattle.scope_check.proofs.check.check.Goals as goal
-use Rattle.scope_check.proofs.check.check.Goals.{In-Image}
+use Rattle.scope_check.proofs.check.check.Goals.{In_ok-opened}
 
 -- the image that was opened
-opened : (c : In-Image) → IsOpened c.args.layout c.args.image.now c.in-Image.frame c.in-Image.definitions c.in-Image.max_id
+opened : (c : In_ok-opened) → let o = c.in_ok-opened.opened in IsOpened c.args.layout c.args.image.now o.frame o.definitions o.max_id
 opened c =
     let a = c.args in
-    opened-image a.layout a.image.now _ _ _ c.requires (sym c.open.ensures ∙ c.in-Image.is)
+    opened-image a.layout a.image.now _ _ _ c.requires (sym c.open.ensures ∙ c.in_ok-opened.was)
 
 pub check_image-requires : goal.check_image-requires
-check_image-requires c = ((opened (goal.at.check_image-requires c).In-Image).ready, opened-defined (opened (goal.at.check_image-requires c).In-Image))
+check_image-requires c = let o = opened (goal.at.check_image-requires c).In_ok-opened in (o.ready, opened-defined o)
 
-pub returns-in-Image : goal.returns-in-Image
-returns-in-Image c = c.check_image.ensures.0 ∙ opened-answer (opened (goal.at.returns-in-Image c).In-Image)
+pub returns : goal.returns
+returns c = c.check_image.ensures.0 ∙ opened-answer (opened (goal.at.returns c).In_ok-opened)
 
-pub returns-in-Closed : goal.returns-in-Closed
-returns-in-Closed c =
+pub returns-in_err-opened : goal.returns-in_err-opened
+returns-in_err-opened c =
     let a = c.args in
-    sym (closed-answer a.layout a.image.now (sym c.open.ensures ∙ c.in-Closed.is))
+    let e = closed-answer a.layout a.image.now (sym c.open.ensures ∙ c.in_err-opened.was) in
+    search (rules, e)

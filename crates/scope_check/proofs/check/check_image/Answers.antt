@@ -5,37 +5,35 @@ use Rattle.image_directory.proofs.Places.{records-length}
 use Rattle.scope_check.specs.Deciding.{decided}
 use Rattle.scope_check.proofs.CheckLaws.{walk_stand, answer_6, answer_7, answer_walk}
 use Rattle.scope_check.proofs.DefWalks.{passed-plain, passed-limits, passed-sourced}
-use borrow.Author.Rules.{rules}
 use Rattle.scope_check.proofs.check.check_image.Goals as goal
 
 pub walk_definitions-requires : goal.walk_definitions-requires
 walk_definitions-requires c =
-    let a = c.args in
     let h = c.requires in
-    (h.0, walk_stand h.1 a.frame.count (sym c.within_limits.ensures ∙ c.if-within_limits.true))
-
-pub returns-then-within_limits : goal.returns-then-within_limits
-returns-then-within_limits c =
-    let a = c.args in
-    let h = c.requires in
-    let w = c.walk_definitions.ensures in (
-      c.decide.ensures
-          ∙ (ap (λ v. decided v a.max_id) w.0
-          ∙ sym (answer_walk h.1 a.max_id a.frame.count (records-length a.frame a.image.now h.0) (sym c.all_records.ensures ∙ c.if-all_records.true) (sym c.within_limits.ensures ∙ c.if-within_limits.true))),
-      λ p. w.1 (passed-sourced h.1 p),
-    )
-
-pub returns-then-all_records : goal.returns-then-all_records
-returns-then-all_records c =
-    let a = c.args in
-    let h = c.requires in
-    let n = records-length a.frame a.image.now h.0 in
-    let no = sym c.within_limits.ensures ∙ c.if-within_limits.false in
-    (sym (answer_7 h.1 a.max_id a.frame.count n (sym c.all_records.ensures ∙ c.if-all_records.true) no), λ p. absurd (false≢true (sym no ∙ passed-limits h.1 p a.frame.count n)))
+    (h.0, walk_stand h.1 c.args.frame.count (sym c.within_limits.ensures ∙ c.if-not-within_limits.false))
 
 pub returns : goal.returns
 returns c =
     let a = c.args in
     let h = c.requires in
-    let no = sym c.all_records.ensures ∙ c.if-all_records.false in
+    let w = c.walk_definitions.ensures in (
+      c.decide.ensures
+          ∙ (ap (λ v. decided v a.max_id) w.0
+          ∙ sym (answer_walk h.1 a.max_id a.frame.count (records-length a.frame a.image.now h.0) (sym c.all_records.ensures ∙ c.if-not-all_records.false) (sym c.within_limits.ensures ∙ c.if-not-within_limits.false))),
+      λ p. w.1 (passed-sourced h.1 p),
+    )
+
+pub returns-then-not-within_limits : goal.returns-then-not-within_limits
+returns-then-not-within_limits c =
+    let a = c.args in
+    let h = c.requires in
+    let n = records-length a.frame a.image.now h.0 in
+    let no = sym c.within_limits.ensures ∙ c.if-not-within_limits.true in
+    (sym (answer_7 h.1 a.max_id a.frame.count n (sym c.all_records.ensures ∙ c.if-not-all_records.false) no), λ p. absurd (false≢true (sym no ∙ passed-limits h.1 p a.frame.count n)))
+
+pub returns-then-not-all_records : goal.returns-then-not-all_records
+returns-then-not-all_records c =
+    let a = c.args in
+    let h = c.requires in
+    let no = sym c.all_records.ensures ∙ c.if-not-all_records.true in
     (sym (answer_6 h.1 a.max_id no), λ p. absurd (false≢true (sym no ∙ passed-plain h.1 p)))

@@ -1,5 +1,5 @@
 -- `all_shallow` meets its contract. Assumes nothing.
-use borrow.Author.Rules.{rules}
+use Prim.Native.Nat.{◌-◌}
 use mathlib.Core.Path.{refl, sym, ◌∙◌}
 use native.Mathlib.Omega.{arith}
 use lib.Dec.{leb}
@@ -10,9 +10,6 @@ use Rattle.scope_check.specs.Definitions.{defs_in}
 use Rattle.scope_check.proofs.DefLaws.{DefsLeft, def-next, Shallow, depth-turn, depth-no, depth-end}
 use Rattle.scope_check.proofs.definitions.all_shallow.Given as goal
 
-abbrev pub invariant-loop-left : goal.invariant-loop-left
-invariant-loop-left l =
-    DefsLeft 128 (records_in l.frame l.image) l.left l.at (Shallow (leb (depth_defs (defs_in l.defs (records_in l.frame l.image))) 64))
-
-abbrev pub decreases-loop-left : goal.decreases-loop-left
-decreases-loop-left l = l.left
+abbrev pub invariant-loop : goal.invariant-loop
+invariant-loop l =
+    DefsLeft 128 (records_in l.frame l.image) (l.defs - l.counter) l.at (Shallow (leb (depth_defs (defs_in l.defs (records_in l.frame l.image))) 64))
