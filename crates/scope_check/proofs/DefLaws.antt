@@ -19,7 +19,7 @@ use Rattle.image_spec.specs.Shape.{flatten, flatten_defs, stmt}
 use Rattle.image_spec.proofs.ParseLaws.{Sound, one-read}
 use Rattle.image_spec.proofs.ShapeLaws.{stmt_exact}
 use Rattle.image_fields.specs.Found.{found_in, stop}
-use Rattle.image_fields.specs.declared.Found.TheVariants.{At, Nothing}
+use Rattle.std.specs.Prelude.{Some, None}
 use Rattle.image_read_parts.specs.Standing.{head_of}
 use Rattle.image_places_spec.specs.Places.{stmt_at, Begins, StmtStands}
 use Rattle.image_places_spec.proofs.ViewLaws.{flatten-view}
@@ -113,22 +113,22 @@ module _ (d : ℕ) (rs : List Record) (i : ℕ) (t : Stmt) (b : Begins rs i (fla
       let k = sym (length-drop i rs) ∙ (ap length b.split ∙ length-append (flatten t) b.rest) in
       (omega arith, omega arith)
 
-  pub stop-shallow : depth t ≤ d → stop (stmt d) rs (At i) ≡ At (i + length (flatten t))
+  pub stop-shallow : depth t ≤ d → stop (stmt d) rs i ≡ Some (i + length (flatten t))
   unfolding stop
   stop-shallow h =
       let k = inside in
       let a : i ≤ length rs = omega (arith, k.0) in
       let e : length rs - length b.rest ≡ i + length (flatten t) = omega (arith, k.1) in
-      rw (le-leb _ _ a, b.split, (stmt_exact d).left t h b.rest) (ap At e)
+      rw (le-leb _ _ a, b.split, (stmt_exact d).left t h b.rest) (ap Some e)
 
-  pub stop-deep : d < depth t → stop (stmt d) rs (At i) ≡ Nothing
+  pub stop-deep : d < depth t → stop (stmt d) rs i ≡ None
   unfolding stop
   stop-deep h =
       let k = inside in
       let a : i ≤ length rs = omega (arith, k.0) in
       rw (le-leb _ _ a) (go (stmt d (drop i rs)) ((stmt_exact d).right (drop i rs)))
     where
-      go : (p : Parsed Record Stmt) → Sound flatten (λ (z : Stmt). depth z ≤ d) (drop i rs) p → found_in (length rs) p ≡ Nothing
+      go : (p : Parsed Record Stmt) → Sound flatten (λ (z : Stmt). depth z ≤ d) (drop i rs) p → found_in (length rs) p ≡ None
       go refused q = refl
       go (got u m) (one-read o e) =
           let y : stmt (depth t) (drop i rs) ≡ got t b.rest = ap (stmt (depth t)) b.split ∙ (stmt_exact (depth t)).left t (omega arith) b.rest in
@@ -151,7 +151,7 @@ deeper a b h = go (leb b 64) refl
 
 module _ {rs : List Record} {whole : Bool} {left at : ℕ} (n : DefNext 128 rs left at (Shallow whole)) where
   -- the walk that goes 64 deep came through the first definition
-  pub depth-turn : (next : ℕ) → stop (stmt 64) rs (At (at + 1)) ≡ At next → DefsLeft 128 rs (left - 1) next (Shallow whole)
+  pub depth-turn : (next : ℕ) → stop (stmt 64) rs (at + 1) ≡ Some next → DefsLeft 128 rs (left - 1) next (Shallow whole)
   depth-turn next q = go (leb (depth body) 64) refl
     where
       body : Stmt
@@ -165,7 +165,7 @@ module _ {rs : List Record} {whole : Bool} {left at : ℕ} (n : DefNext 128 rs l
       go false f = let z : ◌≡◌ {A = ℕ} 0 1 = cc (stop-deep 64 rs (at + 1) body n.body.begins (leb-false (depth body) 64 f), q) in absurd (omega arith)
 
   -- .. or did not
-  pub depth-no : stop (stmt 64) rs (At (at + 1)) ≡ Nothing → whole ≡ false
+  pub depth-no : stop (stmt 64) rs (at + 1) ≡ None → whole ≡ false
   depth-no q = go (leb (depth body) 64) refl
     where
       body : Stmt

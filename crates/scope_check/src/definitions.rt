@@ -9,7 +9,6 @@ ghost use Rattle.scope_check.specs.Definitions.{defs_in, DefsStand};
 ghost use Rattle.scope_walk.specs.Masks.{SourcedDefs};
 
 use image_directory::Frame;
-use image_fields::Found;
 use image_kinds::kinds::Kind;
 use image_shape::statement as shape_statement;
 use scope_places::mask::put_row;
@@ -24,9 +23,9 @@ pub fn all_shallow(image: &[u8], frame: Frame, defs: usize) -> bool
 {
     let mut at = 0;
     for _ in 0..defs {
-        match shape_statement(image, frame, Frame::MAX_SOURCE_DEPTH, Found::At(at + 1)) {
-            Found::At(next) => at = next,
-            Found::Nothing => return false,
+        match shape_statement(image, frame, Frame::MAX_SOURCE_DEPTH, at + 1) {
+            Some(next) => at = next,
+            None => return false,
         }
     }
     true

@@ -23,10 +23,10 @@ pub statement-requires : goal.statement-requires
 statement-requires c = c.requires.0
 
 pub loop-preserved : goal.loop-preserved
-loop-preserved c = recount (omega arith) (depth-turn (def-next c.loop.invariant (omega arith)) _ (sym c.statement.ensures ∙ c.in-At.is))
+loop-preserved c = recount (omega arith) (depth-turn (def-next c.loop.invariant (omega arith)) _ (sym c.statement.ensures ∙ c.in-Some.is))
 
-pub returns-in-Nothing : goal.returns-in-Nothing
-returns-in-Nothing c = sym (depth-no (def-next c.loop.invariant (omega arith)) (sym c.statement.ensures ∙ c.in-Nothing.is))
+pub returns-in-None : goal.returns-in-None
+returns-in-None c = sym (depth-no (def-next c.loop.invariant (omega arith)) (sym c.statement.ensures ∙ c.in-None.is))
 
 pub returns : goal.returns
 returns c = sym (depth-end c.loop.invariant (omega arith))
