@@ -6,6 +6,7 @@ use Rattle.step_header.specs.declared.Header.{Header}
 use Rattle.step_header.specs.Headers.{tuple_of}
 use Rattle.step_open.proofs.OpeningLaws.{opened, not_opened, outside, short-store, no_head, opens_none}
 use Rattle.step_open.proofs.open_store.Goals as goal
+use Rattle.step_open.proofs.open_store.Goals.{else-counts_inside-via-then-counts_inside+else-is_formed, else-counts_inside-via-else-counts_inside}
 
 pub returns-then-store-lt64 : goal.returns-then-store-lt64
 returns-then-store-lt64 c = opens_none c.args.frame c.args.image.now c.args.store.now refl (λ P o. short-store P c.args.store.now c.if-store-lt64.true)
@@ -26,4 +27,10 @@ returns-then-is_formed c =
     }
 
 pub returns : goal.returns
-returns c = opens_none c.args.frame c.args.image.now c.args.store.now refl (λ P o. ?)
+returns c =
+    let s = c.args.store.now in
+    let e = c.in_ok-header.ensures in
+    opens_none c.args.frame c.args.image.now s refl (λ P o. elim c.else-counts_inside.branch [
+      else-counts_inside-via-then-counts_inside+else-is_formed w ↦ not_opened P s c.in_ok-header.header e (sym (w.is_formed.ensures P o) ∙ w.if-is_formed.false)
+      | else-counts_inside-via-else-counts_inside w ↦ outside P s c.in_ok-header.header e c.if-store-lt64.false (sym c.counts_inside.ensures ∙ w.if-counts_inside.false)
+    ])
