@@ -5,6 +5,7 @@ use mathlib.Core.List.{List, [], ◌∷◌, ◌++◌, map, append-nil}
 use mathlib.Core.Option.{Option}
 use native.Mathlib.Omega.{arith}
 use lib.ListN.{length}
+use Rattle.std.specs.Prelude.{Result}
 use Rattle.syntax.specs.Context.{Context}
 use Rattle.syntax.specs.declared.names.Identifier.{Identifier}
 use Rattle.syntax.specs.declared.types.Ty.{Ty}
@@ -27,7 +28,8 @@ use Rattle.step_spec.specs.Events.{event_bytes, event_head}
 use Rattle.step_header.specs.declared.Header.{Header}
 use Rattle.step_places.specs.Ends.{Ends, Hopped}
 use Rattle.step_places.proofs.NextPlaces.{bodies-place}
-use Rattle.step_write.specs.declared.Made.{Made}
+use Rattle.step_write.specs.declared.Step.{Step}
+use Rattle.step_write.specs.declared.Stop.{Stop}
 use Rattle.step_write.specs.Writing.{Finishes}
 use Rattle.step_rule.specs.declared.Stepper.{Stepper}
 use Rattle.step_rule.specs.Rules.{ProgramOf, Stored}
@@ -92,7 +94,7 @@ module _ {M : Machine} {P : Prog} {stepper : Stepper} {bytes store : List ℕ} {
 -- ── the step in slots ──
 
 -- what was finished, with what the code computed
-pub finishes_as : {store events store' events' shown shown' bytes bytes' : List ℕ} {next next' : Header} {at' from from' : ℕ} {m : Made}
+pub finishes_as : {store events store' events' shown shown' bytes bytes' : List ℕ} {next next' : Header} {at' from from' : ℕ} {m : Result Step Stop}
     → next ≡ next' → shown ≡ shown' → from ≡ from' → bytes ≡ bytes' → Finishes store events at' next shown from bytes store' events' m → Finishes store events at' next' shown' from' bytes' store' events' m
 finishes_as {store} {events} {store'} {events'} {at' = at'} {m = m} a b c d w =
     let Known : Type 0 = Header × (List ℕ × (ℕ × List ℕ)) in
