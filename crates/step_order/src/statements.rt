@@ -13,7 +13,7 @@ use image_kinds::kinds::Kind;
 use image_read_nodes::first;
 use pass_records as records;
 use pass_records::Second;
-use step_rows::records::{Environment, environment_row, list_row, source_row, target_row};
+use step_rows::records::{environment_row, list_row, source_row, target_row};
 use step_rows::{Row, all_present, distinct, has};
 
 // substitute.rs: no target twice, and every source there.
@@ -48,8 +48,8 @@ pub fn create(image: &[u8], frame: Frame, i: usize, store: &[u8], row: Row, sure
     let var = first(image, frame, i, Kind::CREATE);
     let id = var.id;
     match environment_row(image, frame, i) {
-        Environment::Absent => false,
-        Environment::Listed(listed) => replaces(image, listed, store, row, id.0, sure),
+        None => false,
+        Some(listed) => replaces(image, listed, store, row, id.0, sure),
     }
 }
 

@@ -29,14 +29,14 @@ use Rattle.step_rule.proofs.Views.{viewed}
 use Rattle.step_rule.proofs.Written.{region}
 
 -- a header whose stopped flag is clear
-abbrev pub headed : (position ended cells heap entries : ℕ) → Header
-headed p e c k n = record { position = p; ended = e; stopped = 0; cells = c; heap = k; entries = n }
+abbrev pub headed : (position : ℕ) (ended : Bool) (cells heap entries : ℕ) → Header
+headed p e c k n = record { position = p; ended = e; stopped = false; cells = c; heap = k; entries = n }
 
 -- .. is that of a state
-pub heads_as : {p e c k n : ℕ} (l : Located) → p ≡ l.position → e ≡ bit l.has_ended → l.has_stopped ≡ false → c ≡ length l.cells → k ≡ length (heap_of l.cells)
+pub heads_as : {p : ℕ} {e : Bool} {c k n : ℕ} (l : Located) → p ≡ l.position → e ≡ l.has_ended → l.has_stopped ≡ false → c ≡ length l.cells → k ≡ length (heap_of l.cells)
     → n ≡ length (environment_of l.cells l.environment) → tuple_of (headed p e c k n) ≡ header_of (raw_of l)
 unfolding raw_of
-heads_as l a b s c d e = λ i. (a i, (b i, (ap bit (sym s) i, (tt, (c i, (d i, (e i, tt)))))))
+heads_as l a b s c d e = λ i. (a i, (bit (b i), (bit (sym s i), (tt, (c i, (d i, (e i, tt)))))))
 
 -- the step from l, which the store has with the header h, shows these bytes and leads to the state with this header, with these new slots behind those
 -- of the cells and this environment
