@@ -1,0 +1,30 @@
+-- `linear` meets its contract. Assumes nothing.
+use mathlib.Core.Path.{refl}
+use native.Mathlib.Omega.{arith}
+use Rattle.step_statement_create.proofs.LinearLaws.{Encloses, none_there, some_there, has-environment, has-entries, linear-makes}
+use Rattle.step_statement_create.proofs.create.linear.Goals as goal
+use Rattle.step_statement_create.proofs.create.linear.Goals.{In_ok-row}
+
+-- the environment that was found
+enclosed : (c : In_ok-row) → let a = c.args in Encloses a.stepper.frame a.image.now a.header.position c.in_ok-row.row.len
+enclosed c = some_there c.args.stepper.frame refl c.environment_row.ensures c.requires.0.record' c.in_ok-row.ensures.variant
+
+pub returns-in_err-row : goal.returns-in_err-row
+returns-in_err-row c = ?
+
+pub returns-then-header-row : goal.returns-then-header-row
+returns-then-header-row c = record {
+  makes = λ P l p o.
+      absurd (omega (arith, c.if-header-row.true, has-entries p o c.requires.0.record' (enclosed (goal.at.returns-then-header-row c).In_ok-row)));
+}
+
+pub close_over-requires : goal.close_over-requires
+close_over-requires c =
+    let g = c.requires.0 in
+    (g.holds, (g.place, (omega (arith, (enclosed (goal.at.close_over-requires c).In_ok-row).few, g.scratch'), c.if-header-row.false)))
+
+pub returns : goal.returns
+returns c = record {
+  makes = λ P l p o.
+      linear-makes p o c.requires.0.record' (enclosed (goal.at.returns c).In_ok-row) c.requires.1 c.read_parts-create.ensures c.close_over.ensures;
+}
