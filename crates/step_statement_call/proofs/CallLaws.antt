@@ -48,17 +48,17 @@ module _ {M : Machine} {P : Prog} {store : List ℕ} {h : Header} {l : Located} 
   pub absent-makes : r ≡ None → Makes store events at' (resting (located_step M P l)) store events (Err NoStep)
   absent-makes e = nothing_makes o (s.works ∙ absent-halts (label-found p same d.finds) d.reads vs s.enter e)
 
-  module _ {p : Parameters} (e : r ≡ Some p) where
+  module _ {f : Parameters} (e : r ≡ Some f) where
     -- .. or it has another number of parameters
-    pub uneven_makes : (p.row.len ≡ n → ⊥) → Makes store events at' (resting (located_step M P l)) store events (Err NoStep)
+    pub uneven_makes : (f.row.len ≡ n → ⊥) → Makes store events at' (resting (located_step M P l)) store events (Err NoStep)
     uneven_makes u = nothing_makes o (s.works ∙ uneven_halts (label-found p same d.finds) d.reads vs s.enter e (λ q. u (q ∙ sym s.count)))
 
-    pub call-makes : {ts : List Slot} {store' events' : List ℕ} {m : Result Step Stop} → p.row.len ≡ n → Laid l vs ts
-        → Enters store events h at' p.body (event_head 3 0 k 0 0) 0 0 (renamed (ids_in bytes p.row) ts) store' events' m
+    pub call-makes : {ts : List Slot} {store' events' : List ℕ} {m : Result Step Stop} → f.row.len ≡ n → Laid l vs ts
+        → Enters store events h at' f.body (event_head 3 0 k 0 0) 0 0 (renamed (ids_in bytes f.row) ts) store' events' m
         → Makes store events at' (resting (located_step M P l)) store' events' m
     unfolding event_bytes next_place_lem environment_of
     call-makes u v w =
         let g = enters_with (label-found p same d.finds) d.reads vs s.enter e (place_of l.cells) (u ∙ s.count) in
         let t : M.step P (project P l) ≡ shows (Call' label) (at g.what.body (g.new ++ []) (cells P l)) =
         s.shown g.what g.new (s.works ∙ g.is) ∙ ap (λ (ε : Entries). shows (Call' label) (at g.what.body ε (cells P l))) (sym (append-nil g.new)) in
-        enters-makes o (Call' label) g.what.body g.new (alone o) t g.next (ap (λ (i : ℕ). event_head 3 0 i 0 0) same) (g.slots ∙ sym (v.slots (ids_in bytes p.row))) w
+        enters-makes o (Call' label) g.what.body g.new (alone o) t g.next (ap (λ (i : ℕ). event_head 3 0 i 0 0) same) (g.slots ∙ sym (v.slots (ids_in bytes f.row))) w

@@ -74,9 +74,3 @@ module _ {P : Prog} {store : List ℕ} {h : Header} {l : Located} (o : Stored so
           laid = record { slots = λ ys. ap (renamed ys) stand };
         }
 
--- what was gathered, where the code looks for it
-pub gathers_as : (store : List ℕ) (h : Header) {scratch scratch' : List ℕ} {heap n : ℕ} {xs : List VarId} {r : Bool} → heap ≡ h.heap → n ≡ h.entries
-    → Gathers (slots_at store (64 + 16 * heap) n) xs scratch 0 scratch' r → Gathers (entries_in store h) xs scratch 0 scratch' r
-gathers_as store h {scratch} {scratch'} {heap} {n} {xs} {r} p q g =
-    let F : ℕ → ℕ → Type 0 = λ (i j : ℕ). Gathers (slots_at store (64 + 16 * i) j) xs scratch 0 scratch' r in
-    subst (F h.heap) q (subst (λ (i : ℕ). F i n) p g)

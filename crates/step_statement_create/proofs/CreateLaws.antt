@@ -100,10 +100,6 @@ finishes_as {store} {events} {store'} {events'} {at' = at'} {m = m} a b c d w =
     let Known : Type 0 = Header × (List ℕ × (ℕ × List ℕ)) in
     subst (λ (t : Known). Finishes store events at' t.0 t.1.0 t.1.1.0 t.1.1.1 store' events' m) (λ i. (a i, (b i, (c i, d i)))) w
 
--- how many slots there are after it
-pub counts : (h : Header) (j n : ℕ) {p : ℕ} {next : Header} → next ≡ closed h p j n → next.heap + next.entries ≡ h.heap + (j + 1) + (n + 1)
-counts h j n e = ap (λ (z : Header). z.heap + z.entries) e
-
 module _ {M : Machine} {P : Prog} {store : List ℕ} {h : Header} {l : Located} (o : Stored M P store h l) where
   abbrev K : Cells
   K = map (cell_in P) l.cells

@@ -51,14 +51,6 @@ enters-clause scratch {store} {events} {scratch'} {store'} {events'} {h} {at} {c
     λ (z : ℕ × (List ℕ × (ℕ × List ℕ))). Finishes store events at (entered h body z.0) z.1.0 (64 + 16 * z.1.1.0) (z.1.1.1 ++ held) store' events' m in
     record { finishes = subst Is (λ i. (c i, (s i, (g i, t i)))) w }
 
--- the end of the run leaves the counts
-pub record SameCounts (h next : Header) : Type 0 where
-  pub heap : next.heap ≡ h.heap
-  pub entries : next.entries ≡ h.entries
-
-pub over-counts : (h : Header) {next : Header} → next ≡ over h → SameCounts h next
-over-counts h e = record { heap = ap (λ (z : Header). z.heap) e; entries = ap (λ (z : Header). z.entries) e }
-
 pub outside_as : {frame : Frame} {bytes store events store' events' : List ℕ} {h : Header} {at : ℕ} {value : Slot} {slots values : List Slot} {tag : ℕ} (k : ℕ) {shown : List ℕ} {next : Header}
     {m : Result Step Stop} → value.sort ≡ 2 → next ≡ over h → shown ≡ event_head 7 2 tag k value.payload → length values ≡ k → slots ≡ values
     → Finishes store events at next (shown ++ each slot_bytes (map (shown_as (heap_in store next)) slots)) 64 [] store' events' m

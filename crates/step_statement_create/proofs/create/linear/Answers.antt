@@ -1,16 +1,24 @@
 -- `linear` meets its contract. Assumes nothing.
-use mathlib.Core.Path.{refl}
+use Rattle.std.specs.Prelude.{Some, None, Err}
+use mathlib.Core.Path.{◌≡◌, refl}
 use native.Mathlib.Omega.{arith}
+use borrow.Author.Rules.{rules}
+use Rattle.step_write.specs.declared.Stop.TheVariants.{NoStep}
 use Rattle.step_statement_create.proofs.LinearLaws.{Encloses, none_there, some_there, has-environment, has-entries, linear-makes}
 use Rattle.step_statement_create.proofs.create.linear.Goals as goal
 use Rattle.step_statement_create.proofs.create.linear.Goals.{In_ok-row}
 
 -- the environment that was found
 enclosed : (c : In_ok-row) → let a = c.args in Encloses a.stepper.frame a.image.now a.header.position c.in_ok-row.row.len
-enclosed c = some_there c.args.stepper.frame refl c.environment_row.ensures c.requires.0.record' c.in_ok-row.ensures.variant
+enclosed c =
+    let s : c.environment_row.result ≡ Some c.in_ok-row.row = search rules in
+    some_there c.args.stepper.frame refl c.environment_row.ensures c.requires.0.record' s
 
 pub returns-in_err-row : goal.returns-in_err-row
-returns-in_err-row c = ?
+returns-in_err-row c =
+    let n : c.environment_row.result ≡ None = search rules in
+    let e : c.from_residual.result ≡ Err NoStep = search rules in
+    rw e record { makes = λ P l p o. absurd (has-environment p o c.requires.0.record' (none_there c.args.stepper.frame refl c.environment_row.ensures n)) }
 
 pub returns-then-header-row : goal.returns-then-header-row
 returns-then-header-row c = record {
