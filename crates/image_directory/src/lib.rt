@@ -9,7 +9,7 @@ use image_fields::number;
 use image_kinds::form::record_formed;
 
 // The widths of an image's fields, its number of records, and where its directory and its records begin.
-#[derive(Clone, Copy)]
+#[derive(Clone, Copy, PartialEq, Eq)]
 pub struct Frame {
     pub id: usize,
     pub place: usize,
@@ -35,11 +35,11 @@ impl Frame {
     pub const FEW_OUTPUT_RECORDS: usize = 2 * Frame::FEW_SOURCE_RECORDS;
 }
 
-// A pair of the directory, or none where the bytes end.
-#[derive(Clone, Copy)]
-pub enum Slot {
-    Here { offset: usize, size: usize },
-    Short,
+// A pair of the directory: where a record begins, and its length.
+#[derive(Clone, Copy, PartialEq, Eq)]
+pub struct Slot {
+    pub offset: usize,
+    pub size: usize,
 }
 
 pub fn long(x: u32) -> usize
@@ -48,19 +48,17 @@ pub fn long(x: u32) -> usize
     x as usize
 }
 
-// The pair from at, with numbers of `place` bytes.
-pub fn read_slot(image: &[u8], place: usize, at: usize) -> Slot
+// The pair from at, with numbers of `place` bytes; none where the bytes end.
+pub fn read_slot(image: &[u8], place: usize, at: usize) -> Option<Slot>
     requires { Width place }
     ensures { result ≡ slot_at place at image.now }
 {
-    if at <= image.len() {
-        if place + place <= image.len() - at {
-            let offset = long(number(image, at, place));
-            let size = long(number(image, at + place, place));
-            return Slot::Here { offset, size };
-        }
+    if at <= image.len() && place + place <= image.len() - at {
+        let offset = number(image, at, place) as usize;
+        let size = number(image, at + place, place) as usize;
+        return Some(Slot { offset, size });
     }
-    Slot::Short
+    None
 }
 
 // Question 3: do the n pairs from `from`, with numbers of `place` bytes, tile s from `start` to its end?
@@ -74,24 +72,15 @@ pub fn tiled(image: &[u8], place: usize, n: usize, from: usize, start: usize) ->
     }
     let mut at = from;
     let mut here = start;
-    let mut left = n;
-    while 0 < left {
-        match read_slot(image, place, at) {
-            Slot::Here { offset, size } => {
-                if offset != here {
-                    return false;
-                }
-                if len - here < size {
-                    return false;
-                }
-                here = here + size;
-                at = at + (place + place);
-                left = left - 1;
-            }
-            Slot::Short => {
-                return false;
-            }
+    for _ in 0..n {
+        let Some(slot) = read_slot(image, place, at) else {
+            return false;
+        };
+        if slot.offset != here || len - here < slot.size {
+            return false;
         }
+        here += slot.size;
+        at += place + place;
     }
     here == len
 }
@@ -103,23 +92,16 @@ pub fn all_formed(image: &[u8], w: usize, place: usize, n: usize, from: usize, s
 {
     let mut at = from;
     let mut here = start;
-    let mut left = n;
-    while 0 < left {
-        match read_slot(image, place, at) {
-            Slot::Here { offset: _, size } => {
-                let end = here + size;
-                if record_formed(&image[here..end], w) {
-                    here = end;
-                    at = at + (place + place);
-                    left = left - 1;
-                } else {
-                    return false;
-                }
-            }
-            Slot::Short => {
-                return false;
-            }
+    for _ in 0..n {
+        let Some(slot) = read_slot(image, place, at) else {
+            return false;
+        };
+        let end = here + slot.size;
+        if !record_formed(&image[here..end], w) {
+            return false;
         }
+        here = end;
+        at += place + place;
     }
     true
 }

@@ -3,9 +3,7 @@ ghost use Rattle.std.specs.Prelude.{◌≡◌, ◌≤◌, ◌<◌};
 ghost use Rattle.image_spec.specs.Kinds.{kinds, fixed, bodies};
 ghost use Rattle.image_kinds.specs.Table.{IsKind};
 
-use image_fields::count;
-
-#[derive(Clone, Copy)]
+#[derive(Clone, Copy, PartialEq, Eq)]
 pub struct Kind {
     // The bytes of the fixed part (what stands before a list, a mark or a count, the kind byte too) without its IDs, and its IDs.
     pub plain: u8,
@@ -137,7 +135,7 @@ impl Kind {
         requires { kind < kinds }
         ensures { IsKind result kind }
     {
-        Kind::TABLE[count(kind)]
+        Kind::TABLE[usize::from(kind)]
     }
 
     // The bytes of the fixed part, with IDs of w bytes.
@@ -146,14 +144,13 @@ impl Kind {
         ensures { result ≡ «fixed» w kind }
     {
         let row = Kind::of(kind);
-        count(row.plain) + count(row.ids) * w
+        usize::from(row.plain) + usize::from(row.ids) * w
     }
 
     pub fn bodies(kind: u8) -> usize
         requires { kind < kinds }
         ensures { result ≡ «bodies» kind }
     {
-        let row = Kind::of(kind);
-        count(row.bodies)
+        usize::from(Kind::of(kind).bodies)
     }
 }

@@ -11,7 +11,6 @@ ghost use Rattle.step_rows.specs.RecordRows.{bytes_of, AnyBytes, counted_row_lem
 
 use crate::Row;
 use image_directory::Frame;
-use image_fields::count;
 use image_kinds::kinds::Kind;
 use image_read_nodes::list_at;
 use image_read_parts::offset;
@@ -21,13 +20,12 @@ fn counted_row(image: &[u8], at: usize, stride: usize, offset: usize, width: usi
     requires { at < length image.now }
     ensures { result ≡ counted_row_lem image.now at stride offset width }
 {
-    let len = count(image[at]);
     Row {
         from: at + 1,
         stride,
         offset,
         width,
-        len,
+        len: usize::from(image[at]),
     }
 }
 
