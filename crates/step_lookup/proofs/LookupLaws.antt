@@ -1,7 +1,7 @@
 -- The integer of a variable that was looked up in the slots of an environment is the model's. Assumes nothing.
 use Rattle.std.specs.Prelude.{Err}
 use Prim.Native.Nat.{ℕ}
-use mathlib.Core.Path.{◌≡◌, refl, sym, ap, ◌∙◌}
+use mathlib.Core.Path.{◌≡◌, refl, sym, ap, ap₂, ◌∙◌}
 use mathlib.Core.Bool.{Bool, cond}
 use mathlib.Core.List.{List}
 use mathlib.Core.Option.{Option, none, some}
@@ -77,6 +77,24 @@ two_integers (some v) (some w) f k = both (as_int v) (as_int w)
     both none p = refl
     both (some x) none = refl
     both (some x) (some y) = refl
+
+-- .. read one after another
+module _ {A : Type 0} (f : ℤ → ℤ → Option A) (a b : Option ℤ) where
+  pub first-missing : none ≡ a → none ≡ of_both f a b
+  unfolding of_both
+  first-missing e = ap (λ (x : Option ℤ). of_both f x b) e
+
+  pub second-missing : none ≡ b → none ≡ of_both f a b
+  unfolding of_both
+  second-missing e = without a ∙ ap (of_both f a) e
+    where
+      without : (x : Option ℤ) → none ≡ of_both f x none
+      without none = refl
+      without (some x) = refl
+
+  pub both-there : {x y : ℤ} → some x ≡ a → some y ≡ b → f x y ≡ of_both f a b
+  unfolding of_both
+  both-there d e = ap₂ {C = Option A} (of_both f) d e
 
 -- ── a step that asks for something ──
 

@@ -37,6 +37,11 @@ pub advances_as : {M : Machine} {stepper : Stepper} {bytes store events : List �
     → m ≡ k → Advances M stepper bytes store events h at store' events' k
 advances_as {M} {stepper} {bytes} {store} {events} {h} {at} {store'} {events'} a e = subst (Advances M stepper bytes store events h at store' events') e a
 
+-- is it for want of room that there is no step?
+abbrev pub is_full : Stop → Bool
+is_full NoStep = false
+is_full NoRoom = true
+
 -- where a call ends
 did_as : {M : Machine} {P : Prog} {n : ℕ} {first : Located} {store₀ events₀ : List ℕ} {i : ℕ} {l : Located} {store events : List ℕ} {at : ℕ} {shown : List ℕ} {f : Bool} {store' events' : List ℕ} {k : ℕ}
     → Running M P n first store₀ events₀ i l store events at shown → making M P n first store₀ (length events₀) ≡ preceded i shown (stays f l store) → store' ≡ store → events' ≡ events → k ≡ i
@@ -98,7 +103,7 @@ module _ {M : Machine} (lawful : Lawful M) (stepper : Stepper) (bytes : List ℕ
         }
 
     -- the run has no next step, or none for which there is room: what the call says
-    pub going-ends : (k : ℕ) → k ≡ i → Advances M stepper bytes store events h at store' events' (Err NoStep)
+    going-ends : (k : ℕ) → k ≡ i → Advances M stepper bytes store events h at store' events' (Err NoStep)
         → Runs M stepper bytes n store₀ events₀ h₀ store' events' (record { steps = k; length = at; full = false })
     going-ends k q a = record {
       runs = λ P first v.
@@ -107,7 +112,7 @@ module _ {M : Machine} (lawful : Lawful M) (stepper : Stepper) (bytes : List ℕ
           did_as r.running (running_none-left M P n first store₀ events₀ r.running below m.none_is) m.store_same m.events-same q;
     }
 
-    pub going_fills : (k : ℕ) → k ≡ i → Advances M stepper bytes store events h at store' events' (Err NoRoom)
+    going_fills : (k : ℕ) → k ≡ i → Advances M stepper bytes store events h at store' events' (Err NoRoom)
         → Runs M stepper bytes n store₀ events₀ h₀ store' events' (record { steps = k; length = at; full = true })
     going_fills k q a = record {
       runs = λ P first v.
@@ -116,6 +121,12 @@ module _ {M : Machine} (lawful : Lawful M) (stepper : Stepper) (bytes : List ℕ
           let e = same-events M P n first store₀ events₀ r.running in
           did_as r.running (running-full M P n first store₀ events₀ r.running below m.what m.is (ap (λ (k : ℕ). has_room_lem m.what store (k - at)) (sym e) ∙ m.room)) m.store_same m.events-same q;
     }
+
+    -- .. by what kept it from the step
+    pub going-stops : (k : ℕ) → k ≡ i → (e : Stop) {full : Bool} → full ≡ is_full e → Advances M stepper bytes store events h at store' events' (Err e)
+        → Runs M stepper bytes n store₀ events₀ h₀ store' events' (record { steps = k; length = at; full = full })
+    going-stops k q NoStep {full} f a = subst (λ (b : Bool). Runs M stepper bytes n store₀ events₀ h₀ store' events' (record { steps = k; length = at; full = b })) (sym f) (going-ends k q a)
+    going-stops k q NoRoom {full} f a = subst (λ (b : Bool). Runs M stepper bytes n store₀ events₀ h₀ store' events' (record { steps = k; length = at; full = b })) (sym f) (going_fills k q a)
 
   -- all steps are made
   pub going-all : {i : ℕ} {store events : List ℕ} {h : Header} {at : ℕ} (k : ℕ) → k ≡ i → n ≤ i → Going i store events h at

@@ -1,5 +1,5 @@
 // ifc.rs: the first branch where the comparison holds, else the second.
-ghost use Rattle.std.specs.Prelude.{◌≤◌, ◌≡◌, length};
+ghost use Rattle.std.specs.Prelude.{◌≤◌, ◌≡◌, false, length};
 ghost use Rattle.image_directory.specs.Slots.{records_in};
 ghost use Rattle.syntax.specs.Options.{option_of};
 ghost use Rattle.step_spec.specs.Events.{event_head};

@@ -90,11 +90,7 @@ module _ {M : Machine} (lawful : Lawful M) {P : Prog} {stepper : Stepper} {bytes
       go (some r) e k = record { step = r; is = e; reads = made_reads r e k }
 
   module _ (s : l.has_stopped ≡ false) {events store₁ store₂ events₁ : List ℕ} {at : ℕ} {step : Step} {h₂ : Header} (w : Settles M stepper bytes store₁ step.header store₂ h₂) where
-    -- the step, with the settled header
-    abbrev after : Step
-    after = record { header = h₂; at = step.at }
-
-    settled : (r : Stepped) → located_step M P l ≡ some r → MadeStep store events at (some (r.0, going' r.1)) store₁ events₁ step → Makes store events at (located_step M P l) store₂ events₁ (Ok after)
+    settled : (r : Stepped) → located_step M P l ≡ some r → MadeStep store events at (some (r.0, going' r.1)) store₁ events₁ step → Makes store events at (located_step M P l) store₂ events₁ (Ok (record { header = h₂; at = step.at }))
     unfolding project
     settled r e m =
         let l₁ = going' r.1 in
@@ -107,7 +103,7 @@ module _ {M : Machine} (lawful : Lawful M) {P : Prog} {stepper : Stepper} {bytes
         let b = is_stop (M.step P (project P l₁)) in
         let same : flagged b l₁ ≡ r.1 = flag_back r e in
         let size : length (store_bytes l₁) ≡ length (store_bytes r.1) = flag_length false r.1 in
-        subst (λ (o : Option Stepped). Makes store events at o store₂ events₁ (Ok after)) (sym e) (one-step
+        subst (λ (o : Option Stepped). Makes store events at o store₂ events₁ (Ok (record { header = h₂; at = step.at }))) (sym e) (one-step
         (ap (λ (i : ℕ). leb i (length store) && leb (length (shown_bytes r.0)) (length events - at)) (sym size) ∙ k)
         (f.0 ∙ (ap₂ {C = List ℕ} (λ (z : List ℕ) (y : Located). sets z 0 (store_bytes y)) wrote same ∙ hidden store 0 (store_bytes l₁) (store_bytes r.1) (omega (arith, size)) (omega (arith, room, size))))
         (m.showed ∙ ap (λ (z : Stepped). sets events at (shown_bytes z.0)) q)
@@ -118,10 +114,10 @@ module _ {M : Machine} (lawful : Lawful M) {P : Prog} {stepper : Stepper} {bytes
         flag_back r e = λ i. record { position = r.1.position; environment = r.1.environment; cells = r.1.cells; has_ended = r.1.has_ended; has_stopped = sym (flag_is s r e) i }
 
     -- a rule's step, and the flag
-    pub turned : Makes store events at (resting (located_step M P l)) store₁ events₁ (Ok step) → Makes store events at (located_step M P l) store₂ events₁ (Ok after)
+    pub turned : Makes store events at (resting (located_step M P l)) store₁ events₁ (Ok step) → Makes store events at (located_step M P l) store₂ events₁ (Ok (record { header = h₂; at = step.at }))
     turned m = go (located_step M P l) refl (made-step m)
       where
-        go : (o : Option Stepped) → located_step M P l ≡ o → MadeStep store events at (resting o) store₁ events₁ step → Makes store events at (located_step M P l) store₂ events₁ (Ok after)
+        go : (o : Option Stepped) → located_step M P l ≡ o → MadeStep store events at (resting o) store₁ events₁ step → Makes store events at (located_step M P l) store₂ events₁ (Ok (record { header = h₂; at = step.at }))
         go none e k = let z : ◌≡◌ {A = ℕ} 0 1 = cc k.is in absurd (omega arith)
         go (some r) e k = settled r e k
 
