@@ -17,7 +17,9 @@ pub fn slot_of(store: &[u8], header: Header, id: u32) -> Slot
     requires { Holds store.now header }
     ensures { result ≡ named id (entries_in store.now header) }
 {
-    find(store, 64 + 16 * header.heap as usize, header.entries as usize, id)
+    let heap = header.heap as usize;
+    let entries = header.entries as usize;
+    find(store, 64 + 16 * heap, entries, id)
 }
 
 // The integer of a variable that is there and has one.

@@ -63,7 +63,13 @@ pub fn find_clause(
 }
 
 // The first definition with this label.
-pub fn find_label(image: &[u8], frame: Frame, ends: &[u32], definitions: usize, label: u32) -> Option<usize>
+pub fn find_label(
+    image: &[u8],
+    frame: Frame,
+    ends: &[u32],
+    definitions: usize,
+    label: u32,
+) -> Option<usize>
     requires { Ready frame image.now × Ends (records_in frame image.now) ends.now }
     ensures { FindsLabel frame image.now definitions label result }
 {

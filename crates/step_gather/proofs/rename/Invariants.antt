@@ -13,4 +13,3 @@ use Rattle.step_gather.proofs.rename.Given as goal
 
 abbrev pub invariant-loop-j : goal.invariant-loop-j
 invariant-loop-j l = Filled (renamed (ids_in l.image l.row) (slots_at l.initial.slots l.at l.row.len)) l.initial.slots l.at l.slots l.j
-

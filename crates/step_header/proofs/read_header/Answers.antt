@@ -25,7 +25,7 @@ returns c =
     let y = c.all_zero-short_zeros in
     let z = c.all_zero-long_zeros in
     let e : y.result && z.result ≡ false = elim c.else-short_zeros.branch [
-      else-short_zeros-via-then-short_zeros+else-long_zeros w ↦ rw (w.if-short_zeros.true, w.if-long_zeros.false) refl
+      | else-short_zeros-via-then-short_zeros+else-long_zeros w ↦ rw (w.if-short_zeros.true, w.if-long_zeros.false) refl
       | else-short_zeros-via-else-short_zeros w ↦ rw w.if-short_zeros.false refl
     ] in
     header_parse c.args.s.now c.requires c.number-position.ensures c.in_ok-ended.ensures c.in_ok-stopped.ensures y.result z.result

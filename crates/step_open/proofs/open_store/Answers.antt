@@ -31,6 +31,6 @@ returns c =
     let s = c.args.store.now in
     let e = c.in_ok-header.ensures in
     opens_none c.args.frame c.args.image.now s refl (λ P o. elim c.else-counts_inside.branch [
-      else-counts_inside-via-then-counts_inside+else-is_formed w ↦ not_opened P s c.in_ok-header.header e (sym (w.is_formed.ensures P o) ∙ w.if-is_formed.false)
+      | else-counts_inside-via-then-counts_inside+else-is_formed w ↦ not_opened P s c.in_ok-header.header e (sym (w.is_formed.ensures P o) ∙ w.if-is_formed.false)
       | else-counts_inside-via-else-counts_inside w ↦ outside P s c.in_ok-header.header e c.if-store-lt64.false (sym c.counts_inside.ensures ∙ w.if-counts_inside.false)
     ])

@@ -22,9 +22,9 @@ returns-then-t-k c =
     let l = c.loop-i in
     left-no a.frame a.image.now a.store.now a.cells a.heap l.k l.f l.i c.read-t.result (omega arith) c.read-t.ensures l.invariant
     (elim c.then-t-k.branch [
-      then-t-k-via-then-t-k w ↦ λ P o. pass-number P (slots_at a.store.now 64 a.heap) a.cells l.k l.f c.read-t.result _ c.if-t-gt4.false c.if-t-ge3.true w.if-t-k.true
+      | then-t-k-via-then-t-k w ↦ λ P o. pass-number P (slots_at a.store.now 64 a.heap) a.cells l.k l.f c.read-t.result _ c.if-t-gt4.false c.if-t-ge3.true w.if-t-k.true
       | then-t-k-via-else-t-k+then-not-head_ok w ↦ λ P o. pass-cell P (slots_at a.store.now 64 a.heap) a.cells l.k l.f c.read-t.result _ false c.if-t-gt4.false c.if-t-ge3.true w.if-t-k.false
-        (sym (w.head_ok.ensures P (slots_at a.store.now 64 a.heap) o) ∙ w.if-not-head_ok.true)
+          (sym (w.head_ok.ensures P (slots_at a.store.now 64 a.heap) o) ∙ w.if-not-head_ok.true)
     ])
 
 pub returns-then-not-held_ok : goal.returns-then-not-held_ok
@@ -39,11 +39,11 @@ loop-i-preserved c =
     let a = c.args in
     let l = c.loop-i in
     elim c.if-t-ge3.branch [
-      then-t-ge3+else-t-k+else-not-head_ok w ↦ rw (w.k-is, w.f-is) (left-next a.frame a.image.now a.store.now a.cells a.heap l.k l.f l.i _ _ c.read-t.result (omega arith) c.read-t.ensures l.invariant (omega (arith, l.invariant.numbered))
-        (λ P o. pass-cell P (slots_at a.store.now 64 a.heap) a.cells l.k l.f c.read-t.result _ true c.if-t-gt4.false w.if-t-ge3.true w.if-t-k.false
-        (sym (w.head_ok.ensures P (slots_at a.store.now 64 a.heap) o) ∙ w.if-not-head_ok.false)))
+      | then-t-ge3+else-t-k+else-not-head_ok w ↦ rw (w.k-is, w.f-is) (left-next a.frame a.image.now a.store.now a.cells a.heap l.k l.f l.i _ _ c.read-t.result (omega arith) c.read-t.ensures l.invariant (omega (arith, l.invariant.numbered))
+          (λ P o. pass-cell P (slots_at a.store.now 64 a.heap) a.cells l.k l.f c.read-t.result _ true c.if-t-gt4.false w.if-t-ge3.true w.if-t-k.false
+          (sym (w.head_ok.ensures P (slots_at a.store.now 64 a.heap) o) ∙ w.if-not-head_ok.false)))
       | else-t-ge3+else-not-held_ok w ↦ rw (w.k-is, w.f-is) (left-next a.frame a.image.now a.store.now a.cells a.heap l.k l.f l.i _ _ c.read-t.result (omega arith) c.read-t.ensures l.invariant (omega (arith, l.invariant.numbered))
-        (λ P o. pass-held P (slots_at a.store.now 64 a.heap) a.cells l.k l.f c.read-t.result _ true w.if-t-ge3.false (sym (w.held_ok.ensures P) ∙ w.if-not-held_ok.false)))
+          (λ P o. pass-held P (slots_at a.store.now 64 a.heap) a.cells l.k l.f c.read-t.result _ true w.if-t-ge3.false (sym (w.held_ok.ensures P) ∙ w.if-not-held_ok.false)))
     ]
 
 pub returns : goal.returns

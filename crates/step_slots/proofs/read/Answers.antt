@@ -22,7 +22,7 @@ returns c =
     let b = get_or s a.at 0 in
     let m = drop (a.at + 1) s in
     reads_none s a.at (omega arith) (elim c.else-sort-le4.branch [
-      else-sort-le4-via-then-sort-le4+else-all_zero w ↦
-        slot-zeros b m w.if-sort-le4.true (w.all_zero.ensures ∙ ap (λ (b : Bool). only_if b (got tt (drop (a.at + 1 + 3) s))) w.if-all_zero.false)
+      | else-sort-le4-via-then-sort-le4+else-all_zero w ↦
+          slot-zeros b m w.if-sort-le4.true (w.all_zero.ensures ∙ ap (λ (b : Bool). only_if b (got tt (drop (a.at + 1 + 3) s))) w.if-all_zero.false)
       | else-sort-le4-via-else-sort-le4 w ↦ slot-sort b m w.if-sort-le4.false
     ])
