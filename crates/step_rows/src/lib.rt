@@ -96,7 +96,8 @@ pub fn same(bytes: &[u8], row: Row, others: &[u8], other_row: Row) -> bool
     requires { Inside bytes.now row × Inside others.now other_row }
     ensures { result ≡ same_ids (ids_in bytes.now row) (ids_in others.now other_row) }
 {
-    if row.len != other_row.len {
+    let other_len = other_row.len;
+    if row.len != other_len {
         return false;
     }
     for j in 0..row.len {
