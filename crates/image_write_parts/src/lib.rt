@@ -3,14 +3,12 @@
 
 ghost use Rattle.std.specs.Prelude.{◌≡◌, ◌∷◌, [], true, ◌+◌, ◌/◌, ◌%◌, ◌≤◌, ◌<◌, ◌^◌, length};
 ghost use Rattle.image_spec.specs.Parse.{field};
-ghost use Rattle.image_spec.specs.Fields.{chirality_code_lem, operator_code_lem, sort_code_lem, newline_code_lem, integer_bytes, identifier_bytes, type_bytes, binding_bytes};
+ghost use Rattle.image_spec.specs.Fields.{newline_code_lem, integer_bytes, identifier_bytes, type_bytes, binding_bytes};
 ghost use Rattle.image_write_parts.specs.Puts.{Puts};
 
 use image_integers::bits;
-use syntax::context::{Chirality, ContextBinding};
-use syntax::ifc::IfSort;
+use syntax::context::ContextBinding;
 use syntax::names::Identifier;
-use syntax::op::BinOp;
 use syntax::types::Ty;
 
 fn low(n: u32) -> u8
@@ -34,12 +32,7 @@ pub fn put_byte(out: &mut [u8], at: usize, b: u8) -> usize
 fn short(len: usize, at: usize, n: usize, w: usize) -> bool
     ensures { result ≡ true → (w ≡ 2) × (at + n ≤ len) }
 {
-    if w == 2 {
-        if at <= len {
-            return n <= len - at;
-        }
-    }
-    false
+    w == 2 && at <= len && n <= len - at
 }
 
 // The two bytes of n where there is room for them, the lowest first.
@@ -56,10 +49,8 @@ fn store_identifier(out: &mut [u8], at: usize, x: Identifier) -> usize
     requires { at + 4 ≤ length out.old }
     ensures { Puts out.old out.new at result (identifier_bytes 2 x) }
 {
-    let name = x.name;
-    let id = x.id;
-    let next = store_pair(out, at, wide(name.0));
-    store_pair(out, next, id.0)
+    let next = store_pair(out, at, u32::from(x.name.0));
+    store_pair(out, next, x.id.0)
 }
 
 fn store_type(out: &mut [u8], at: usize, t: Ty) -> usize
@@ -83,12 +74,9 @@ fn store_binding(out: &mut [u8], at: usize, b: ContextBinding) -> usize
     requires { at + 10 ≤ length out.old }
     ensures { Puts out.old out.new at result (binding_bytes 2 b) }
 {
-    let var = b.var;
-    let chi = b.chi;
-    let ty = b.ty;
-    let next = store_identifier(out, at, var);
-    out[next] = chirality_code(chi);
-    store_type(out, next + 1, ty)
+    let next = store_identifier(out, at, b.var);
+    out[next] = b.chi as u8;
+    store_type(out, next + 1, b.ty)
 }
 
 // The w bytes of n, the lowest first.
@@ -101,25 +89,11 @@ pub fn put_number(out: &mut [u8], at: usize, w: usize, n: u32) -> usize
     }
     let mut rest = n;
     let mut here = at;
-    let mut left = w;
-    while 0 < left {
+    for _ in 0..w {
         here = put_byte(out, here, low(rest));
-        rest = rest / 256;
-        left = left - 1;
+        rest /= 256;
     }
     here
-}
-
-fn low_half(n: u64) -> u32
-    ensures { result ≡ n % 4294967296 }
-{
-    (n % 4294967296) as u32
-}
-
-fn high_half(n: u64) -> u32
-    ensures { result ≡ n / 4294967296 }
-{
-    (n / 4294967296) as u32
 }
 
 // A signed number, in eight bytes.
@@ -128,8 +102,8 @@ pub fn put_integer(out: &mut [u8], at: usize, z: i64) -> usize
     ensures { Puts out.old out.new at result (integer_bytes z) }
 {
     let n = bits(z);
-    let next = put_number(out, at, 4, low_half(n));
-    put_number(out, next, 4, high_half(n))
+    let next = put_number(out, at, 4, (n % 4294967296) as u32);
+    put_number(out, next, 4, (n / 4294967296) as u32)
 }
 
 // A name, and an ID of w bytes.
@@ -140,16 +114,8 @@ pub fn put_identifier(out: &mut [u8], at: usize, w: usize, x: Identifier) -> usi
     if short(out.len(), at, 4, w) {
         return store_identifier(out, at, x);
     }
-    let name = x.name;
-    let id = x.id;
-    let next = put_number(out, at, 2, wide(name.0));
-    put_number(out, next, w, id.0)
-}
-
-fn wide(n: u16) -> u32
-    ensures { result ≡ n }
-{
-    n as u32
+    let next = put_number(out, at, 2, u32::from(x.name.0));
+    put_number(out, next, w, x.id.0)
 }
 
 // A type: 0 and as many zero bytes as an identifier has, or 1 and an identifier.
@@ -169,48 +135,11 @@ pub fn put_type(out: &mut [u8], at: usize, w: usize, t: Ty) -> usize
     }
 }
 
-pub fn chirality_code(c: Chirality) -> u8
-    ensures { result ≡ chirality_code_lem c }
-{
-    match c {
-        Chirality::Prd => 0,
-        Chirality::Cns => 1,
-        Chirality::Ext => 2,
-    }
-}
-
-pub fn operator_code(o: BinOp) -> u8
-    ensures { result ≡ operator_code_lem o }
-{
-    match o {
-        BinOp::Div => 0,
-        BinOp::Prod => 1,
-        BinOp::Rem => 2,
-        BinOp::Sum => 3,
-        BinOp::Sub => 4,
-    }
-}
-
-pub fn sort_code(c: IfSort) -> u8
-    ensures { result ≡ sort_code_lem c }
-{
-    match c {
-        IfSort::Equal => 0,
-        IfSort::NotEqual => 1,
-        IfSort::Less => 2,
-        IfSort::LessOrEqual => 3,
-        IfSort::Greater => 4,
-        IfSort::GreaterOrEqual => 5,
-    }
-}
-
+// The byte that stands for whether a PrintI64 ends its line.
 pub fn newline_code(newline: bool) -> u8
     ensures { result ≡ newline_code_lem newline }
 {
-    if newline {
-        return 1;
-    }
-    0
+    u8::from(newline)
 }
 
 // A binding: an identifier, a chirality and a type.
@@ -221,10 +150,7 @@ pub fn put_binding(out: &mut [u8], at: usize, w: usize, b: ContextBinding) -> us
     if short(out.len(), at, 10, w) {
         return store_binding(out, at, b);
     }
-    let var = b.var;
-    let chi = b.chi;
-    let ty = b.ty;
-    let next = put_identifier(out, at, w, var);
-    let after = put_byte(out, next, chirality_code(chi));
-    put_type(out, after, w, ty)
+    let next = put_identifier(out, at, w, b.var);
+    let after = put_byte(out, next, b.chi as u8);
+    put_type(out, after, w, b.ty)
 }

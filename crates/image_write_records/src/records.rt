@@ -1,18 +1,16 @@
 // Records by kind. Call and Invoke come out with empty args, and Create with its environment.
 ghost use Rattle.std.specs.Prelude.{◌∷◌, [], ◌++◌, ◌+◌, ◌≤◌, ◌<◌, ◌^◌};
 ghost use Rattle.std.proofs.Math.Option.{some};
+ghost use Rattle.syntax.specs.Options.{option_of};
 ghost use Rattle.syntax.specs.Arrays.{context_of};
 ghost use Rattle.image_spec.specs.Parse.{mark};
 ghost use Rattle.image_spec.specs.Fields.{identifier_bytes, type_bytes, list_bytes};
 ghost use Rattle.image_spec.specs.Records.{call, let', switch, create, invoke, literal, op, ifc, print, exit, record_bytes};
 ghost use Rattle.image_write_parts.specs.Puts.{Puts};
-ghost use Rattle.image_write_records.specs.Marks.{if_marked};
 
 use crate::lists::put_list;
 use image_kinds::kinds::Kind;
-use image_write_parts::{
-    newline_code, operator_code, put_byte, put_identifier, put_integer, put_type, sort_code,
-};
+use image_write_parts::{newline_code, put_byte, put_identifier, put_integer, put_type};
 use syntax::context::TypingContext;
 use syntax::ifc::IfSort;
 use syntax::names::Identifier;
@@ -150,39 +148,37 @@ pub fn put_op(
     ensures { Puts out.old out.new at result (record_bytes w (op fst operator snd var)) }
 {
     let next = put_named(out, at, w, Kind::OP, fst);
-    let after = put_byte(out, next, operator_code(operator));
+    let after = put_byte(out, next, operator as u8);
     let last = put_identifier(out, after, w, snd);
     put_identifier(out, last, w, var)
 }
 
 // The identifier, if there is one, behind its mark.
-fn put_marked(out: &mut [u8], at: usize, w: usize, marked: bool, x: Identifier) -> usize
+fn put_marked(out: &mut [u8], at: usize, w: usize, x: Option<Identifier>) -> usize
     requires { (at + (3 + w) < 2 ^ 64) × (w ≤ 8) }
-    ensures { Puts out.old out.new at result (mark (identifier_bytes w) (if_marked marked x)) }
+    ensures { Puts out.old out.new at result (mark (identifier_bytes w) (option_of x)) }
 {
-    if marked {
-        return put_named(out, at, w, 1, x);
+    match x {
+        None => put_byte(out, at, 0),
+        Some(x) => put_named(out, at, w, 1, x),
     }
-    put_byte(out, at, 0)
 }
 
-// The second operand counts only if it is marked.
 pub fn put_ifc(
     out: &mut [u8],
     at: usize,
     w: usize,
     sort: IfSort,
     fst: Identifier,
-    marked: bool,
-    snd: Identifier,
+    snd: Option<Identifier>,
 ) -> usize
     requires { (at + 8192 < 2 ^ 64) × (w ≤ 8) }
-    ensures { Puts out.old out.new at result (record_bytes w (ifc sort fst (if_marked marked snd))) }
+    ensures { Puts out.old out.new at result (record_bytes w (ifc sort fst (option_of snd))) }
 {
     let next = put_byte(out, at, Kind::IFC);
-    let after = put_byte(out, next, sort_code(sort));
+    let after = put_byte(out, next, sort as u8);
     let last = put_identifier(out, after, w, fst);
-    put_marked(out, last, w, marked, snd)
+    put_marked(out, last, w, snd)
 }
 
 pub fn put_print(out: &mut [u8], at: usize, w: usize, newline: bool, var: Identifier) -> usize

@@ -1,6 +1,7 @@
 -- What the structs of records stand for, and what reading a record whole must answer.
 use Rattle.std.specs.Prelude.{ℕ, ◌+◌, ◌≤◌, ◌<◌, ◌≡◌, true, List, length}
-use Rattle.std.proofs.Math.Option.{Option, none, some}
+use Rattle.std.proofs.Math.Option.{Option, none}
+use Rattle.syntax.specs.Options.{option_of}
 use Rattle.syntax.specs.Arrays.{context_of, Holds}
 use Rattle.syntax.specs.Context.{Context}
 use Rattle.syntax.specs.declared.names.Identifier.{Identifier}
@@ -24,8 +25,6 @@ use Rattle.pass_records.specs.declared.OpRecord.{OpRecord}
 use Rattle.pass_records.specs.declared.IfCRecord.{IfCRecord}
 use Rattle.pass_records.specs.declared.PrintRecord.{PrintRecord}
 use Rattle.pass_records.specs.declared.ExitRecord.{ExitRecord}
-use Rattle.pass_records.specs.declared.Second.{Second}
-use Rattle.pass_records.specs.declared.Second.TheVariants.{None, Some}
 use Rattle.pass_records.specs.declared.NameAndList.{NameAndList}
 
 -- ── the record that a struct stands for (document 01, "The image": each kind and its parts) ──
@@ -59,12 +58,8 @@ abbrev pub op_of : OpRecord → Record
 op_of o = op o.fst o.op o.snd o.var
 
 -- 10 IfC: comparison, fst, snd if there is one
-abbrev pub second_is : Second → Option Identifier
-second_is None = none
-second_is (Some x) = some x
-
 abbrev pub ifc_of : IfCRecord → Record
-ifc_of c = ifc c.sort c.fst (second_is c.snd)
+ifc_of c = ifc c.sort c.fst (option_of c.snd)
 
 -- document 02, A.1: PrintI64 (newline byte, var)
 abbrev pub print_of : PrintRecord → Record

@@ -2,12 +2,13 @@
 #![tactic(auto)]
 
 ghost use Rattle.std.specs.Prelude.{◌≡◌, true};
+ghost use Rattle.syntax.specs.Options.{option_of};
 ghost use Rattle.image_spec.specs.Parse.{mark, Marked};
 ghost use Rattle.image_spec.specs.Fields.{identifier_bytes, IdentifierOk};
 ghost use Rattle.scope_spec.specs.Flat.{plain_record_lem, small_record_lem};
 ghost use Rattle.image_read_parts.specs.Standing.{ReadsAs};
 ghost use Rattle.image_read_nodes.specs.Nodes.{record_at, At};
-ghost use Rattle.pass_records.specs.Unpacked.{call_of, let_of, switch_of, create_of, invoke_of, literal_of, op_of, second_is, ifc_of, print_of, exit_of, Unpacked, ListAt, HoldsAt, SecondAt, NamedAt, NamedIs};
+ghost use Rattle.pass_records.specs.Unpacked.{call_of, let_of, switch_of, create_of, invoke_of, literal_of, op_of, ifc_of, print_of, exit_of, Unpacked, ListAt, HoldsAt, SecondAt, NamedAt, NamedIs};
 
 use image_directory::Frame;
 use image_fields::count;
@@ -71,18 +72,11 @@ pub struct OpRecord {
     pub var: Identifier,
 }
 
-// The second operand of an IfC.
-#[derive(Clone, Copy)]
-pub enum Second {
-    None,
-    Some(Identifier),
-}
-
 #[derive(Clone, Copy)]
 pub struct IfCRecord {
     pub sort: IfSort,
     pub fst: Identifier,
-    pub snd: Second,
+    pub snd: Option<Identifier>,
 }
 
 #[derive(Clone, Copy)]
@@ -229,15 +223,15 @@ pub fn op(image: &[u8], frame: Frame, i: usize) -> OpRecord
     OpRecord { fst, op, snd, var }
 }
 
-fn second_at(image: &[u8], w: usize, at: usize) -> Second
+// The second operand of an IfC, if its mark announces one.
+fn second_at(image: &[u8], w: usize, at: usize) -> Option<Identifier>
     requires { SecondAt w image.now at }
-    ensures { ReadsAs (mark (identifier_bytes w)) (Marked (IdentifierOk w)) image.now at (second_is result) }
+    ensures { ReadsAs (mark (identifier_bytes w)) (Marked (IdentifierOk w)) image.now at (option_of result) }
 {
     if image[at] == 0 {
-        return Second::None;
+        return None;
     }
-    let x = identifier_at(image, w, at + 1);
-    Second::Some(x)
+    Some(identifier_at(image, w, at + 1))
 }
 
 // The IfC at index i.

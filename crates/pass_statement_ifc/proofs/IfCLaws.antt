@@ -1,8 +1,11 @@
 -- The step of an IfC. Assumes nothing.
 use Prim.Native.Nat.{ℕ}
-use mathlib.Core.Path.{◌≡◌}
+use mathlib.Core.Path.{◌≡◌, ap}
 use mathlib.Core.List.{List}
-use mathlib.Core.Option.{Option}
+use mathlib.Core.Option.{Option, some}
+use Rattle.std.specs.Prelude.{Option as Maybe, None, Some}
+use Rattle.std.specs.Option.{MatchOption, IsSomeAnd}
+use Rattle.syntax.specs.Options.{option_of}
 use Rattle.syntax.specs.declared.names.Identifier.{Identifier}
 use Rattle.syntax.specs.declared.ifc.IfSort.{IfSort}
 use Rattle.image_spec.specs.Records.{Record, ifc, record_bytes}
@@ -20,3 +23,10 @@ pub ifc-leaves : {w : ℕ} {record' : Record} (sort : IfSort) (fst : Identifier)
 unfolding step_if_c
 ifc-leaves sort fst snd W e f g u m =
     rw e record { leaves = λ fc fn _ _. record { emits = rw (← f, ← g) (emits_one (ifc sort _ _) u m); max_id = m.max_id } }
+
+-- each is used where there is one
+pub used-map : (W : Work) {P : Identifier → Identifier → Type 0} (o r : Maybe Identifier) → MatchOption o (r ≡ None) (λ x. IsSomeAnd r (P x)) → ((x y : Identifier) → P x y → y ≡ used W x)
+    → option_of r ≡ used_option W (option_of o)
+used-map W None r e f = rw e
+used-map W (Some x) None e f = absurd e
+used-map W (Some x) (Some y) e f = ap some (f x y e)

@@ -1,3 +1,2 @@
--- What an Op of the code gives; and rows of operators and comparisons, computed.
-pub mod Results
+-- Rows of operators and comparisons, computed.
 pub mod Rows

@@ -2,42 +2,33 @@
 ghost use Rattle.std.specs.Prelude.{◌≡◌};
 ghost use Rattle.syntax.specs.declared.op.BinOp.TheVariants.{Div, Rem};
 ghost use Rattle.model.specs.Integers.{divisible, eval_op};
-ghost use Rattle.step_arithmetic.specs.Results.{value_of};
+ghost use Rattle.syntax.specs.Options.{option_of};
 
 // No divisor of 0, and not -2^63 by -1, whose quotient does not fit.
 pub fn has_quotient(a: i64, b: i64) -> bool
     ensures { result ≡ divisible a b }
 {
-    if b == 0 {
-        return false;
+    match b {
+        0 => false,
+        -1 => a != i64::MIN,
+        _ => true,
     }
-    if b == -1 {
-        return a != i64::MIN;
-    }
-    true
 }
 
-// What an Op gives, or that it gives nothing and the machine has no next step.
-#[derive(Clone, Copy)]
-pub enum Value {
-    Int(i64),
-    NoStep,
-}
-
-pub fn quotient(a: i64, b: i64) -> Value
-    ensures { value_of result ≡ eval_op Div a b }
+pub fn quotient(a: i64, b: i64) -> Option<i64>
+    ensures { option_of result ≡ eval_op Div a b }
 {
     if has_quotient(a, b) {
-        return Value::Int(a / b);
+        return Some(a / b);
     }
-    Value::NoStep
+    None
 }
 
-pub fn remainder(a: i64, b: i64) -> Value
-    ensures { value_of result ≡ eval_op Rem a b }
+pub fn remainder(a: i64, b: i64) -> Option<i64>
+    ensures { option_of result ≡ eval_op Rem a b }
 {
     if has_quotient(a, b) {
-        return Value::Int(a % b);
+        return Some(a % b);
     }
-    Value::NoStep
+    None
 }

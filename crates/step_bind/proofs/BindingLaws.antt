@@ -1,4 +1,5 @@
 -- An integer under a new variable: the step of either machine that adds it. Assumes nothing.
+use Rattle.std.specs.Prelude.{Result}
 use Prim.Native.Nat.{ℕ, ◌+◌, ◌-◌, ◌*◌, ◌≤◌}
 use mathlib.Core.Path.{◌≡◌, refl, sym, ap, ap₂, ◌∙◌, subst}
 use mathlib.Core.Bool.{Bool, true, false, cond}
@@ -22,7 +23,8 @@ use Rattle.step_spec.specs.Events.{event_bytes, event_head}
 use Rattle.step_spec.proofs.Lists.{each-++}
 use Rattle.step_header.specs.declared.Header.{Header}
 use Rattle.step_header.specs.Headers.{entries_in}
-use Rattle.step_write.specs.declared.Made.{Made}
+use Rattle.step_write.specs.declared.Step.{Step}
+use Rattle.step_write.specs.declared.Stop.{Stop}
 use Rattle.step_write.specs.Writing.{Finishes}
 use Rattle.step_rule.specs.Rules.{Stored, resting, Makes}
 use Rattle.step_rule.proofs.Views.{viewed}
@@ -49,7 +51,7 @@ added-length true t E = length-append E (t ∷ [])
 added-length false t E = omega arith
 
 -- what was finished, with what the code computed
-pub binds_as : {b : Bool} {store events store' events' : List ℕ} {h : Header} {at' kind id payload from k : ℕ} {front : List ℕ} {m : Made}
+pub binds_as : {b : Bool} {store events store' events' : List ℕ} {h : Header} {at' kind id payload from k : ℕ} {front : List ℕ} {m : Result Step Stop}
     → from ≡ place_for b h → front ≡ slot_bytes (slot 0 id payload) → k ≡ behind b h
     → Finishes store events at' (bound h) (event_head kind 0 0 0 payload) from (front ++ take (16 * k) (drop from store)) store' events' m
     → Binds b store events h at' kind id payload store' events' m
@@ -83,7 +85,7 @@ module _ (b : Bool) {P : Prog} {store : List ℕ} {h : Header} {l : Located} (o 
       ∙ (ap (λ (i : ℕ). slot_bytes t ++ take (16 * h.entries) (drop i store)) k
       ∙ ap (λ (z : ℕ). each slot_bytes (take z E) ++ (slot_bytes t ++ take (16 * h.entries) (drop (64 + 16 * (h.heap + z)) store))) d)
 
-  pub binds-makes : (e : Event) (next : Stmt) (x : VarId) (z : ℤ) {events store' events' : List ℕ} {at' kind payload : ℕ} {m : Made}
+  pub binds-makes : (e : Event) (next : Stmt) (x : VarId) (z : ℤ) {events store' events' : List ℕ} {at' kind payload : ℕ} {m : Result Step Stop}
       → M.step P (project P l) ≡ shows e (at next (added b (x, int z) l.environment) (map (cell_in P) l.cells)) → h.position + 1 ≡ next_place_lem P l (some e) → payload ≡ of_z w64 z
       → event_bytes e ≡ event_head kind 0 0 0 (of_z w64 z) → Binds b store events h at' kind x.0 payload store' events' m
       → Makes store events at' (resting (located_step M P l)) store' events' m

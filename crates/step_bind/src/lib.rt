@@ -5,18 +5,15 @@ ghost use Rattle.std.specs.Prelude.{◌≡◌, cond, ◌+◌, ◌*◌, ◌≤◌
 ghost use Rattle.step_header.specs.Headers.{Holds};
 ghost use Rattle.step_bind.specs.Binding.{Binds};
 
-use step_header::{Header, place};
+use step_header::Header;
 use step_slots::{Slot, put_slot};
-use step_write::{EventHead, Made, finish};
+use step_write::{EventHead, Step, Stop, finish};
 
 // The source machine's variables come in front of those that are there, the linear machine's behind them: how many move.
 fn moving(linear: bool, entries: usize) -> usize
     ensures { result ≡ cond linear 0 entries }
 {
-    if linear {
-        return 0;
-    }
-    entries
+    if linear { 0 } else { entries }
 }
 
 pub fn bind(
@@ -29,12 +26,12 @@ pub fn bind(
     kind: u8,
     id: u32,
     payload: u64,
-) -> Made
+) -> Result<Step, Stop>
     requires { (header.position + 1 < 2 ^ 32) × (Holds store.old header × ((at ≤ length events.old) × (16 ≤ length scratch.old))) }
     ensures { Binds linear store.old events.old header at kind id payload store.new events.new result }
 {
-    let heap = place(header.heap);
-    let entries = place(header.entries);
+    let heap = header.heap as usize;
+    let entries = header.entries as usize;
     let kept = moving(linear, entries);
     let var = Slot {
         sort: 0,
@@ -51,11 +48,10 @@ pub fn bind(
     };
     let next = Header {
         position: header.position + 1,
-        ended: 0,
-        stopped: 0,
-        cells: header.cells,
-        heap: header.heap,
+        ended: false,
+        stopped: false,
         entries: header.entries + 1,
+        ..header
     };
     let from = 64 + 16 * (heap + (entries - kept));
     finish(store, events, at, event, next, from, kept, scratch, 1)

@@ -1,15 +1,16 @@
 -- Where the cell of a Create was made: the record of a Create is at that place of the image, and its clauses stand behind it. Assumes nothing.
 use Prim.Native.Nat.{ℕ, ◌+◌, ◌-◌}
-use mathlib.Core.Path.{◌≡◌, sym, ap, ◌∙◌}
+use mathlib.Core.Path.{◌≡◌, refl, sym, ap, ◌∙◌}
 use mathlib.Core.Bool.{true, false≢true}
 use mathlib.Core.List.{List, [], ◌∷◌}
 use mathlib.Core.Option.{Option}
 use native.Mathlib.Omega.{arith}
 use borrow.Author.Tests.{eqb-true}
+use lib.Dec.{eqb}
 use lib.ListN.{length, drop}
 use Rattle.model.specs.Syntax.{Prog}
 use Rattle.model.specs.Machine.{Value}
-use Rattle.image_spec.specs.Records.{Record}
+use Rattle.image_spec.specs.Records.{Record, definition, substitute, call, let', switch, create, invoke, literal, op, ifc, clause', print, exit}
 use Rattle.image_spec.specs.Kinds.{kind_of, clauses_of}
 use Rattle.image_spec.specs.Shape.{max_depth}
 use Rattle.image_places_spec.specs.Views.{record_of, clauses_in}
@@ -25,7 +26,6 @@ use Rattle.step_spec.specs.Store.{first_record, is_a_create, create_at}
 use Rattle.step_spec.proofs.Lists.{all-at}
 use Rattle.step_spec.proofs.Standing.{Stands, KeptStands}
 use Rattle.step_header.specs.declared.Header.{Header}
-use Rattle.step_scan.proofs.PassLaws.{create-kind}
 use Rattle.step_rule.specs.declared.Stepper.{Stepper}
 use Rattle.step_rule.specs.Rules.{ProgramOf, Stored}
 use Rattle.step_rule.proofs.Statements.{placed}
@@ -39,9 +39,24 @@ pub record Created (P : Prog) (stepper : Stepper) (bytes : List ℕ) (place : �
   pub is : record_at stepper.frame bytes place ≡ record_of (stmt_in P place)
   pub clauses : ClausesStand (max_depth - 1) (clauses_of (record_at stepper.frame bytes place)) (image.records_in stepper.frame bytes) (place + 1) (clauses_in (stmt_in P place))
 
+create-kind : (r : Record) → is_a_create r ≡ eqb (kind_of r) 6
+create-kind (definition x Γ) = refl
+create-kind (substitute ps) = refl
+create-kind (call x Γ) = refl
+create-kind (let' v t g Γ) = refl
+create-kind (switch v t n) = refl
+create-kind (create v t e n) = refl
+create-kind (invoke v g t Γ) = refl
+create-kind (literal z v) = refl
+create-kind (op f o s v) = refl
+create-kind (ifc c f s) = refl
+create-kind (clause' x Γ) = refl
+create-kind (print n v) = refl
+create-kind (exit v) = refl
+
 create-first : (rs : List Record) → first_record is_a_create rs ≡ true → kind_of (head_of rs) ≡ 6
 create-first [] e = absurd (false≢true e)
-create-first (r ∷ rs) e = eqb-true (kind_of r) 6 (sym (create-kind (r ∷ rs)) ∙ e)
+create-first (r ∷ rs) e = eqb-true (kind_of r) 6 (sym (create-kind r) ∙ e)
 
 module _ {M : Machine} {P : Prog} {stepper : Stepper} {bytes store : List ℕ} {h : Header} {l : Located} (p : ProgramOf P stepper bytes) (o : Stored M P store h l) where
   pub created : {w : Option Value} {r : Cell} → Ready stepper.frame bytes → OfCreate P store h l w r → Created P stepper bytes r.id

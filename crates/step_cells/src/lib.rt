@@ -7,12 +7,12 @@ ghost use Rattle.step_spec.specs.Store.{leading};
 ghost use Rattle.step_header.specs.Headers.{heap_in, Holds};
 ghost use Rattle.step_cells.specs.Cells.{no_cell_lem, cell_in'};
 
-use step_header::{Header, place};
+use step_header::Header;
 use step_slots::{Slot, read};
 
 // A cell: its own slot (sort 3 with a tag, or 4 with the place of a Create's record; its number), the byte where what it holds begins, and how
 // many slots that is. No cell is of sort 5.
-#[derive(Clone, Copy)]
+#[derive(Clone, Copy, Debug, PartialEq, Eq)]
 pub struct Cell {
     pub sort: u8,
     pub id: u32,
@@ -27,15 +27,13 @@ pub fn held_count(store: &[u8], heap: usize, place: usize) -> usize
     ensures { result ≡ length (leading (drop (place + 1) (slots_at store.now 64 heap))) }
 {
     let first = place + 1;
-    let mut j = first;
-    while j < heap {
+    for j in first..heap {
         let sort = store[64 + 16 * j];
         if 3 <= sort {
             return j - first;
         }
-        j += 1;
     }
-    j - first
+    heap - first
 }
 
 fn no_cell() -> Cell
@@ -55,10 +53,9 @@ pub fn cell_of(store: &[u8], header: Header, value: Slot) -> Cell
     requires { Holds store.now header }
     ensures { result ≡ cell_in' (heap_in store.now header) value }
 {
-    let sort = value.sort;
-    let heap = place(header.heap);
-    let at = place(value.payload);
-    if sort != 1 {
+    let heap = header.heap as usize;
+    let at = value.payload as usize;
+    if value.sort != 1 {
         return no_cell();
     }
     if heap <= at {

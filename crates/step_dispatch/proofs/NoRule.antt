@@ -1,5 +1,6 @@
 -- The kind that was read is that of the record; and where there is no rule: records that are no statement, and a Substitute in the source
 -- machine. Assumes nothing.
+use Rattle.std.specs.Prelude.{Result, Err}
 use Prim.Native.Nat.{ℕ, ◌≤◌, ◌<◌}
 use mathlib.Core.Path.{◌≡◌, refl, sym, ap, ◌∙◌, subst}
 use mathlib.Core.Bool.{Bool, cond}
@@ -14,8 +15,9 @@ use Rattle.image_spec.specs.Kinds.{kind_of}
 use Rattle.image_read_nodes.specs.Nodes.{record_at, At}
 use Rattle.step_spec.specs.Located.{Machine, source_machine, linear_machine, Located, Stepped, stmt_in, cell_in, project, located_step}
 use Rattle.step_header.specs.declared.Header.{Header}
-use Rattle.step_write.specs.declared.Made.{Made}
-use Rattle.step_write.specs.declared.Made.TheVariants.{Nothing}
+use Rattle.step_write.specs.declared.Step.{Step}
+use Rattle.step_write.specs.declared.Stop.{Stop}
+use Rattle.step_write.specs.declared.Stop.TheVariants.{NoStep}
 use Rattle.step_rule.specs.declared.Stepper.{Stepper}
 use Rattle.step_rule.specs.Rules.{ProgramOf, Stored, resting, Makes, no_step, machine_in, MakesAs, Given}
 use Rattle.step_rule.proofs.Ways.{halted}
@@ -28,7 +30,7 @@ pub given_as : {stepper : Stepper} {bytes store events scratch : List ℕ} {h : 
 given_as {stepper} {bytes} {store} {events} {scratch} {h} {at} k e g = subst (Given stepper bytes store events scratch h at) e g
 
 -- the rule of the machine that the stepper's flag says
-pub makes_as : {stepper : Stepper} {bytes store events : List ℕ} {h : Header} {at : ℕ} {store' events' : List ℕ} {m : Made} {c : Bool} → stepper.linear ≡ c
+pub makes_as : {stepper : Stepper} {bytes store events : List ℕ} {h : Header} {at : ℕ} {store' events' : List ℕ} {m : Result Step Stop} {c : Bool} → stepper.linear ≡ c
     → MakesAs (cond c linear_machine source_machine) stepper bytes store events h at store' events' m → MakesAs (machine_in stepper) stepper bytes store events h at store' events' m
 makes_as {stepper} {bytes} {store} {events} {h} {at} {store'} {events'} {m} e x =
     subst (λ (z : Bool). MakesAs (cond z linear_machine source_machine) stepper bytes store events h at store' events' m) (sym e) x
@@ -52,11 +54,11 @@ is_of is_exit = (omega arith, (omega arith, λ e. absurd (omega (arith, e))))
 
 module _ {stepper : Stepper} {bytes store events : List ℕ} {h : Header} {at k : ℕ} (a : At stepper.frame bytes h.position k) where
   -- no statement has a record of this kind
-  pub no-statement : {M : Machine} → (StatementKind k → ⊥) → MakesAs M stepper bytes store events h at store events Nothing
+  pub no-statement : {M : Machine} → (StatementKind k → ⊥) → MakesAs M stepper bytes store events h at store events (Err NoStep)
   no-statement f = record { makes = λ P l p o. absurd (f (subst StatementKind a.kind (is_of (here p o (record_at stepper.frame bytes h.position) refl)))) }
 
   -- the source machine has no rule for a Substitute
-  pub no-source-rule : k < 3 → MakesAs source_machine stepper bytes store events h at store events Nothing
+  pub no-source-rule : k < 3 → MakesAs source_machine stepper bytes store events h at store events (Err NoStep)
   unfolding source_work
   no-source-rule b = record {
     makes = λ P l p o.

@@ -21,7 +21,7 @@ use step_statement_op::op::op;
 use step_statement_print::print::print;
 use step_statement_substitute::substitute;
 use step_statement_switch::switch;
-use step_write::Made;
+use step_write::{Step, Stop};
 
 // The statements whose rules are the source machine's alone. (It has none for a Substitute.)
 fn source(
@@ -34,7 +34,7 @@ fn source(
     header: Header,
     at: usize,
     kind: u8,
-) -> Made
+) -> Result<Step, Stop>
     requires { Given stepper image.now store.old events.old scratch.old header at kind × (Ends (records_in stepper.frame image.now) ends.now × (kind < 8)) }
     ensures { MakesAs source_machine stepper image.now store.old events.old header at store.new events.new result }
 {
@@ -44,7 +44,7 @@ fn source(
         5 => switch::source(image, stepper, ends, store, events, scratch, header, at),
         6 => create::source(image, stepper, ends, store, events, header, at),
         7 => invoke::source(image, stepper, ends, store, events, scratch, header, at),
-        _ => Made::Nothing,
+        _ => Err(Stop::NoStep),
     }
 }
 
@@ -59,7 +59,7 @@ fn linear(
     header: Header,
     at: usize,
     kind: u8,
-) -> Made
+) -> Result<Step, Stop>
     requires { Given stepper image.now store.old events.old scratch.old header at kind × (Ends (records_in stepper.frame image.now) ends.now × (kind < 8)) }
     ensures { MakesAs linear_machine stepper image.now store.old events.old header at store.new events.new result }
 {
@@ -70,7 +70,7 @@ fn linear(
         5 => switch::linear(image, stepper, ends, store, events, scratch, header, at),
         6 => create::linear(image, stepper, ends, store, events, scratch, header, at),
         7 => invoke::linear(image, stepper, ends, store, events, scratch, header, at),
-        _ => Made::Nothing,
+        _ => Err(Stop::NoStep),
     }
 }
 
@@ -85,7 +85,7 @@ fn either(
     header: Header,
     at: usize,
     kind: u8,
-) -> Made
+) -> Result<Step, Stop>
     requires { Given stepper image.now store.old events.old scratch.old header at kind × (Ends (records_in stepper.frame image.now) ends.now × (7 < kind)) }
     ensures { MakesAs (machine_in stepper) stepper image.now store.old events.old header at store.new events.new result }
 {
@@ -95,7 +95,7 @@ fn either(
         10 => ifc(image, stepper, ends, store, events, scratch, header, at),
         12 => print(image, stepper, store, events, scratch, header, at),
         13 => exit(image, stepper, store, events, scratch, header, at),
-        _ => Made::Nothing,
+        _ => Err(Stop::NoStep),
     }
 }
 
@@ -110,7 +110,7 @@ pub fn statement(
     header: Header,
     at: usize,
     kind: u8,
-) -> Made
+) -> Result<Step, Stop>
     requires { Given stepper image.now store.old events.old scratch.old header at kind × Ends (records_in stepper.frame image.now) ends.now }
     ensures { MakesAs (machine_in stepper) stepper image.now store.old events.old header at store.new events.new result }
 {

@@ -6,6 +6,7 @@ use mathlib.Core.Option.{some}
 use native.Mathlib.Omega.{arith}
 use lib.ListN.{length, take, drop, length-append}
 use lib.Seq.{length-take-le}
+use Rattle.std.specs.Prelude.{Result, Err}
 use Rattle.model.specs.Syntax.{Stmt, Prog}
 use Rattle.model.specs.Machine.{Entries, at, Event, shows, halts}
 use Rattle.image_spec.specs.Parse.{each}
@@ -18,8 +19,9 @@ use Rattle.step_spec.specs.Events.{event_bytes}
 use Rattle.step_spec.proofs.Lists.{each-++}
 use Rattle.step_header.specs.declared.Header.{Header}
 use Rattle.step_header.specs.Headers.{entries_in}
-use Rattle.step_write.specs.declared.Made.{Made}
-use Rattle.step_write.specs.declared.Made.TheVariants.{Nothing}
+use Rattle.step_write.specs.declared.Step.{Step}
+use Rattle.step_write.specs.declared.Stop.{Stop}
+use Rattle.step_write.specs.declared.Stop.TheVariants.{NoStep}
 use Rattle.step_write.specs.Writing.{Finishes}
 use Rattle.step_rule.specs.Rules.{Stored, resting, Makes, no_step}
 use Rattle.step_rule.proofs.Views.{viewed}
@@ -36,7 +38,7 @@ pub record Around (K : List Kept) (store : List ℕ) (h : Header) (j n : ℕ) (f
 
 module _ {M : Machine} {P : Prog} {store : List ℕ} {h : Header} {l : Located} (o : Stored M P store h l) where
   -- where the machine halts, nothing is done
-  pub nothing_makes : {events : List ℕ} {at' : ℕ} → M.step P (project P l) ≡ halts → Makes store events at' (resting (located_step M P l)) store events Nothing
+  pub nothing_makes : {events : List ℕ} {at' : ℕ} → M.step P (project P l) ≡ halts → Makes store events at' (resting (located_step M P l)) store events (Err NoStep)
   nothing_makes e = rw (halted o e) no_step
 
   -- new ones before all that there are
@@ -58,7 +60,7 @@ module _ {M : Machine} {P : Prog} {store : List ℕ} {h : Header} {l : Located} 
   unfolding environment_of
   alone = record { within = omega arith; first = refl; others = refl; count = refl }
 
-  pub enters-makes : (e : Event) (t : Stmt) (new : Entries) {front back : Entries} {j n body at' : ℕ} {slots : List Slot} {shown events store' events' : List ℕ} {m : Made}
+  pub enters-makes : (e : Event) (t : Stmt) (new : Entries) {front back : Entries} {j n body at' : ℕ} {slots : List Slot} {shown events store' events' : List ℕ} {m : Result Step Stop}
       → Around l.cells store h j n front back → M.step P (project P l) ≡ shows e (at t (front ++ (new ++ back)) (map (cell_in P) l.cells)) → body ≡ next_place_lem P l (some e)
       → shown ≡ event_bytes e → environment_of l.cells new ≡ slots → Enters store events h at' body shown j n slots store' events' m
       → Makes store events at' (resting (located_step M P l)) store' events' m

@@ -6,12 +6,12 @@ use mathlib.Core.List.{List, ◌++◌}
 use native.Mathlib.Omega.{arith}
 use lib.ListN.{length, take, drop}
 use lib.Seq.{sets}
+use Rattle.std.specs.Prelude.{Result}
 use Rattle.syntax.specs.Context.{ids}
 use Rattle.syntax.specs.declared.names.VarId.{VarId}
 use Rattle.syntax.proofs.Filters.{ids-length}
 use Rattle.image_spec.specs.Parse.{each}
 use Rattle.image_spec.specs.Fields.{max_count}
-use Rattle.image_fields.specs.declared.Found.TheVariants.{At}
 use Rattle.image_directory.specs.declared.Frame.{Frame}
 use Rattle.image_read_parts.specs.Parts.{list_of}
 use Rattle.image_read_nodes.specs.Nodes as nodes
@@ -30,7 +30,8 @@ use Rattle.step_rows.proofs.RowLaws.{row-length}
 use Rattle.step_gather.specs.Gathering.{renamed}
 use Rattle.step_gather.proofs.GatheredSlots.{slots-put, slots-ok}
 use Rattle.step_gather.proofs.Renaming.{renamed-length}
-use Rattle.step_write.specs.declared.Made.{Made}
+use Rattle.step_write.specs.declared.Step.{Step}
+use Rattle.step_write.specs.declared.Stop.{Stop}
 use Rattle.step_write.specs.Writing.{Finishes}
 use Rattle.step_write.proofs.Regions.{taken-put}
 use Rattle.step_enter.specs.Entering.{entered, Enters}
@@ -51,7 +52,7 @@ fetched store from n {scratch} {scratch'} o room p =
     ∙ slots-put scratch 0 ts (slots-ok store from n o) (omega (arith, room, c))
 
 -- what was finished, with what the code computed
-pub enters_as : (xs : List VarId) (scratch : List ℕ) {store events store' events' scratch' shown : List ℕ} {h : Header} {at body heap front back k n : ℕ} {m : Made}
+pub enters_as : (xs : List VarId) (scratch : List ℕ) {store events store' events' scratch' shown : List ℕ} {h : Header} {at body heap front back k n : ℕ} {m : Result Step Stop}
     → heap ≡ h.heap → length xs ≡ n → 16 * n ≤ length scratch → scratch' ≡ sets scratch 0 (each slot_bytes (renamed xs (slots_at scratch 0 n))) → k ≡ front + n + back
     → Finishes store events at (entered h body k) shown (64 + 16 * (heap + front)) (take (16 * n) scratch' ++ take (16 * back) (drop (64 + 16 * (heap + front)) store)) store' events' m
     → Enters store events h at body shown front back (renamed xs (slots_at scratch 0 n)) store' events' m

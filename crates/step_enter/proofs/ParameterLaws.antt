@@ -8,14 +8,13 @@ use mathlib.Core.Option.{Option, none, some}
 use native.Mathlib.Omega.{arith}
 use lib.Dec.{eqb}
 use lib.ListN.{length}
+use Rattle.std.specs.Prelude.{Option as Maybe, Some, None}
 use Rattle.syntax.specs.Context.{Context, ids}
 use Rattle.syntax.specs.declared.names.Identifier.{Identifier}
 use Rattle.syntax.specs.declared.names.VarId.{VarId}
 use Rattle.model.specs.Syntax.{Stmt}
 use Rattle.model.specs.Machine.{Value, Entries, Outcome, halts, or_halt, pair_up}
 use Rattle.image_spec.specs.Records.{definition, clause'}
-use Rattle.image_fields.specs.declared.Found.{Found}
-use Rattle.image_fields.specs.declared.Found.TheVariants.{At, Nothing}
 use Rattle.image_directory.specs.declared.Frame.{Frame}
 use Rattle.image_directory.specs.Slots as image
 use Rattle.image_read_parts.specs.Parts.{list_of}
@@ -33,11 +32,10 @@ use Rattle.step_rows.proofs.RowLaws.{row-length}
 use Rattle.step_gather.specs.Gathering.{renamed}
 use Rattle.step_gather.proofs.GatheringLaws.{paired, unpaired}
 use Rattle.step_enter.specs.declared.Parameters.{Parameters}
-use Rattle.step_enter.specs.declared.Parameters.TheVariants.{Absent, Listed}
 use Rattle.step_enter.specs.Entering.{ParametersOf, absent, listed, ClauseOf}
 
 -- the clauses that are searched are those of the record
-pub clause-of : {frame : Frame} {bytes : List ℕ} {i place tag : ℕ} {f : Follows} {found : Found} {r : Parameters} → i ≡ place → Followed frame bytes i f
+pub clause-of : {frame : Frame} {bytes : List ℕ} {i place tag : ℕ} {f : Follows} {found : Maybe ℕ} {r : Maybe Parameters} → i ≡ place → Followed frame bytes i f
     → FindsClause frame bytes f.clauses (i + 1) tag found → ParametersOf frame bytes found r → ClauseOf frame bytes place tag r
 clause-of {frame} {bytes} {i} {place} {tag} {f} {found} {r} e g w q =
     subst (λ (k : ℕ). ClauseOf frame bytes k tag r) e
@@ -53,32 +51,30 @@ head-list k x Γ = go (eqb k 1)
 
 -- what was found, by what was read of it
 module _ (frame : Frame) (bytes : List ℕ) where
-  parameters_none : {found : Found} {r : Parameters} → r ≡ Absent → ParametersOf frame bytes found r → found ≡ Nothing
+  parameters_none : {found : Maybe ℕ} {r : Maybe Parameters} → r ≡ None → ParametersOf frame bytes found r → found ≡ None
   parameters_none e absent = refl
-  parameters_none e (listed r k b) = let z : ◌≡◌ {A = ℕ} 0 1 = cc in absurd (omega arith)
+  parameters_none e (listed r k b) = cc
 
   -- it is at j
-  record ReadAt (row : Row) (body : ℕ) (found : Found) : Type 0 where
+  record ReadAt (p : Parameters) (found : Maybe ℕ) : Type 0 where
     j : ℕ
-    is : found ≡ At j
-    list : RowOf bytes row (ids (list_of (record_at frame bytes j)))
-    next : body ≡ j + 1
+    is : found ≡ Some j
+    list : RowOf bytes p.row (ids (list_of (record_at frame bytes j)))
+    next : p.body ≡ j + 1
 
-  parameters_some : {found : Found} {r : Parameters} {row : Row} {body : ℕ} → r ≡ Listed row body → ParametersOf frame bytes found r → ReadAt row body found
+  parameters_some : {found : Maybe ℕ} {r : Maybe Parameters} {p : Parameters} → r ≡ Some p → ParametersOf frame bytes found r → ReadAt p found
   parameters_some e absent = let z : ◌≡◌ {A = ℕ} 0 1 = cc in absurd (omega arith)
-  parameters_some {row = row} {body = body} e (listed {j = j} {row = other} {body = next} r k b) =
-      let p : other ≡ row = cc in
-      let q : next ≡ body = cc in
-      record { j = j; is = refl; list = subst (λ (z : Row). RowOf bytes z (ids (list_of (record_at frame bytes j)))) p r; next = sym q ∙ b }
+  parameters_some {p = p} e (listed {j = j} {p = q} r k b) =
+      let same : q ≡ p = cc in subst (λ (z : Parameters). ReadAt z (Some j)) same record { j = j; is = refl; list = r; next = b }
 
 -- the row can be read, and is short
 pub record Fitting (bytes : List ℕ) (row : Row) : Type 0 where
   pub inside : Inside bytes row
   pub short : row.len ≤ 128
 
-pub fitting : {frame : Frame} {bytes : List ℕ} {found : Found} {r : Parameters} {row : Row} {body : ℕ} → r ≡ Listed row body → ParametersOf frame bytes found r → Fitting bytes row
+pub fitting : {frame : Frame} {bytes : List ℕ} {found : Maybe ℕ} {r : Maybe Parameters} {p : Parameters} → r ≡ Some p → ParametersOf frame bytes found r → Fitting bytes p.row
 fitting e absent = let z : ◌≡◌ {A = ℕ} 0 1 = cc in absurd (omega arith)
-fitting {bytes = bytes} {row = row} e (listed {row = other} r k b) = let p : other ≡ row = cc in subst (Fitting bytes) p record { inside = r.inside; short = k }
+fitting {bytes = bytes} {p = p} e (listed {p = q} r k b) = let same : q ≡ p = cc in subst (λ (z : Parameters). Fitting bytes z.row) same record { inside = r.inside; short = k }
 
 -- what a machine does with what it finds and these values: each parameter gets one
 abbrev pub with_values : {A : Type 0} → (A → Context) → List Value → (A → Entries → Outcome) → Option A → Outcome
@@ -92,46 +88,46 @@ pub record Entered {A : Type 0} (of : ℕ → ℕ) (enter : A → Entries → Ou
   pub slots : map (entry_slot of) new ≡ ts
   pub next : body ≡ place
 
-module _ {A : Type 0} {context_of : A → Context} {body_of : A → Stmt} {kind d : ℕ} {frame : Frame} {bytes : List ℕ} {place : ℕ} {o : Option A} {found : Found} {r : Parameters}
+module _ {A : Type 0} {context_of : A → Context} {body_of : A → Stmt} {kind d : ℕ} {frame : Frame} {bytes : List ℕ} {place : ℕ} {o : Option A} {found : Maybe ℕ} {r : Maybe Parameters}
     (f : Finds context_of body_of kind d (image.records_in frame bytes) place o found) (q : ParametersOf frame bytes found r) (vs : List Value) (enter : A → Entries → Outcome) where
   -- nothing is found
-  pub absent-halts : r ≡ Absent → with_values context_of vs enter o ≡ halts
+  pub absent-halts : r ≡ None → with_values context_of vs enter o ≡ halts
   absent-halts e = ap (with_values context_of vs enter) (none_found (parameters_none frame bytes e q) f)
 
-  module _ {row : Row} {body : ℕ} (e : r ≡ Listed row body) where
+  module _ {p : Parameters} (e : r ≡ Some p) where
     -- what is found, and its row
     record There : Type 0 where
       what : A
       is : o ≡ some what
-      list : RowOf bytes row (ids (context_of what))
-      next : body ≡ place
+      list : RowOf bytes p.row (ids (context_of what))
+      next : p.body ≡ place
 
     there : There
     there =
-        let p = parameters_some frame bytes e q in
-        let t = found_at p.j p.is f in
+        let w = parameters_some frame bytes e q in
+        let t = found_at w.j w.is f in
         record {
           what = t.what;
           is = t.is;
-          list = subst (λ (Γ : Context). RowOf bytes row (ids Γ)) (ap list_of t.head ∙ head-list kind t.name (context_of t.what)) p.list;
-          next = p.next ∙ t.next;
+          list = subst (λ (Γ : Context). RowOf bytes p.row (ids Γ)) (ap list_of t.head ∙ head-list kind t.name (context_of t.what)) w.list;
+          next = w.next ∙ t.next;
         }
 
     -- another count
-    pub uneven_halts : (row.len ≡ length vs → ⊥) → with_values context_of vs enter o ≡ halts
+    pub uneven_halts : (p.row.len ≡ length vs → ⊥) → with_values context_of vs enter o ≡ halts
     uneven_halts n =
         let t = there in
         let u : pair_up (ids (context_of t.what)) vs ≡ none = unpaired (ids (context_of t.what)) vs (λ c. n (sym (row-length t.list) ∙ c)) in
         ap (with_values context_of vs enter) t.is ∙ ap (λ (z : Option Entries). or_halt z (enter t.what)) u
 
-    pub enters_with : (of : ℕ → ℕ) → row.len ≡ length vs → Entered of enter (renamed (ids_in bytes row) (map (value_slot of 0) vs)) body place (with_values context_of vs enter o)
+    pub enters_with : (of : ℕ → ℕ) → p.row.len ≡ length vs → Entered of enter (renamed (ids_in bytes p.row) (map (value_slot of 0) vs)) p.body place (with_values context_of vs enter o)
     enters_with of c =
         let t = there in
-        let p = paired of (ids (context_of t.what)) vs (row-length t.list ∙ c) in
+        let w = paired of (ids (context_of t.what)) vs (row-length t.list ∙ c) in
         record {
           what = t.what;
-          new = p.new;
-          is = ap (with_values context_of vs enter) t.is ∙ ap (λ (z : Option Entries). or_halt z (enter t.what)) p.pairs;
-          slots = p.slots ∙ ap (λ (xs : List VarId). renamed xs (map (value_slot of 0) vs)) (sym t.list.ids);
+          new = w.new;
+          is = ap (with_values context_of vs enter) t.is ∙ ap (λ (z : Option Entries). or_halt z (enter t.what)) w.pairs;
+          slots = w.slots ∙ ap (λ (xs : List VarId). renamed xs (map (value_slot of 0) vs)) (sym t.list.ids);
           next = t.next;
         }

@@ -13,47 +13,54 @@ ghost use Rattle.step_gather.specs.Gathering.{renamed};
 ghost use Rattle.step_write.specs.Writing.{head_bytes};
 ghost use Rattle.step_enter.specs.Entering.{ParametersOf, ClauseOf, Enters};
 
-use image_directory::{Frame, long};
-use image_fields::Found;
+use image_directory::Frame;
 use image_kinds::kinds::Kind;
 use image_read_nodes::parts_of;
 use image_write_bytes::bytes::copy;
-use image_write_directory::directory::narrow;
 use step_gather::rename;
-use step_header::{Header, long_count, place};
+use step_header::Header;
 use step_places::search::find_clause;
 use step_rows::Row;
 use step_rows::records::list_row;
-use step_write::{EventHead, Made, finish};
+use step_write::{EventHead, Step, Stop, finish};
 
-// What is entered: the IDs of its parameters and the place of its body; or that there is none.
+// What is entered: the IDs of its parameters and the place of its body.
 #[derive(Clone, Copy)]
-pub enum Parameters {
-    Absent,
-    Listed { row: Row, body: u32 },
+pub struct Parameters {
+    pub row: Row,
+    pub body: u32,
 }
 
 // The parameters of the clause or definition that was found.
-pub fn parameters_of(image: &[u8], frame: Frame, found: Found, kind: u8) -> Parameters
+pub fn parameters_of(
+    image: &[u8],
+    frame: Frame,
+    found: Option<usize>,
+    kind: u8,
+) -> Option<Parameters>
     requires { PlaceOf frame image.now kind found × (has_list kind ≡ true) }
     ensures { ParametersOf frame image.now found result }
 {
-    match found {
-        Found::Nothing => Parameters::Absent,
-        Found::At(j) => {
-            let row = list_row(image, frame, j, kind);
-            let body = narrow(j + 1);
-            Parameters::Listed { row, body }
-        }
-    }
+    let j = found?;
+    let row = list_row(image, frame, j, kind);
+    Some(Parameters {
+        row,
+        body: (j + 1) as u32,
+    })
 }
 
 // The parameters of the first clause with this tag of the statement at this place.
-pub fn clause_of(image: &[u8], frame: Frame, ends: &[u32], place: u32, tag: u32) -> Parameters
+pub fn clause_of(
+    image: &[u8],
+    frame: Frame,
+    ends: &[u32],
+    place: u32,
+    tag: u32,
+) -> Option<Parameters>
     requires { Ready frame image.now × ((place < frame.count) × Ends (records_in frame image.now) ends.now) }
     ensures { ClauseOf frame image.now place tag result }
 {
-    let i = long(place);
+    let i = place as usize;
     let follows = parts_of(image, frame, i);
     let found = find_clause(image, frame, ends, i + 1, follows.clauses, tag);
     parameters_of(image, frame, found, Kind::CLAUSE)
@@ -81,20 +88,19 @@ pub fn enter(
     body: u32,
     front: usize,
     back: usize,
-) -> Made
+) -> Result<Step, Stop>
     requires { Inside image.now row × (Holds store.old header × ((at ≤ length events.old) × ((16 * row.len ≤ length scratch.old) × ((all_slots (slots_at scratch.old 0 row.len) ≡ true) × (front + back ≤ header.entries))))) }
     ensures { Enters store.old events.old header at body (head_bytes event) front back (renamed (ids_in image.now row) (slots_at scratch.old 0 row.len)) store.new events.new result }
 {
-    let heap = place(header.heap);
+    let heap = header.heap as usize;
     let len = row.len;
     rename(image, row, scratch, 0);
     let next = Header {
         position: body,
-        ended: 0,
-        stopped: 0,
-        cells: header.cells,
-        heap: header.heap,
-        entries: long_count(front + len + back),
+        ended: false,
+        stopped: false,
+        entries: (front + len + back) as u64,
+        ..header
     };
     let from = 64 + 16 * (heap + front);
     finish(store, events, at, event, next, from, back, scratch, len)

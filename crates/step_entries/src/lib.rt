@@ -13,14 +13,12 @@ pub fn find(store: &[u8], at: usize, n: usize, id: u32) -> Slot
     requires { (at + 16 * n ≤ length store.now) × (all_slots (slots_at store.now at n) ≡ true) }
     ensures { result ≡ named id (slots_at store.now at n) }
 {
-    let mut i: usize = 0;
-    while i < n {
+    for i in 0..n {
         let here = at + 16 * i;
         let other = number(store, here + 4, 4);
         if other == id {
             return read(store, here);
         }
-        i += 1;
     }
     Slot {
         sort: 5,

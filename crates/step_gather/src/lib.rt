@@ -29,9 +29,7 @@ pub fn gather(
     requires { Inside image.now row × ((at + 16 * n ≤ length store.now) × ((all_slots (slots_at store.now at n) ≡ true) × (to + 16 * row.len ≤ length out.old))) }
     ensures { Gathers (slots_at store.now at n) (ids_in image.now row) out.old to out.new result }
 {
-    let len = row.len;
-    let mut j: usize = 0;
-    while j < len {
+    for j in 0..row.len {
         let id = id_of(image, row, j);
         let t = find(store, at, n, id);
         let sort = t.sort;
@@ -44,7 +42,6 @@ pub fn gather(
             payload: t.payload,
         };
         put_slot(out, to + 16 * j, value);
-        j += 1;
     }
     true
 }
@@ -54,12 +51,9 @@ pub fn rename(image: &[u8], row: Row, slots: &mut [u8], at: usize)
     requires { Inside image.now row × ((at + 16 * row.len ≤ length slots.old) × (all_slots (slots_at slots.old at row.len) ≡ true)) }
     ensures { slots.new ≡ sets slots.old at (each slot_bytes (renamed (ids_in image.now row) (slots_at slots.old at row.len))) }
 {
-    let len = row.len;
-    let mut j: usize = 0;
-    while j < len {
+    for j in 0..row.len {
         let id = id_of(image, row, j);
         put_four(slots, at + 16 * j + 4, id);
-        j += 1;
     }
 }
 
@@ -122,12 +116,10 @@ pub fn show(
     requires { (64 + 16 * heap ≤ length store.now) × ((at + 16 * n ≤ length slots.now) × (to + 16 * n ≤ length events.old)) }
     ensures { Puts events.old events.new to result (each slot_bytes (map (shown_as (slots_at store.now 64 heap)) (slots_at slots.now at n))) }
 {
-    let mut j: usize = 0;
-    while j < n {
+    for j in 0..n {
         let t = read(slots, at + 16 * j);
         let value = shown(store, heap, t);
         put_slot(events, to + 16 * j, value);
-        j += 1;
     }
     to + 16 * n
 }

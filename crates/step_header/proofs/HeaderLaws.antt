@@ -1,18 +1,17 @@
 -- Reading a header, as code does it. Assumes nothing.
-use Prim.Native.Nat.{ℕ, ◌+◌, ◌≤◌, ◌<◌}
+use Prim.Native.Nat.{ℕ, zero, suc, ◌+◌, ◌≤◌, ◌<◌}
 use mathlib.Core.Path.{◌≡◌, refl, sym, ap, ◌∙◌}
 use mathlib.Core.Bool.{Bool, true, false, ◌&&◌}
+use Rattle.std.specs.Prelude.{Option, Some, None}
+use Rattle.std.specs.Int.{from_bool}
 use mathlib.Core.List.{List, [], ◌∷◌}
 use native.Mathlib.Omega.{arith}
-use borrow.Author.Tests.{le-leb, lt-leb}
-use lib.Dec.{leb}
+use borrow.Author.Tests.{lt-leb}
 use lib.ListN.{length, drop, get_or}
 use Rattle.image_spec.specs.Parse.{Parsed, refused, got, Parser, only_if, both, code, number, zeros}
 use Rattle.step_slots.proofs.SlotReads.{drop_head}
-use Rattle.step_spec.specs.Store as store
-use Rattle.step_spec.specs.Store.{header_parser}
-use Rattle.step_header.specs.Headers.{tuple_of, is_header, no_header}
-use Rattle.step_header.specs.declared.Header.{Header}
+use Rattle.step_spec.specs.Store.{bit, header_parser}
+use Rattle.step_header.specs.Headers.{flag_of}
 
 -- p reads a from l, and m is left, if x
 record Gives {X A : Type 0} (p : Parser X A) (l : List X) (x : Bool) (a : A) (m : List X) : Type 0 where
@@ -28,38 +27,47 @@ both-gives {p = p} {q = q} {l = l} {m = m} {n = n} {a = a} {b = b} {x = x} {y = 
     go true false e f = rw (e, f) refl
     go false y e f = rw e refl
 
+-- a byte that is a flag, or is none
+abbrev flag_read : Option Bool → List ℕ → Parsed ℕ ℕ
+flag_read None m = refused
+flag_read (Some b) m = got (bit b) m
+
+code_is : (n : ℕ) (m : List ℕ) → code 1 (n ∷ m) ≡ flag_read (flag_of n) m
+code_is zero m = refl
+code_is (suc zero) m = refl
+code_is (suc (suc n)) m = rw (lt-leb (suc (suc n)) 1 (omega arith)) refl
+
+flag_at : (s : List ℕ) (at : ℕ) {o : Option Bool} → at < length s → o ≡ flag_of (get_or s at 0) → code 1 (drop at s) ≡ flag_read o (drop (at + 1) s)
+flag_at s at h e = ap (code 1) (drop_head s at h) ∙ (code_is (get_or s at 0) (drop (at + 1) s) ∙ ap (λ (f : Option Bool). flag_read f (drop (at + 1) s)) (sym e))
+
+-- the byte of a flag that is written
+pub bit_is : {n : ℕ} (b : Bool) → n ≡ from_bool b → n ≡ bit b
+bit_is true e = e
+bit_is false e = e
+
 -- the parts at their places
-pub header_parse : (s : List ℕ) → 64 ≤ length s → (position cells heap entries : ℕ) (y z : Bool)
-    → number 4 (drop 0 s) ≡ got position (drop 4 s)
-    → zeros 2 (drop 6 s) ≡ only_if y (got tt (drop 8 s))
-    → number 8 (drop 8 s) ≡ got cells (drop 16 s)
-    → number 8 (drop 16 s) ≡ got heap (drop 24 s)
-    → number 8 (drop 24 s) ≡ got entries (drop 32 s)
-    → zeros 32 (drop 32 s) ≡ only_if z (got tt (drop 64 s))
-    → header_parser s ≡ only_if (leb (get_or s 4 0) 1 && (leb (get_or s 5 0) 1 && (y && z))) (got (position, (get_or s 4 0, (get_or s 5 0, (tt, (cells, (heap, (entries, tt))))))) (drop 64 s))
-header_parse s h p a b c y z n₁ z₁ n₂ n₃ n₄ z₂ =
-    let g₁ : Gives (number 4) s true p (drop 4 s) = record { gives = n₁ } in
-    let g₂ : Gives (code 1) (drop 4 s) (leb (get_or s 4 0) 1) (get_or s 4 0) (drop 5 s) = record { gives = ap (code 1) (drop_head s 4 (omega arith)) } in
-    let g₃ : Gives (code 1) (drop 5 s) (leb (get_or s 5 0) 1) (get_or s 5 0) (drop 6 s) = record { gives = ap (code 1) (drop_head s 5 (omega arith)) } in
-    let g₄ : Gives (zeros 2) (drop 6 s) y tt (drop 8 s) = record { gives = z₁ } in
-    let g₅ : Gives (number 8) (drop 8 s) true a (drop 16 s) = record { gives = n₂ } in
-    let g₆ : Gives (number 8) (drop 16 s) true b (drop 24 s) = record { gives = n₃ } in
-    let g₇ : Gives (number 8) (drop 24 s) true c (drop 32 s) = record { gives = n₄ } in
-    let g₈ : Gives (zeros 32) (drop 32 s) z tt (drop 64 s) = record { gives = z₂ } in
-    (both-gives g₁ (both-gives g₂ (both-gives g₃ (both-gives g₄ (both-gives g₅ (both-gives g₆ (both-gives g₇ g₈))))))).gives
+module _ (s : List ℕ) (h : 64 ≤ length s) {position : ℕ} (n₁ : number 4 (drop 0 s) ≡ got position (drop 4 s)) where
+  pub no_ended : None ≡ flag_of (get_or s 4 0) → header_parser s ≡ refused
+  no_ended e = rw (n₁, flag_at s 4 (omega arith) e) refl
 
--- a header with both flags and all zero bytes is read as it is; else none is
-pub header-got : {A : Type 0} (e t : ℕ) (y z : Bool) (r : Parsed ℕ A) → e ≤ 1 → t ≤ 1 → y ≡ true → z ≡ true → only_if (leb e 1 && (leb t 1 && (y && z))) r ≡ only_if (leb e 1) r
-header-got e t y z r a b p q = rw (le-leb e 1 a, le-leb t 1 b, p, q) refl
+  module _ {ended : Bool} (f₁ : Some ended ≡ flag_of (get_or s 4 0)) where
+    pub no_stopped : None ≡ flag_of (get_or s 5 0) → header_parser s ≡ refused
+    no_stopped e = rw (n₁, flag_at s 4 (omega arith) f₁, flag_at s 5 (omega arith) e) refl
 
-pub header-ended : {A : Type 0} (e t : ℕ) (y z : Bool) (r : Parsed ℕ A) → 1 < e → only_if (leb e 1 && (leb t 1 && (y && z))) r ≡ refused
-header-ended e t y z r a = rw (lt-leb e 1 a) refl
-
-pub header-stopped : {A : Type 0} (e t : ℕ) (y z : Bool) (r : Parsed ℕ A) → e ≤ 1 → 1 < t → only_if (leb e 1 && (leb t 1 && (y && z))) r ≡ refused
-header-stopped e t y z r a b = rw (le-leb e 1 a, lt-leb t 1 b) refl
-
-pub header-zeros : {A : Type 0} (e t : ℕ) (y z : Bool) (r : Parsed ℕ A) → e ≤ 1 → t ≤ 1 → y && z ≡ false → only_if (leb e 1 && (leb t 1 && (y && z))) r ≡ refused
-header-zeros e t y z r a b p = rw (le-leb e 1 a, le-leb t 1 b, p) refl
-
-pub none_parsed : {p q : Parsed ℕ store.Header} {h : Header} (m : List ℕ) → p ≡ q → h ≡ no_header → q ≡ refused → p ≡ only_if (is_header h) (got (tuple_of h) m)
-none_parsed m e f g = e ∙ (g ∙ rw f refl)
+    pub header_parse : {stopped : Bool} → Some stopped ≡ flag_of (get_or s 5 0) → {cells heap entries : ℕ} (y z : Bool)
+        → zeros 2 (drop 6 s) ≡ only_if y (got tt (drop 8 s))
+        → number 8 (drop 8 s) ≡ got cells (drop 16 s)
+        → number 8 (drop 16 s) ≡ got heap (drop 24 s)
+        → number 8 (drop 24 s) ≡ got entries (drop 32 s)
+        → zeros 32 (drop 32 s) ≡ only_if z (got tt (drop 64 s))
+        → header_parser s ≡ only_if (y && z) (got (position, (bit ended, (bit stopped, (tt, (cells, (heap, (entries, tt))))))) (drop 64 s))
+    header_parse {stopped} f₂ {cells} {heap} {entries} y z z₁ n₂ n₃ n₄ z₂ =
+        let g₁ : Gives (number 4) s true position (drop 4 s) = record { gives = n₁ } in
+        let g₂ : Gives (code 1) (drop 4 s) true (bit ended) (drop 5 s) = record { gives = flag_at s 4 (omega arith) f₁ } in
+        let g₃ : Gives (code 1) (drop 5 s) true (bit stopped) (drop 6 s) = record { gives = flag_at s 5 (omega arith) f₂ } in
+        let g₄ : Gives (zeros 2) (drop 6 s) y tt (drop 8 s) = record { gives = z₁ } in
+        let g₅ : Gives (number 8) (drop 8 s) true cells (drop 16 s) = record { gives = n₂ } in
+        let g₆ : Gives (number 8) (drop 16 s) true heap (drop 24 s) = record { gives = n₃ } in
+        let g₇ : Gives (number 8) (drop 24 s) true entries (drop 32 s) = record { gives = n₄ } in
+        let g₈ : Gives (zeros 32) (drop 32 s) z tt (drop 64 s) = record { gives = z₂ } in
+        (both-gives g₁ (both-gives g₂ (both-gives g₃ (both-gives g₄ (both-gives g₅ (both-gives g₆ (both-gives g₇ g₈))))))).gives

@@ -1,20 +1,26 @@
 -- The first 64 bytes of a store as code holds them, and the state that they are said of.
-use Rattle.std.specs.Prelude.{ℕ, ◌+◌, ◌*◌, ◌≤◌, ◌≡◌, Bool, true, List, leb, length}
+use Rattle.std.specs.Prelude.{ℕ, zero, suc, ◌+◌, ◌*◌, ◌≤◌, ◌≡◌, Bool, true, false, Option, Some, None, List, length}
+use Rattle.image_spec.specs.Parse.{Parsed, refused, got}
 use Rattle.step_slots.specs.declared.Slot.{Slot}
 use Rattle.step_slots.specs.Views.{slots_at, all_slots}
 use Rattle.step_spec.specs.Located.{Located}
 use Rattle.step_spec.specs.Store as store
+use Rattle.step_spec.specs.Store.{bit}
 use Rattle.step_header.specs.declared.Header.{Header}
 
 abbrev pub tuple_of : Header → store.Header
-tuple_of h = (h.position, (h.ended, (h.stopped, (tt, (h.cells, (h.heap, (h.entries, tt)))))))
+tuple_of h = (h.position, (bit h.ended, (bit h.stopped, (tt, (h.cells, (h.heap, (h.entries, tt)))))))
 
--- what is read where the 64 bytes are no header: its ended flag is neither 0 nor 1
-abbrev pub no_header : Header
-no_header = record { position = 0; ended = 2; stopped = 0; cells = 0; heap = 0; entries = 0 }
+-- a byte that is a flag
+abbrev pub flag_of : ℕ → Option Bool
+flag_of zero = Some false
+flag_of (suc zero) = Some true
+flag_of (suc (suc n)) = None
 
-abbrev pub is_header : Header → Bool
-is_header h = leb h.ended 1
+-- what a header's parser says where code reads r, with m left
+abbrev pub read_as : Option Header → List ℕ → Parsed ℕ store.Header
+read_as None m = refused
+read_as (Some h) m = got (tuple_of h) m
 
 -- the header is this state's
 abbrev pub Heads : Header → Located → Type 0

@@ -1,6 +1,7 @@
 -- The integer of a variable that was looked up in the slots of an environment is the model's. Assumes nothing.
+use Rattle.std.specs.Prelude.{Err}
 use Prim.Native.Nat.{ℕ}
-use mathlib.Core.Path.{◌≡◌, refl, sym, ap, ◌∙◌}
+use mathlib.Core.Path.{◌≡◌, refl, sym, ap, ap₂, ◌∙◌}
 use mathlib.Core.Bool.{Bool, cond}
 use mathlib.Core.List.{List}
 use mathlib.Core.Option.{Option, none, some}
@@ -18,7 +19,7 @@ use Rattle.step_spec.specs.Located.{Machine, source_machine, linear_machine, Loc
 use Rattle.step_header.specs.declared.Header.{Header}
 use Rattle.step_header.specs.Headers.{entries_in}
 use Rattle.step_entries.specs.Named.{named}
-use Rattle.step_write.specs.declared.Made.TheVariants.{Nothing}
+use Rattle.step_write.specs.declared.Stop.TheVariants.{NoStep}
 use Rattle.step_rule.specs.Rules.{Stored, resting, Makes, no_step}
 use Rattle.step_rule.proofs.Finds.{Sees, sees_none, sees-int, sees-cell, sees-outside, sees}
 use Rattle.step_rule.proofs.Ways.{halted}
@@ -77,6 +78,24 @@ two_integers (some v) (some w) f k = both (as_int v) (as_int w)
     both (some x) none = refl
     both (some x) (some y) = refl
 
+-- .. read one after another
+module _ {A : Type 0} (f : ℤ → ℤ → Option A) (a b : Option ℤ) where
+  pub first-missing : none ≡ a → none ≡ of_both f a b
+  unfolding of_both
+  first-missing e = ap (λ (x : Option ℤ). of_both f x b) e
+
+  pub second-missing : none ≡ b → none ≡ of_both f a b
+  unfolding of_both
+  second-missing e = without a ∙ ap (of_both f a) e
+    where
+      without : (x : Option ℤ) → none ≡ of_both f x none
+      without none = refl
+      without (some x) = refl
+
+  pub both-there : {x y : ℤ} → some x ≡ a → some y ≡ b → f x y ≡ of_both f a b
+  unfolding of_both
+  both-there d e = ap₂ {C = Option A} (of_both f) d e
+
 -- ── a step that asks for something ──
 
 pub record Asks {A : Type 0} (a : Option A) (k : A → Outcome) (r : Outcome) : Type 0 where
@@ -88,5 +107,5 @@ goes_with {A} {a} {k} e x q = e.is ∙ ap (λ (z : Option A). or_halt z k) (sym 
 
 -- and halts where it is not: nothing is done
 module _ {M : Machine} {P : Prog} {store : List ℕ} {h : Header} {l : Located} (o : Stored M P store h l) (events : List ℕ) (at : ℕ) where
-  pub nothing-made : {A : Type 0} {a : Option A} {k : A → Outcome} → Asks a k (M.step P (project P l)) → none ≡ a → Makes store events at (resting (located_step M P l)) store events Nothing
+  pub nothing-made : {A : Type 0} {a : Option A} {k : A → Outcome} → Asks a k (M.step P (project P l)) → none ≡ a → Makes store events at (resting (located_step M P l)) store events (Err NoStep)
   nothing-made {A} {a} {k} e q = rw (halted o (e.is ∙ ap (λ (z : Option A). or_halt z k) (sym q))) no_step

@@ -20,14 +20,17 @@ use Rattle.step_slots.specs.Views.{slot_from, slot_at, slots_at, is_slot, all_sl
 use Rattle.step_slots.proofs.SlotLaws.{slot_exact, slots_parse}
 use Rattle.step_spec.specs.Located.{Located}
 use Rattle.step_spec.specs.Store as store
-use Rattle.step_open.specs.Opening.{slots_formed}
+use Rattle.std.specs.Prelude as code
+use Rattle.std.specs.Prelude.{Some, None}
+use Rattle.image_directory.specs.declared.Frame.{Frame}
+use Rattle.step_open.specs.Opening.{slots_formed, seen_in, Opens}
 use Rattle.step_spec.specs.Store.{header_bytes, header_parser, raw_from, raw_parser, every_slot, statement_at, entry_ok, value_ok, cells_in, leading, blocks, cells_ok, formed, state_in, if_formed, state_from}
 use Rattle.step_spec.specs.Scan.{held_ok, head_ok, scan}
 use Rattle.step_spec.proofs.Scans.{scanned}
 use Rattle.step_spec.proofs.Slots.{HeaderOk, header_exact}
 use Rattle.step_header.specs.declared.Header.{Header}
-use Rattle.step_header.specs.Headers.{tuple_of, is_header, no_header, heap_in, entries_in}
-use Rattle.step_scan.specs.Pass.{pass, seen}
+use Rattle.step_header.specs.Headers.{tuple_of, heap_in, entries_in}
+use Rattle.step_scan.specs.Pass.{Of, pass, seen}
 
 -- ── tests in another order ──
 
@@ -161,64 +164,55 @@ short-store P s h = go (header_parser s) (header_exact.right s)
     go refused o = refl
     go (got a m) (one-read ok e) = absurd (omega (arith, h, ap length e ∙ length-append (header_bytes a) m))
 
-module _ (P : Prog) (s : List ℕ) (h : Header) (e : header_parser s ≡ only_if (is_header h) (got (tuple_of h) (drop 64 s))) where
-  -- what is asked, in the order of the code
-  abbrev asked : Bool
-  asked = is_header h && slots_formed P s h
+-- .. and one that has no header
+pub no_head : (P : Prog) (s : List ℕ) → header_parser s ≡ refused → state_from P s ≡ none
+unfolding state_from raw_parser
+no_head P s e = rw e refl
 
-  stage : (x a b : Bool) (H E : List Slot) (m n r : List ℕ)
-      → header_parser s ≡ only_if x (got (tuple_of h) m) → times h.heap slot_parser m ≡ only_if a (got H n) → times h.entries slot_parser n ≡ only_if b (got E r)
-      → state_from P s ≡ if_formed (x && ((a && b) && formed P (raw_from (tuple_of h) H E))) (state_in (raw_from (tuple_of h) H E))
+module _ (P : Prog) (s : List ℕ) (h : Header) (e : header_parser s ≡ got (tuple_of h) (drop 64 s)) where
+  stage : (a b : Bool) (H E : List Slot) (m n r : List ℕ)
+      → header_parser s ≡ got (tuple_of h) m → times h.heap slot_parser m ≡ only_if a (got H n) → times h.entries slot_parser n ≡ only_if b (got E r)
+      → state_from P s ≡ if_formed ((a && b) && formed P (raw_from (tuple_of h) H E)) (state_in (raw_from (tuple_of h) H E))
   unfolding state_from raw_parser
-  stage false a b H E m n r p q t = rw p refl
-  stage true false b H E m n r p q t = rw (p, q) refl
-  stage true true false H E m n r p q t = rw (p, q, t) refl
-  stage true true true H E m n r p q t = rw (p, q, t) refl
+  stage false b H E m n r p q t = rw (p, q) refl
+  stage true false H E m n r p q t = rw (p, q, t) refl
+  stage true true H E m n r p q t = rw (p, q, t) refl
 
-  pub asked_is : state_from P s ≡ if_formed asked (seen s h)
+  asked_is : state_from P s ≡ if_formed (slots_formed P s h) (seen s h)
   unfolding seen formed
   asked_is =
-      stage (is_header h) (all_slots (heap_in s h)) (all_slots (entries_in s h)) (heap_in s h) (entries_in s h) (drop 64 s) (drop (64 + 16 * h.heap) s) _ e (slots_parse s 64 h.heap) (slots_parse s (64 + 16 * h.heap) h.entries)
-      ∙ ap (λ (z : Bool). if_formed (is_header h && z) (state_in (raw_from (tuple_of h) (heap_in s h) (entries_in s h)))) (regroup (all_slots (heap_in s h)) (all_slots (entries_in s h)) (statement_at P h.position) (eqb h.cells (cells_in (heap_in s h)))
+      stage (all_slots (heap_in s h)) (all_slots (entries_in s h)) (heap_in s h) (entries_in s h) (drop 64 s) (drop (64 + 16 * h.heap) s) _ e (slots_parse s 64 h.heap) (slots_parse s (64 + 16 * h.heap) h.entries)
+      ∙ ap (λ (z : Bool). if_formed z (state_in (raw_from (tuple_of h) (heap_in s h) (entries_in s h)))) (regroup (all_slots (heap_in s h)) (all_slots (entries_in s h)) (statement_at P h.position) (eqb h.cells (cells_in (heap_in s h)))
       (eqb (length (leading (heap_in s h))) 0) (cells_ok P (heap_in s h) 0 (blocks (heap_in s h))) (every_slot (entry_ok P (heap_in s h)) (entries_in s h))
       ∙ ap₂ {C = Bool} (λ (a b : Bool). statement_at P h.position && (a && b)) (sym (passed P (heap_in s h) h.cells)) (sym (values-slots P (heap_in s h) h.cells (entries_in s h))))
 
-  pub opened : asked ≡ true → is_header h ≡ true → state_from P s ≡ if_formed (is_header h) (seen s h)
-  opened a x = asked_is ∙ (ap (λ (z : Bool). if_formed z (seen s h)) (a ∙ sym x))
+  -- what the test answers
+  pub opened : slots_formed P s h ≡ true → state_from P s ≡ some (seen s h)
+  opened a = asked_is ∙ (ap (λ (z : Bool). if_formed z (seen s h)) a)
 
-  pub not_opened : {r : Header} → asked ≡ false → r ≡ no_header → state_from P s ≡ if_formed (is_header r) (seen s r)
-  not_opened a q = asked_is ∙ (ap (λ (z : Bool). if_formed z (seen s h)) a ∙ rw q refl)
+  pub not_opened : slots_formed P s h ≡ false → state_from P s ≡ none
+  not_opened a = asked_is ∙ (ap (λ (z : Bool). if_formed z (seen s h)) a)
 
   -- counts that reach past the store
-  not_cells : pass P (heap_in s h) h.cells 0 0 (heap_in s h) ≡ false → asked ≡ false
-  not_cells e = rw (e, and-false (statement_at P h.position)) (and-false (is_header h))
+  not_cells : pass P (heap_in s h) h.cells 0 0 (heap_in s h) ≡ false → slots_formed P s h ≡ false
+  not_cells e = rw e (and-false (statement_at P h.position))
 
-  not_entries : every_slot (entry_ok P (heap_in s h)) (entries_in s h) ≡ false → asked ≡ false
-  not_entries e = rw (e, and-false (pass P (heap_in s h) h.cells 0 0 (heap_in s h)), and-false (statement_at P h.position)) (and-false (is_header h))
+  not_entries : every_slot (entry_ok P (heap_in s h)) (entries_in s h) ≡ false → slots_formed P s h ≡ false
+  not_entries e = rw (e, and-false (pass P (heap_in s h) h.cells 0 0 (heap_in s h))) (and-false (statement_at P h.position))
 
-  heap-outside : 64 ≤ length s → length s < 64 + 16 * h.heap → asked ≡ false
+  heap-outside : 64 ≤ length s → length s < 64 + 16 * h.heap → slots_formed P s h ≡ false
   heap-outside r o = not_cells (passed P (heap_in s h) h.cells ∙ ap (λ (z : Bool). z && ((eqb (length (leading (heap_in s h))) 0 && cells_ok P (heap_in s h) 0 (blocks (heap_in s h))) && eqb h.cells (cells_in (heap_in s h)))) (no_room s 64 h.heap r o))
 
-  entries-outside : 64 + 16 * h.heap ≤ length s → length s < 64 + 16 * h.heap + 16 * h.entries → asked ≡ false
+  entries-outside : 64 + 16 * h.heap ≤ length s → length s < 64 + 16 * h.heap + 16 * h.entries → slots_formed P s h ≡ false
   entries-outside r o = not_entries (values-slots P (heap_in s h) h.cells (entries_in s h) ∙ ap (λ (z : Bool). z && every_slot (entry_ok P (heap_in s h)) (entries_in s h)) (no_room s (64 + 16 * h.heap) h.entries r o))
 
-  pub outside : 64 ≤ length s → is_header h && leb (64 + 16 * h.heap + 16 * h.entries) (length s) ≡ false → asked ≡ false
-  outside r = go (is_header h) (leb (64 + 16 * h.heap + 16 * h.entries) (length s)) (leb (64 + 16 * h.heap) (length s)) refl refl refl
+  pub outside : 64 ≤ length s → leb (64 + 16 * h.heap + 16 * h.entries) (length s) ≡ false → state_from P s ≡ none
+  outside r f = not_opened (go (leb (64 + 16 * h.heap) (length s)) refl)
     where
-      go : (a b c : Bool) → is_header h ≡ a → leb (64 + 16 * h.heap + 16 * h.entries) (length s) ≡ b → leb (64 + 16 * h.heap) (length s) ≡ c → a && b ≡ false → asked ≡ false
-      go false b c p q t f = ap (λ (z : Bool). z && slots_formed P s h) p
-      go true true c p q t f = absurd (false≢true (sym f))
-      go true false true p q t f = entries-outside (leb-true _ _ t) (leb-false (64 + 16 * h.heap + 16 * h.entries) (length s) q)
-      go true false false p q t f = heap-outside r (leb-false (64 + 16 * h.heap) (length s) t)
+      go : (c : Bool) → leb (64 + 16 * h.heap) (length s) ≡ c → slots_formed P s h ≡ false
+      go true t = entries-outside (leb-true _ _ t) (leb-false (64 + 16 * h.heap + 16 * h.entries) (length s) f)
+      go false t = heap-outside r (leb-false (64 + 16 * h.heap) (length s) t)
 
-pub short-opened : (P : Prog) (s : List ℕ) (r : Header) → length s < 64 → r ≡ no_header → state_from P s ≡ if_formed (is_header r) (seen s r)
-short-opened P s r h e = short-store P s h ∙ rw e refl
-
--- what the tests answered, where the counts were read as n and m
-pub cells-answer : (P : Prog) (s : List ℕ) (h : Header) {n : ℕ} (b t : Bool) → n ≡ h.heap → t ≡ pass P (slots_at s 64 n) h.cells 0 0 (slots_at s 64 n) → t ≡ b
-    → pass P (heap_in s h) h.cells 0 0 (heap_in s h) ≡ b
-cells-answer P s h b t e f q = sym (ap (λ (k : ℕ). pass P (slots_at s 64 k) h.cells 0 0 (slots_at s 64 k)) e) ∙ (sym f ∙ q)
-
-pub entries-answer : (P : Prog) (s : List ℕ) (h : Header) {n m : ℕ} (b t : Bool) → n ≡ h.heap → m ≡ h.entries
-    → t ≡ every_slot (entry_ok P (slots_at s 64 n)) (slots_at s (64 + 16 * n) m) → t ≡ b → every_slot (entry_ok P (heap_in s h)) (entries_in s h) ≡ b
-entries-answer P s h b t e d f q = sym (ap₂ {C = Bool} (λ (k j : ℕ). every_slot (entry_ok P (slots_at s 64 k)) (slots_at s (64 + 16 * k) j)) e d) ∙ (sym f ∙ q)
+-- nothing is opened
+pub opens_none : (frame : Frame) (bytes s : List ℕ) {r : code.Option Header} → r ≡ None → ((P : Prog) → Of P frame bytes → state_from P s ≡ none) → Opens frame bytes s r
+opens_none frame bytes s {r} e n = record { state = λ P o. n P o ∙ ap (seen_in s) (sym e); header = λ h q. cc }

@@ -16,8 +16,8 @@ use Rattle.model.specs.Syntax.{Stmt}
 use Rattle.model.specs.Machine.{Value, Entries, keys, Cells, at, Event, Outcome, shows, or_halt, and_first, pair_up}
 use Rattle.model.specs.Linear.{stop_unless, shows_unless_twice}
 use Rattle.image_spec.specs.Records.{definition, clause'}
-use Rattle.image_fields.specs.declared.Found.{Found}
-use Rattle.image_fields.specs.declared.Found.TheVariants.{At, Nothing}
+use Rattle.std.specs.Prelude as code
+use Rattle.std.specs.Prelude.{Some, None}
 use Rattle.image_directory.specs.declared.Frame.{Frame}
 use Rattle.image_directory.specs.Slots.{records_in}
 use Rattle.image_read_parts.specs.Parts.{list_of}
@@ -88,7 +88,7 @@ head-list kind x Γ = go (eqb kind 1)
     go false = refl
 
 -- b is whether the machine stops, which enters what a search for f answers, with these values for the parameters and this place for the new entries
-pub record Enters (g : Frame) (bytes : List ℕ) (f : Found) (vs : List Value) (place : Entries → Entries) (b : Bool) : Type 1 where
+pub record Enters (g : Frame) (bytes : List ℕ) (f : code.Option ℕ) (vs : List Value) (place : Entries → Entries) (b : Bool) : Type 1 where
   pub A : Type 0
   pub context_of : A → Context
   pub body_of : A → Stmt
@@ -101,11 +101,11 @@ pub record Enters (g : Frame) (bytes : List ℕ) (f : Found) (vs : List Value) (
   pub finds : Finds context_of body_of kind depth (records_in g bytes) body what f
   pub stops : b ≡ is_stop (entering context_of body_of what vs event place cells)
 
-module _ {g : Frame} {bytes : List ℕ} {f : Found} {vs : List Value} {place : Entries → Entries} {b : Bool} (w : Enters g bytes f vs place b) where
-  pub missing : f ≡ Nothing → false ≡ b
+module _ {g : Frame} {bytes : List ℕ} {f : code.Option ℕ} {vs : List Value} {place : Entries → Entries} {b : Bool} (w : Enters g bytes f vs place b) where
+  pub missing : f ≡ None → false ≡ b
   missing q = sym (w.stops ∙ enter_none w.context_of w.body_of w.what vs w.event place w.cells (none_found q w.finds))
 
-  module _ {j : ℕ} (q : f ≡ At j) {row : Row} (listed : RowOf bytes row (ids (list_of (record_at g bytes j)))) where
+  module _ {j : ℕ} (q : f ≡ Some j) {row : Row} (listed : RowOf bytes row (ids (list_of (record_at g bytes j)))) where
     abbrev there : FoundAt w.context_of w.body_of w.kind w.depth (records_in g bytes) w.body w.what j
     there = found_at j q w.finds
 

@@ -14,7 +14,7 @@ use Rattle.model.specs.Linear.{first, last_value_lem}
 use Rattle.image_spec.specs.Parse.{All}
 use Rattle.image_spec.specs.Fields.{identifier_bytes, IdentifierOk}
 use Rattle.image_spec.specs.Records.{Record, record_bytes, RecordOk}
-use Rattle.image_fields.specs.declared.Found.TheVariants.{At, Nothing}
+use Rattle.std.specs.Prelude.{Some, None}
 use Rattle.image_directory.specs.declared.Frame.{Frame}
 use Rattle.image_read_parts.specs.Standing.{Stands}
 use Rattle.image_read_parts.proofs.PartPlaces.{invoke-tag}
@@ -60,7 +60,7 @@ module _ (g : Frame) (s : List ℕ) (i : ℕ) (a : nodes.At g s i 7) where
 
 -- ---- nothing is no place
 
-pub no_place : {g : Frame} {s : List ℕ} (kind : ℕ) → PlaceOf g s kind Nothing
+pub no_place : {g : Frame} {s : List ℕ} (kind : ℕ) → PlaceOf g s kind None
 no_place kind j q = let w : ◌≡◌ {A = ℕ} 0 1 = cc (q) in absurd (omega arith)
 
 -- ---- the last of a list

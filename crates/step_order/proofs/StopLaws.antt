@@ -23,7 +23,7 @@ use Rattle.model.specs.Linear.{before_last, sources, in_order_lem, stop_unless, 
 use Rattle.image_spec.specs.Records.{Record, call, switch, invoke}
 use Rattle.image_spec.specs.Kinds.{kind_of, clauses_of}
 use Rattle.image_spec.specs.Shape.{max_depth}
-use Rattle.image_fields.specs.declared.Found.{Found}
+use Rattle.std.specs.Prelude as code
 use Rattle.image_places_spec.specs.Views.{record_of, clauses_in}
 use Rattle.image_places_spec.specs.Places.{ClausesStand}
 use Rattle.image_places_spec.proofs.PlaceLaws.{stmt-parts}
@@ -111,7 +111,7 @@ module _ {P : Prog} {stepper : Stepper} {bytes : List ℕ} (p : ProgramOf P step
   abbrev rs : List Record
   rs = image.records_in stepper.frame bytes
 
-  label-finds : (x : Identifier) {n : ℕ} {f : Found} → n ≡ x.name.0 → FindsLabel stepper.frame bytes stepper.definitions n f
+  label-finds : (x : Identifier) {n : ℕ} {f : code.Option ℕ} → n ≡ x.name.0 → FindsLabel stepper.frame bytes stepper.definitions n f
       → FindsDef 1 max_depth rs (label_place x.name P.defs 0) (find_def x.name P.defs) f
   label-finds x {f = f} e w =
       subst (λ (n : ℕ). FindsDef 1 max_depth rs (label_place (name_of n) P.defs 0) (find_def (name_of n) P.defs) f) e
@@ -123,7 +123,7 @@ module _ {P : Prog} {stepper : Stepper} {bytes : List ℕ} (p : ProgramOf P step
       let is : record_at stepper.frame bytes i ≡ record_of (stmt_in P i) = ap (λ (rs : List Record). head_of (drop i rs)) p.records ∙ ap head_of parts.head in
       rw (is, p.records) parts.clauses
 
-  clause-finds : {i j n : ℕ} {tag : Name} {f : Found} → Stands P i → i < stepper.frame.count → j ≡ i → n ≡ tag.0 → ClauseOf stepper.frame bytes j n f
+  clause-finds : {i j n : ℕ} {tag : Name} {f : code.Option ℕ} → Stands P i → i < stepper.frame.count → j ≡ i → n ≡ tag.0 → ClauseOf stepper.frame bytes j n f
       → Finds (λ c. c.0) (λ c. c.1) 11 (max_depth - 1) rs (clause_place tag (clauses_in (stmt_in P i)) (i + 1)) (find_clause_lem tag (clauses_in (stmt_in P i))) f
   clause-finds {i} {j} {n} {tag} {f} s h e k w =
       let c : ClauseOf stepper.frame bytes i tag.0 f = subst (λ (m : ℕ). ClauseOf stepper.frame bytes i m f) k (subst (λ (m : ℕ). ClauseOf stepper.frame bytes m n f) e w) in
@@ -206,7 +206,7 @@ module _ {M : Machine} {P : Prog} {stepper : Stepper} {bytes store : List ℕ} {
   others-go a n = sym (no_stop P (here p o r refl) (subst (λ (k : ℕ). NoneOf k (7 ∷ 5 ∷ 3 ∷ [])) (sym a.kind) n) ε (cells_of P l))
 
   -- Call
-  pub call_enters : At stepper.frame bytes h.position 3 → (x : Identifier) → x ≡ first_of r → {n : ℕ} {f : Found} → n ≡ x.name.0
+  pub call_enters : At stepper.frame bytes h.position 3 → (x : Identifier) → x ≡ first_of r → {n : ℕ} {f : code.Option ℕ} → n ≡ x.name.0
       → FindsLabel stepper.frame bytes stepper.definitions n f → Enters stepper.frame bytes f (values ε) (λ new. new) (is_stop (work_at P l))
   call_enters a x q e w = record {
     A = Def;
@@ -237,7 +237,7 @@ module _ {M : Machine} {P : Prog} {stepper : Stepper} {bytes store : List ℕ} {
       pub switch-goes : (c.sort ≡ 3 → ⊥) → false ≡ is_stop (work_at P l)
       switch-goes n = sym (ap is_stop (switches ∙ lacks_halts (no_let m n) (switching ε (cells_of P l) (clauses_in t)) (λ v e. ap (λ z. or_halt z (matching ε (cells_of P l) (clauses_in t))) e)))
 
-      pub switch-enters : (w : OfLet P store h l (last_value_lem ε) c) → {j : ℕ} {f : Found} → j ≡ h.position → ClauseOf stepper.frame bytes j c.id f
+      pub switch-enters : (w : OfLet P store h l (last_value_lem ε) c) → {j : ℕ} {f : code.Option ℕ} → j ≡ h.position → ClauseOf stepper.frame bytes j c.id f
           → Enters stepper.frame bytes f w.fields (λ new. before_last 1 ε ++ new) (is_stop (work_at P l))
       switch-enters w e k = record {
         A = Context × Stmt;
@@ -275,7 +275,7 @@ module _ {M : Machine} {P : Prog} {stepper : Stepper} {bytes store : List ℕ} {
           go true e = outside-goes tag (is_outside m (eqb-true u.sort 2 e))
           go false e = ap is_stop (lacks_halts (no_target m (eqb-false u.sort 2 e) n) (invoking t ε (cells_of P l) tag) (λ v e. ap (λ z. or_halt z (aiming t ε (cells_of P l) tag)) e))
 
-      pub invoke-enters : {x : Identifier} → TagOf r x → (w : OfCreate P store h l (last_value_lem ε) c) → {i n : ℕ} {f : Found} → i ≡ c.id → n ≡ x.name.0 → ClauseOf stepper.frame bytes i n f
+      pub invoke-enters : {x : Identifier} → TagOf r x → (w : OfCreate P store h l (last_value_lem ε) c) → {i n : ℕ} {f : code.Option ℕ} → i ≡ c.id → n ≡ x.name.0 → ClauseOf stepper.frame bytes i n f
           → Enters stepper.frame bytes f (values (before_last 1 ε)) (λ new. new ++ w.entries) (is_stop (work_at P l))
       unfolding linear_enter_lem
       invoke-enters {x} g w e k f =

@@ -1,5 +1,5 @@
 -- Does the linear machine stop at the state that a store is read as? And what is read to tell it.
-use Rattle.std.specs.Prelude.{ℕ, ◌+◌, ◌-◌, ◌<◌, ◌≡◌, Bool, false, List, map, length, get_or}
+use Rattle.std.specs.Prelude.{ℕ, ◌+◌, ◌-◌, ◌<◌, ◌≡◌, Bool, false, Option, List, map, length, get_or}
 use Rattle.syntax.specs.Context.{Context}
 use Rattle.syntax.specs.declared.names.Identifier.{Identifier}
 use Rattle.syntax.specs.declared.types.Ty.{Ty}
@@ -8,7 +8,6 @@ use Rattle.model.specs.Machine.{Outcome}
 use Rattle.model.specs.Linear.{linear_work, linear_step_lem}
 use Rattle.image_spec.specs.Records.{Record, invoke}
 use Rattle.image_spec.specs.Kinds.{clauses_of}
-use Rattle.image_fields.specs.declared.Found.{Found}
 use Rattle.image_directory.specs.declared.Frame.{Frame}
 use Rattle.image_read_nodes.specs.Nodes.{record_at}
 use Rattle.step_slots.specs.declared.Slot.{Slot}
@@ -35,7 +34,7 @@ pub record TagOf (r : Record) (x : Identifier) : Type 0 where
   pub is : (v g : Identifier) (t : Ty) (Γ : Context) → r ≡ invoke v g t Γ → x ≡ g
 
 -- the answer for the first clause with this tag of the record at index i; it need not have any, nor be there
-pub record ClauseOf (g : Frame) (s : List ℕ) (i tag : ℕ) (r : Found) : Type 0 where
+pub record ClauseOf (g : Frame) (s : List ℕ) (i tag : ℕ) (r : Option ℕ) : Type 0 where
   pub at : PlaceOf g s 11 r
   pub finds : i < g.count → FindsClause g s (clauses_of (record_at g s i)) (i + 1) tag r
 

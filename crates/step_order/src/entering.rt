@@ -11,7 +11,6 @@ ghost use Rattle.step_order.specs.Sure.{Sure};
 use crate::list::{entries_row, front, less, repeats};
 use crate::parts::{clause_of, last_cell, tag, wide};
 use image_directory::long;
-use image_fields::Found;
 use image_kinds::kinds::Kind;
 use image_read_nodes::first;
 use step_header::{Header, place};
@@ -30,7 +29,7 @@ pub fn call(image: &[u8], stepper: Stepper, ends: &[u32], header: Header) -> boo
     let label = first(image, frame, long(header.position), Kind::CALL);
     let name = label.name;
     match find_label(image, frame, ends, definitions, wide(name.0)) {
-        Found::At(j) => {
+        Some(j) => {
             let parameters = list_row(image, frame, j, Kind::DEFINITION);
             let count = parameters.len;
             if count != place(header.entries) {
@@ -41,7 +40,7 @@ pub fn call(image: &[u8], stepper: Stepper, ends: &[u32], header: Header) -> boo
             }
             true
         }
-        Found::Nothing => false,
+        None => false,
     }
 }
 
@@ -64,7 +63,7 @@ pub fn switch(
         return false;
     }
     match clause_of(image, frame, ends, long(header.position), cell.id) {
-        Found::At(j) => {
+        Some(j) => {
             let parameters = list_row(image, frame, j, Kind::CLAUSE);
             let count = parameters.len;
             if count != cell.len {
@@ -73,7 +72,7 @@ pub fn switch(
             let others = front(entries_row(store, header), 1);
             repeats(store, others, image, parameters, sure)
         }
-        Found::Nothing => false,
+        None => false,
     }
 }
 
@@ -90,7 +89,7 @@ pub fn invoke(image: &[u8], stepper: Stepper, ends: &[u32], store: &[u8], header
     }
     let name = tag(image, frame, long(header.position)).name;
     match clause_of(image, frame, ends, long(cell.id), wide(name.0)) {
-        Found::At(j) => {
+        Some(j) => {
             let parameters = list_row(image, frame, j, Kind::CLAUSE);
             let count = parameters.len;
             if count != less(place(header.entries), 1) {
@@ -99,6 +98,6 @@ pub fn invoke(image: &[u8], stepper: Stepper, ends: &[u32], store: &[u8], header
             let held = slot_row(cell.from, cell.len);
             repeats(image, parameters, store, held, false)
         }
-        Found::Nothing => false,
+        None => false,
     }
 }

@@ -7,7 +7,6 @@ ghost use Rattle.step_places.specs.Ends.{Ends};
 ghost use Rattle.step_order.specs.Stopping.{last_slot, last_cell_lem, TagOf, ClauseOf};
 
 use image_directory::Frame;
-use image_fields::Found;
 use image_read_nodes::parts_of;
 use image_read_parts::identifier;
 use step_cells::{Cell, cell_of};
@@ -59,13 +58,13 @@ pub fn tag(image: &[u8], frame: Frame, i: usize) -> Identifier
 }
 
 // The first clause with this tag of the statement at index i.
-pub fn clause_of(image: &[u8], frame: Frame, ends: &[u32], i: usize, tag: u32) -> Found
+pub fn clause_of(image: &[u8], frame: Frame, ends: &[u32], i: usize, tag: u32) -> Option<usize>
     requires { Ready frame image.now × Ends (records_in frame image.now) ends.now }
     ensures { ClauseOf frame image.now i tag result }
 {
     let count = frame.count;
     if count <= i {
-        return Found::Nothing;
+        return None;
     }
     let follows = parts_of(image, frame, i);
     find_clause(image, frame, ends, i + 1, follows.clauses, tag)

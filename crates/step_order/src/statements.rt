@@ -12,8 +12,7 @@ use image_directory::Frame;
 use image_kinds::kinds::Kind;
 use image_read_nodes::first;
 use pass_records as records;
-use pass_records::Second;
-use step_rows::records::{Environment, environment_row, list_row, source_row, target_row};
+use step_rows::records::{environment_row, list_row, source_row, target_row};
 use step_rows::{Row, all_present, distinct, has};
 
 // substitute.rs: no target twice, and every source there.
@@ -48,8 +47,8 @@ pub fn create(image: &[u8], frame: Frame, i: usize, store: &[u8], row: Row, sure
     let var = first(image, frame, i, Kind::CREATE);
     let id = var.id;
     match environment_row(image, frame, i) {
-        Environment::Absent => false,
-        Environment::Listed(listed) => replaces(image, listed, store, row, id.0, sure),
+        None => false,
+        Some(listed) => replaces(image, listed, store, row, id.0, sure),
     }
 }
 
@@ -101,12 +100,11 @@ pub fn ifc(image: &[u8], frame: Frame, i: usize, store: &[u8], row: Row) -> bool
     let second = statement.snd;
     if has(store, row, fst.0) {
         match second {
-            Second::None => {
+            None => {
                 return true;
             }
-            Second::Some(snd) => {
-                let id = snd.id;
-                return has(store, row, id.0);
+            Some(snd) => {
+                return has(store, row, snd.id.0);
             }
         }
     }

@@ -35,24 +35,24 @@ pub behind-past : (ends : List ℕ) (i : ℕ) → length ends ≤ i → i ≡ ho
 unfolding hops
 behind-past ends i h = sym (get_or-eq_default ends i h)
 
--- what is left of n hops from `from` when `left` of them are left from `here`
-pub record HopsLeft (ends : List ℕ) (n from left here : ℕ) : Type 0 where
-  pub same : hops ends n from ≡ hops ends left here
+-- what is left of n hops from `from` behind the first k, from `here` on
+pub record HopsLeft (ends : List ℕ) (n from k here : ℕ) : Type 0 where
+  pub same : hops ends n from ≡ hops ends (n - k) here
   pub small : from < 2 ^ 32 → here < 2 ^ 32
 
 module _ {ends : List ℕ} {n from : ℕ} where
-  pub hops-start : HopsLeft ends n from n from
-  hops-start = record { same = refl; small = λ h. h }
+  pub hops-start : HopsLeft ends n from 0 from
+  hops-start = let z : n ≡ n - 0 = omega arith in record { same = ap (λ (m : ℕ). hops ends m from) z; small = λ h. h }
 
-  pub hops-turn : {left here next : ℕ} → HopsLeft ends n from left here → 0 < left → Hopped ends 1 here next → HopsLeft ends n from (left - 1) next
+  pub hops-turn : {k here next : ℕ} → HopsLeft ends n from k here → k < n → Hopped ends 1 here next → HopsLeft ends n from (k + 1) next
   unfolding hops
-  hops-turn {left} {here} {next} l h r =
-      let k : left ≡ suc (left - 1) = omega arith in
-      record { same = l.same ∙ (ap (λ (z : ℕ). hops ends z here) k ∙ ap (hops ends (left - 1)) (sym r.is)); small = λ f. r.small (l.small f) }
+  hops-turn {k} {here} {next} l h r =
+      let z : n - k ≡ suc (n - (k + 1)) = omega arith in
+      record { same = l.same ∙ (ap (λ (m : ℕ). hops ends m here) z ∙ ap (hops ends (n - (k + 1))) (sym r.is)); small = λ f. r.small (l.small f) }
 
-  pub hops-done : {left here : ℕ} → HopsLeft ends n from left here → left ≡ 0 → Hopped ends n from here
+  pub hops-done : {k here : ℕ} → HopsLeft ends n from k here → n ≤ k → Hopped ends n from here
   unfolding hops
-  hops-done {left} {here} l e = record { is = sym (l.same ∙ ap (λ (z : ℕ). hops ends z here) e); small = l.small }
+  hops-done {k} {here} l h = let z : n - k ≡ 0 = omega arith in record { is = sym (l.same ∙ ap (λ (m : ℕ). hops ends m here) z); small = l.small }
 
 -- over parts in a row
 hops-each : {from : ℕ} {rs : List Record} {ends : List ℕ} {A : Type 0} (records : A → List Record) → ((a : A) → Part (records a)) → (l : List A) (i : ℕ)

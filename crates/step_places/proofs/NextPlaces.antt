@@ -13,8 +13,8 @@ use Rattle.model.specs.Syntax.{Stmt, IfC, Clauses, end}
 use Rattle.image_spec.specs.Records.{Record}
 use Rattle.image_spec.specs.Kinds.{kind_of, clauses_of, bodies}
 use Rattle.image_spec.specs.Shape.{flatten, flatten_clauses}
-use Rattle.image_fields.specs.declared.Found.{Found}
-use Rattle.image_fields.specs.declared.Found.TheVariants.{At, Nothing}
+use Rattle.std.specs.Prelude as code
+use Rattle.std.specs.Prelude.{Some, None}
 use Rattle.image_places_spec.specs.Views.{record_of, clauses_in, bodies_of}
 use Rattle.image_places_spec.specs.Places.{StmtStands, ClausesStand, BodiesStand}
 use Rattle.image_places_spec.proofs.PlaceLaws.{stmt-parts, body-parts}
@@ -66,12 +66,12 @@ pub record FoundAt {A : Type 0} (context_of : A → Context) (body_of : A → St
   pub next : j + 1 ≡ place
 
 module _ {A : Type 0} {context_of : A → Context} {body_of : A → Stmt} {kind d : ℕ} {rs : List Record} {place : ℕ} where
-  pub found_at : {o : Option A} {r : Found} (j : ℕ) → r ≡ At j → Finds context_of body_of kind d rs place o r → FoundAt context_of body_of kind d rs place o j
+  pub found_at : {o : Option A} {r : code.Option ℕ} (j : ℕ) → r ≡ Some j → Finds context_of body_of kind d rs place o r → FoundAt context_of body_of kind d rs place o j
   found_at j e absent = let z : ◌≡◌ {A = ℕ} 0 1 = cc in absurd (omega arith)
   found_at j e (found {a = a} {j = i} x h b p) =
       let z : i ≡ j = cc in
       subst (FoundAt context_of body_of kind d rs place (some a)) z (record { what = a; is = refl; name = x; head = h; body = b; next = p })
 
-  pub none_found : {o : Option A} {r : Found} → r ≡ Nothing → Finds context_of body_of kind d rs place o r → o ≡ none
+  pub none_found : {o : Option A} {r : code.Option ℕ} → r ≡ None → Finds context_of body_of kind d rs place o r → o ≡ none
   none_found e absent = refl
   none_found e (found x h b p) = let z : ◌≡◌ {A = ℕ} 0 1 = cc in absurd (omega arith)

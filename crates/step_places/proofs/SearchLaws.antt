@@ -20,8 +20,8 @@ use Rattle.image_spec.specs.Records.{Record, definition, clause'}
 use Rattle.image_spec.specs.Kinds.{kind_of}
 use Rattle.image_spec.specs.Shape.{flatten, flatten_defs}
 use Rattle.image_spec.proofs.DirectoryLaws.{and_left}
-use Rattle.image_fields.specs.declared.Found.{Found}
-use Rattle.image_fields.specs.declared.Found.TheVariants.{At, Nothing}
+use Rattle.std.specs.Prelude as code
+use Rattle.std.specs.Prelude.{Some, None}
 use Rattle.image_places_spec.proofs.PlaceLaws.{begins-left}
 use Rattle.image_directory.specs.declared.Frame.{Frame}
 use Rattle.image_directory.specs.Slots.{Ready, records_in}
@@ -58,7 +58,7 @@ unfolding heads_in label_place clause_place
 heads-place f end i = refl
 heads-place f (clause x Γ body rest) i = ap (cond (same_name f x.name) (i + 1)) (heads-place f rest (i + 1 + length (flatten body)))
 
-as_clause_lem : {kind d : ℕ} {rs : List Record} {place : ℕ} {o : Option Def} {r : Found} → FindsDef kind d rs place o r → Finds (λ c. c.0) (λ c. c.1) kind d rs place (as_clause o) r
+as_clause_lem : {kind d : ℕ} {rs : List Record} {place : ℕ} {o : Option Def} {r : code.Option ℕ} → FindsDef kind d rs place o r → Finds (λ c. c.0) (λ c. c.1) kind d rs place (as_clause o) r
 as_clause_lem absent = absent
 as_clause_lem (found x h b p) = found x h b p
 
@@ -103,16 +103,16 @@ head-next {kind} {i = i} e es t h =
 -- ---- by name
 
 -- the answer is right for the n heads from i on
-abbrev pub RightFor : (g : Frame) (s : List ℕ) (kind f n i : ℕ) → Found → Type 0
+abbrev pub RightFor : (g : Frame) (s : List ℕ) (kind f n i : ℕ) → code.Option ℕ → Type 0
 RightFor g s kind f n i r = (d : ℕ) (es : List Def) → HeadsStand kind d n (records_in g s) i es → FindsDef kind d (records_in g s) (label_place (name_of f) es i) (find_def (name_of f) es) r
 
--- of the n heads from i on, `left` from `here` on are left: what is right for these is right for all
-pub record Searching (g : Frame) (s : List ℕ) (kind f n i left here : ℕ) : Type 0 where
-  pub enough : (r : Found) → RightFor g s kind f left here r → RightFor g s kind f n i r
+-- of the n heads from i on, those behind the first k, from `here` on, are left: what is right for these is right for all
+pub record Searching (g : Frame) (s : List ℕ) (kind f n i k here : ℕ) : Type 0 where
+  pub enough : (r : code.Option ℕ) → RightFor g s kind f (n - k) here r → RightFor g s kind f n i r
 
 module _ (g : Frame) (s : List ℕ) (kind f : ℕ) where
   -- none is left
-  right_end : {left here : ℕ} → left ≡ 0 → RightFor g s kind f left here Nothing
+  right_end : {left here : ℕ} → left ≡ 0 → RightFor g s kind f left here None
   right_end z d [] h = absent
   right_end z d (e ∷ es) h = absurd (omega (arith, h.count))
 
@@ -121,12 +121,12 @@ module _ (g : Frame) (s : List ℕ) (kind f : ℕ) where
     name_is : {d n : ℕ} (e : Def) (es : List Def) → HeadsStand kind d n (records_in g s) here (e ∷ es) → same_name (name_of f) e.name.name ≡ b
     name_is e es h = sym (said ∙ head-named kind (name_of f) e.name e.context (drop here (records_in g s)) (drop (here + 1) (records_in g s)) k (head-parts e es h).head)
 
-    right-here : b ≡ true → RightFor g s kind f left here (At here)
+    right-here : b ≡ true → RightFor g s kind f left here (Some here)
     unfolding label_place
     right-here q d [] h = absurd (omega (arith, h.count))
     right-here q d (e ∷ es) h = let p = head-parts e es h in rw (name_is e es h, q) (found e.name (ap head_of p.head) p.body refl)
 
-    right-next : {ends : List ℕ} {next : ℕ} (r : Found) → b ≡ false → Ends (records_in g s) ends → next ≡ behind ends here → RightFor g s kind f (left - 1) next r → RightFor g s kind f left here r
+    right-next : {ends : List ℕ} {next : ℕ} (r : code.Option ℕ) → b ≡ false → Ends (records_in g s) ends → next ≡ behind ends here → RightFor g s kind f (left - 1) next r → RightFor g s kind f left here r
     unfolding label_place
     right-next r q t p w d [] h = absurd (omega (arith, h.count))
     right-next {next = next} r q t p w d (e ∷ es) h =
@@ -137,7 +137,7 @@ module _ (g : Frame) (s : List ℕ) (kind f : ℕ) where
 
 -- behind k heads is the head at place k
 head-nth : {kind d n : ℕ} {rs : List Record} {ends : List ℕ} (k i : ℕ) (es : List Def) → Ends rs ends → k < n → HeadsStand kind d n rs i es
-    → FindsDef kind d rs (definition_place k es i) (nth k es) (At (hops ends k i))
+    → FindsDef kind d rs (definition_place k es i) (nth k es) (Some (hops ends k i))
 unfolding hops definition_place
 head-nth k i [] t h s = absurd (omega (arith, s.count))
 head-nth zero i (e ∷ es) t h s = let p = head-parts e es s in found e.name (ap head_of p.head) p.body refl
@@ -157,52 +157,54 @@ unfolding flatten_defs
 defs-heads h = record { begins = h.begins; shallow = h.shallow; count = h.count }
 
 module _ {g : Frame} {s : List ℕ} where
-  place_none : (kind : ℕ) → PlaceOf g s kind Nothing
+  place_none : (kind : ℕ) → PlaceOf g s kind None
   place_none kind j q = let w : ◌≡◌ {A = ℕ} 0 1 = cc in absurd (omega arith)
 
-  place_at : (kind here : ℕ) → nodes.At g s here kind → PlaceOf g s kind (At here)
+  place_at : (kind here : ℕ) → nodes.At g s here kind → PlaceOf g s kind (Some here)
   place_at kind here a j q = let z : here ≡ j = cc in subst (λ (w : ℕ). nodes.At g s w kind) z a
 
   -- what was found is there
-  found-there : {d place j : ℕ} {o : Option Def} → Ready g s → FindsDef 1 d (records_in g s) place o (At j) → nodes.At g s j 1
+  found-there : {d place j : ℕ} {o : Option Def} → Ready g s → FindsDef 1 d (records_in g s) place o (Some j) → nodes.At g s j 1
   found-there {j = j} h (found {a = e} x r b p) = record { ready = h; inside = omega (arith, records-length g s h, part-inside (statement e.body) b.begins); kind = ap kind_of r }
 
-  pub search_start : {kind f : ℕ} (n i : ℕ) → Searching g s kind f n i n i
-  search_start n i = record { enough = λ r h. h }
+  pub search_start : {kind f : ℕ} (n i : ℕ) → Searching g s kind f n i 0 i
+  search_start {kind} {f} n i = let z : n - 0 ≡ n = omega arith in record { enough = λ r h. subst (λ (m : ℕ). RightFor g s kind f m i r) z h }
 
-  module _ {kind f n i left here : ℕ} (l : Searching g s kind f n i left here) where
-    pub search_absent : left ≡ 0 → FindsHead g s kind n i f Nothing
-    search_absent z = record { at = place_none kind; finds = l.enough Nothing (right_end g s kind f z) }
+  module _ {kind f n i k here : ℕ} (l : Searching g s kind f n i k here) where
+    pub search_absent : n ≤ k → FindsHead g s kind n i f None
+    search_absent h = record { at = place_none kind; finds = l.enough None (right_end g s kind f (omega arith)) }
 
-    module _ {b : Bool} (k : IsHead kind) (some_left : 0 < left) (said : b ≡ is_named_lem kind (name_of f) (drop here (records_in g s))) where
-      pub search_found : b ≡ true → Ready g s → FindsHead g s kind n i f (At here)
+    module _ {b : Bool} (head : IsHead kind) (some_left : k < n) (said : b ≡ is_named_lem kind (name_of f) (drop here (records_in g s))) where
+      pub search_found : b ≡ true → Ready g s → FindsHead g s kind n i f (Some here)
       search_found q ready = record {
         at = place_at kind here (named-at g s kind (name_of f) here ready (sym said ∙ q));
-        finds = l.enough (At here) (right-here g s kind f left here b k some_left said q);
+        finds = l.enough (Some here) (right-here g s kind f (n - k) here b head (omega arith) said q);
       }
 
-      pub search_next : {ends : List ℕ} {next : ℕ} → b ≡ false → Ends (records_in g s) ends → Hopped ends 1 here next → Searching g s kind f n i (left - 1) next
+      pub search_next : {ends : List ℕ} {next : ℕ} → b ≡ false → Ends (records_in g s) ends → Hopped ends 1 here next → Searching g s kind f n i (k + 1) next
       unfolding hops
-      search_next q t p = record { enough = λ r w. l.enough r (right-next g s kind f left here b k some_left said r q t p.is w) }
+      search_next {next = next} q t p =
+          let z : n - (k + 1) ≡ n - k - 1 = omega arith in
+          record { enough = λ r w. l.enough r (right-next g s kind f (n - k) here b head (omega arith) said r q t p.is (subst (λ (m : ℕ). RightFor g s kind f m next r) z w)) }
 
-  pub label-found : {n f : ℕ} {r : Found} → FindsHead g s 1 n 0 f r → FindsLabel g s n f r
+  pub label-found : {n f : ℕ} {r : code.Option ℕ} → FindsHead g s 1 n 0 f r → FindsLabel g s n f r
   label-found a = record { at = a.at; finds = λ d es h. a.finds d es (defs-heads h) }
 
-  pub clause-found : {n i tag : ℕ} {r : Found} → FindsHead g s 11 n i tag r → FindsClause g s n i tag r
+  pub clause-found : {n i tag : ℕ} {r : code.Option ℕ} → FindsHead g s 11 n i tag r → FindsClause g s n i tag r
   clause-found {n} {i} {tag} {r} a = record {
     at = a.at;
     finds = λ d cs h. rw (← heads-place (name_of tag) cs i, ← heads_find (name_of tag) cs) (as_clause_lem (a.finds d (heads_in cs) (clauses-heads h)));
   }
 
   module _ {ends : List ℕ} {n k here : ℕ} (ready : Ready g s) (t : Ends (records_in g s) ends) (h : k < n) (p : Hopped ends k 0 here) where
-    definition-finds : (d : ℕ) (es : List Def) → DefsStand d n (records_in g s) 0 es → FindsDef 1 d (records_in g s) (definition_place k es 0) (nth k es) (At here)
+    definition-finds : (d : ℕ) (es : List Def) → DefsStand d n (records_in g s) 0 es → FindsDef 1 d (records_in g s) (definition_place k es 0) (nth k es) (Some here)
     definition-finds d es w = rw p.is (head-nth k 0 es t h (defs-heads w))
 
-    pub definition-found : nodes.At g s here 1 → FindsDefinition g s n k (At here)
+    pub definition-found : nodes.At g s here 1 → FindsDefinition g s n k (Some here)
     definition-found a = record { at = place_at 1 here a; finds = definition-finds }
 
-    pub definition-missing : (nodes.At g s here 1 → ⊥) → FindsDefinition g s n k Nothing
+    pub definition-missing : (nodes.At g s here 1 → ⊥) → FindsDefinition g s n k None
     definition-missing a = record { at = place_none 1; finds = λ d es w. absurd (a (found-there ready (definition-finds d es w))) }
 
-  pub definition-past : {n k : ℕ} → n ≤ k → FindsDefinition g s n k Nothing
+  pub definition-past : {n k : ℕ} → n ≤ k → FindsDefinition g s n k None
   definition-past {n} {k} h = record { at = place_none 1; finds = λ d es w. rw (nth_past k es (omega (arith, w.count))) absent }

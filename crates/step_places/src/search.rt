@@ -7,7 +7,7 @@ ghost use Rattle.step_places.specs.Searches.{name_of, is_named_lem, FindsHead, F
 
 use crate::ends::{behind, hop};
 use image_directory::Frame;
-use image_fields::{Found, number};
+use image_fields::number;
 use image_kinds::kinds::Kind;
 use image_read_nodes::parts_of;
 use image_read_parts::offset;
@@ -17,16 +17,11 @@ fn is_named(image: &[u8], frame: Frame, i: usize, kind: u8, name: u32) -> bool
     requires { Ready frame image.now × IsHead kind }
     ensures { result ≡ is_named_lem kind (name_of name) (drop i (records_in frame image.now)) }
 {
-    let count = frame.count;
-    if count <= i {
+    if frame.count <= i {
         return false;
     }
     let start = offset(image, frame, i);
-    if image[start] != kind {
-        return false;
-    }
-    let other = number(image, start + 1, 2);
-    name == other
+    image[start] == kind && name == number(image, start + 1, 2)
 }
 
 // The first with this name of the n definitions or clauses from `from` on.
@@ -38,20 +33,18 @@ fn find(
     n: usize,
     kind: u8,
     name: u32,
-) -> Found
+) -> Option<usize>
     requires { Ready frame image.now × (Ends (records_in frame image.now) ends.now × IsHead kind) }
     ensures { FindsHead frame image.now kind n from name result }
 {
     let mut here = from;
-    let mut left = n;
-    while 0 < left {
+    for _ in 0..n {
         if is_named(image, frame, here, kind, name) {
-            return Found::At(here);
+            return Some(here);
         }
         here = behind(ends, here);
-        left -= 1;
     }
-    Found::Nothing
+    None
 }
 
 // The first with this tag of the clauses from `from` on.
@@ -62,7 +55,7 @@ pub fn find_clause(
     from: usize,
     clauses: usize,
     tag: u32,
-) -> Found
+) -> Option<usize>
     requires { Ready frame image.now × Ends (records_in frame image.now) ends.now }
     ensures { FindsClause frame image.now clauses from tag result }
 {
@@ -70,7 +63,13 @@ pub fn find_clause(
 }
 
 // The first definition with this label.
-pub fn find_label(image: &[u8], frame: Frame, ends: &[u32], definitions: usize, label: u32) -> Found
+pub fn find_label(
+    image: &[u8],
+    frame: Frame,
+    ends: &[u32],
+    definitions: usize,
+    label: u32,
+) -> Option<usize>
     requires { Ready frame image.now × Ends (records_in frame image.now) ends.now }
     ensures { FindsLabel frame image.now definitions label result }
 {
@@ -84,22 +83,19 @@ pub fn find_definition(
     ends: &[u32],
     definitions: usize,
     n: usize,
-) -> Found
+) -> Option<usize>
     requires { Ready frame image.now × Ends (records_in frame image.now) ends.now }
     ensures { FindsDefinition frame image.now definitions n result }
 {
-    let count = frame.count;
     if definitions <= n {
-        return Found::Nothing;
+        return None;
     }
     let here = hop(ends, 0, n);
-    if count <= here {
-        return Found::Nothing;
+    if frame.count <= here {
+        return None;
     }
-    let follows = parts_of(image, frame, here);
-    let kind = follows.kind;
-    if kind == Kind::DEFINITION {
-        return Found::At(here);
+    if parts_of(image, frame, here).kind == Kind::DEFINITION {
+        return Some(here);
     }
-    Found::Nothing
+    None
 }

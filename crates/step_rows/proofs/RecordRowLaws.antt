@@ -23,8 +23,8 @@ use Rattle.image_read_nodes.specs.Nodes.{record_at, At}
 use Rattle.image_read_nodes.proofs.TailLaws.{tail_from}
 use Rattle.image_read_nodes.proofs.NodeLaws.{record_ok}
 use Rattle.step_rows.specs.declared.Row.{Row}
-use Rattle.step_rows.specs.declared.records.Environment.{Environment}
-use Rattle.step_rows.specs.declared.records.Environment.TheVariants.{Absent, Listed}
+use Rattle.std.specs.Prelude as code
+use Rattle.std.specs.Prelude.{Some, None}
 use Rattle.step_rows.specs.Rows.{ids_from, RowOf}
 use Rattle.step_rows.specs.RecordRows.{bytes_of, AnyBytes, counted_row_lem, pairs_of, environment_of, EnvironmentRow, absent, listed}
 use Rattle.step_rows.proofs.ElementRows.{Written, each_row}
@@ -142,7 +142,7 @@ module _ (w : ℕ) where
     environment-inside (unmarked r h) = r
     environment-inside (marked h t) = omega (arith, stands-room {e = list_bytes w} (omega arith) t)
 
-    pub absent-row : {e : Option Context} → Environs s at e → get_or s at 0 ≡ 0 → EnvironmentRow s Absent e
+    pub absent-row : {e : Option Context} → Environs s at e → get_or s at 0 ≡ 0 → EnvironmentRow s None e
     absent-row (unmarked r h) z = absent
     absent-row (marked h t) z = absurd (omega arith)
 
@@ -151,7 +151,7 @@ module _ (w : ℕ) where
     listed-room (marked h t) z = omega (arith, stands-room {e = list_bytes w} (omega arith) t)
 
     pub listed-row : {e : Option Context} {row : Row} → Environs s at e → (get_or s at 0 ≡ 0 → ⊥) → w ≤ 4
-        → row ≡ counted_row_lem s (at + 1) (6 + (w + w)) 2 w → EnvironmentRow s (Listed row) e
+        → row ≡ counted_row_lem s (at + 1) (6 + (w + w)) 2 w → EnvironmentRow s (Some row) e
     listed-row (unmarked r h) z n q = absurd (z h)
     listed-row (marked h t) z n q = listed (counted-row binding-written t n (omega arith) q)
 
@@ -196,10 +196,10 @@ pub record Entered (s : List ℕ) (row : Row) (e : Option Context) : Type 0 wher
   pub is : e ≡ some context
   pub holds : RowOf s row (ids context)
 
-pub environment_none : {s : List ℕ} {r : Environment} {e : Option Context} → EnvironmentRow s r e → r ≡ Absent → e ≡ none
+pub environment_none : {s : List ℕ} {r : code.Option Row} {e : Option Context} → EnvironmentRow s r e → r ≡ None → e ≡ none
 environment_none absent q = refl
-environment_none (listed h) q = let z : ◌≡◌ {A = ℕ} 0 1 = cc (q) in absurd (omega arith)
+environment_none (listed h) q = cc
 
-pub environment_some : {s : List ℕ} {r : Environment} {e : Option Context} {row : Row} → EnvironmentRow s r e → r ≡ Listed row → Entered s row e
+pub environment_some : {s : List ℕ} {r : code.Option Row} {e : Option Context} {row : Row} → EnvironmentRow s r e → r ≡ Some row → Entered s row e
 environment_some absent q = let z : ◌≡◌ {A = ℕ} 0 1 = cc (q) in absurd (omega arith)
 environment_some {s} {row = row} (listed {row = other} {Γ = Γ} h) q = let k : other ≡ row = cc (q) in record { context = Γ; is = refl; holds = subst (λ (z : Row). RowOf s z (ids Γ)) k h }

@@ -1,13 +1,11 @@
 -- The rows of IDs in the records of an opened image.
-use Rattle.std.specs.Prelude.{ℕ, ◌+◌, List, [], get_or}
-use Rattle.std.proofs.Math.Option.{Option, none, some}
+use Rattle.std.specs.Prelude.{ℕ, ◌+◌, Option, Some, None, List, [], get_or}
+use Rattle.std.proofs.Math.Option.{Option as Optional, none, some}
 use Rattle.syntax.specs.Context.{Context, ids}
 use Rattle.syntax.specs.declared.names.Identifier.{Identifier}
 use Rattle.syntax.specs.declared.context.ContextBinding.{ContextBinding}
 use Rattle.image_spec.specs.Records.{Record, definition, substitute, call, let', switch, create, invoke, literal, op, ifc, clause', print, exit}
 use Rattle.step_rows.specs.declared.Row.{Row}
-use Rattle.step_rows.specs.declared.records.Environment.{Environment}
-use Rattle.step_rows.specs.declared.records.Environment.TheVariants.{Absent, Listed}
 use Rattle.step_rows.specs.Rows.{RowOf}
 
 -- what stands at `at`: a count, and as many elements
@@ -38,7 +36,7 @@ pairs_of (print n v) = []
 pairs_of (exit v) = []
 
 -- the environment of a Create, if it has one
-abbrev pub environment_of : Record → Option Context
+abbrev pub environment_of : Record → Optional Context
 environment_of (definition x Γ) = none
 environment_of (substitute ps) = none
 environment_of (call x Γ) = none
@@ -54,6 +52,6 @@ environment_of (print n v) = none
 environment_of (exit v) = none
 
 -- the IDs of an environment, or that there is none
-pub data EnvironmentRow (bytes : List ℕ) : Environment → Option Context → Type 0 where
-  absent : EnvironmentRow bytes Absent none
-  listed : {row : Row} {Γ : Context} → RowOf bytes row (ids Γ) → EnvironmentRow bytes (Listed row) (some Γ)
+pub data EnvironmentRow (bytes : List ℕ) : Option Row → Optional Context → Type 0 where
+  absent : EnvironmentRow bytes None none
+  listed : {row : Row} {Γ : Context} → RowOf bytes row (ids Γ) → EnvironmentRow bytes (Some row) (some Γ)

@@ -13,7 +13,7 @@ use image_fields::number;
 
 // Numbers at equal distances in bytes: len elements of stride bytes each, the first at from, each with a number of width bytes that stands
 // offset bytes into it.
-#[derive(Clone, Copy)]
+#[derive(Clone, Copy, Debug, PartialEq, Eq)]
 pub struct Row {
     pub from: usize,
     pub stride: usize,
@@ -54,10 +54,7 @@ fn id_at(bytes: &[u8], row: Row, width: usize, j: usize) -> u32
     requires { Inside bytes.now row × (width ≡ row.width) × (j < row.len) }
     ensures { result ≡ (id_at bytes.now row j).0 }
 {
-    let from = row.from;
-    let stride = row.stride;
-    let offset = row.offset;
-    number(bytes, from + stride * j + offset, width)
+    number(bytes, row.from + row.stride * j + row.offset, width)
 }
 
 // The ID at place j.
@@ -65,8 +62,7 @@ pub fn id_of(bytes: &[u8], row: Row, j: usize) -> u32
     requires { Inside bytes.now row × (j < row.len) }
     ensures { result ≡ (id_at bytes.now row j).0 }
 {
-    let width = row.width;
-    id_at(bytes, row, width, j)
+    id_at(bytes, row, row.width, j)
 }
 
 // Is the ID in the row? The width as in id_at.
@@ -74,14 +70,11 @@ fn search(bytes: &[u8], row: Row, width: usize, id: u32) -> bool
     requires { Inside bytes.now row × (width ≡ row.width) }
     ensures { result ≡ elem (identified id) (ids_in bytes.now row) }
 {
-    let len = row.len;
-    let mut j: usize = 0;
-    while j < len {
+    for j in 0..row.len {
         let other = id_at(bytes, row, width, j);
         if id == other {
             return true;
         }
-        j += 1;
     }
     false
 }
@@ -91,12 +84,11 @@ pub fn has(bytes: &[u8], row: Row, id: u32) -> bool
     requires { Inside bytes.now row }
     ensures { result ≡ elem (identified id) (ids_in bytes.now row) }
 {
-    let width = row.width;
-    // The IDs of slots: a loop with a constant for the width.
-    if width == 4 {
+    // The IDs of slots: a loop with a constant for the width, for speed.
+    if row.width == 4 {
         return search(bytes, row, 4, id);
     }
-    search(bytes, row, width, id)
+    search(bytes, row, row.width, id)
 }
 
 // Have two rows the same IDs in the same order?
@@ -104,19 +96,16 @@ pub fn same(bytes: &[u8], row: Row, others: &[u8], other_row: Row) -> bool
     requires { Inside bytes.now row × Inside others.now other_row }
     ensures { result ≡ same_ids (ids_in bytes.now row) (ids_in others.now other_row) }
 {
-    let len = row.len;
     let other_len = other_row.len;
-    if len != other_len {
+    if row.len != other_len {
         return false;
     }
-    let mut j: usize = 0;
-    while j < len {
+    for j in 0..row.len {
         let id = id_of(bytes, row, j);
         let other = id_of(others, other_row, j);
         if id != other {
             return false;
         }
-        j += 1;
     }
     true
 }
@@ -126,15 +115,12 @@ fn all_are(bytes: &[u8], row: Row, others: &[u8], other_row: Row, wanted: bool) 
     requires { Inside bytes.now row × Inside others.now other_row }
     ensures { result ≡ all_are_lem wanted (ids_in bytes.now row) (ids_in others.now other_row) }
 {
-    let len = row.len;
-    let mut j: usize = 0;
-    while j < len {
+    for j in 0..row.len {
         let id = id_of(bytes, row, j);
         let found = has(others, other_row, id);
         if found != wanted {
             return false;
         }
-        j += 1;
     }
     true
 }
@@ -160,15 +146,12 @@ fn differ(bytes: &[u8], row: Row, width: usize) -> bool
     requires { Inside bytes.now row × (width ≡ row.width) }
     ensures { result ≡ «distinct» (ids_in bytes.now row) }
 {
-    let len = row.len;
-    let mut j: usize = 0;
-    while j < len {
+    for j in 0..row.len {
         let id = id_at(bytes, row, width, j);
         let rest = behind(row, j + 1);
         if search(bytes, rest, width, id) {
             return false;
         }
-        j += 1;
     }
     true
 }
@@ -178,10 +161,9 @@ pub fn distinct(bytes: &[u8], row: Row) -> bool
     requires { Inside bytes.now row }
     ensures { result ≡ «distinct» (ids_in bytes.now row) }
 {
-    let width = row.width;
     // The IDs of slots, as in has.
-    if width == 4 {
+    if row.width == 4 {
         return differ(bytes, row, 4);
     }
-    differ(bytes, row, width)
+    differ(bytes, row, row.width)
 }

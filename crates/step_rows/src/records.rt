@@ -11,30 +11,21 @@ ghost use Rattle.step_rows.specs.RecordRows.{bytes_of, AnyBytes, counted_row_lem
 
 use crate::Row;
 use image_directory::Frame;
-use image_fields::count;
 use image_kinds::kinds::Kind;
 use image_read_nodes::list_at;
 use image_read_parts::offset;
-
-// The IDs of a Create's environment, or that it has none.
-#[derive(Clone, Copy)]
-pub enum Environment {
-    Absent,
-    Listed(Row),
-}
 
 // The row behind the count at a place.
 fn counted_row(image: &[u8], at: usize, stride: usize, offset: usize, width: usize) -> Row
     requires { at < length image.now }
     ensures { result ≡ counted_row_lem image.now at stride offset width }
 {
-    let len = count(image[at]);
     Row {
         from: at + 1,
         stride,
         offset,
         width,
-        len,
+        len: usize::from(image[at]),
     }
 }
 
@@ -78,15 +69,14 @@ pub fn source_row(image: &[u8], frame: Frame, i: usize) -> Row
 }
 
 // The IDs of the environment of the Create at index i, if it has one.
-pub fn environment_row(image: &[u8], frame: Frame, i: usize) -> Environment
+pub fn environment_row(image: &[u8], frame: Frame, i: usize) -> Option<Row>
     requires { At frame image.now i 6 }
     ensures { EnvironmentRow image.now result (environment_of (record_at frame image.now i)) }
 {
     let w = frame.id;
     let at = tail_at(image, frame, i, Kind::CREATE);
     if image[at] == 0 {
-        return Environment::Absent;
+        return None;
     }
-    let row = counted_row(image, at + 1, 6 + (w + w), 2, w);
-    Environment::Listed(row)
+    Some(counted_row(image, at + 1, 6 + (w + w), 2, w))
 }

@@ -1,4 +1,5 @@
 -- Where the machine's step leads, in slots; and that what is then written is that step. Assumes nothing.
+use Rattle.std.specs.Prelude.{Result, Ok, Err}
 use Prim.Native.Nat.{ℕ, ◌+◌, ◌-◌, ◌*◌, ◌≤◌}
 use mathlib.Core.Path.{◌≡◌, refl, sym, ap, ap₂, ◌∙◌, subst}
 use mathlib.Core.Bool.{Bool, true, false, ◌&&◌}
@@ -20,22 +21,22 @@ use Rattle.step_spec.specs.Events.{shown_bytes}
 use Rattle.step_spec.specs.Calls.{has_room_lem}
 use Rattle.step_header.specs.declared.Header.{Header}
 use Rattle.step_header.specs.Headers.{tuple_of, heap_in, entries_in}
-use Rattle.step_write.specs.declared.Made.{Made}
-use Rattle.step_write.specs.declared.Made.TheVariants.{Step}
+use Rattle.step_write.specs.declared.Step.{Step}
+use Rattle.step_write.specs.declared.Stop.{Stop}
 use Rattle.step_write.specs.Writing.{size, room_for, Sealed, Finishes, finished, finished-full}
 use Rattle.step_rule.specs.Rules.{Stored, resting, Makes, no_room, one-step}
 use Rattle.step_rule.proofs.Views.{viewed}
 use Rattle.step_rule.proofs.Written.{region}
 
 -- a header whose stopped flag is clear
-abbrev pub headed : (position ended cells heap entries : ℕ) → Header
-headed p e c k n = record { position = p; ended = e; stopped = 0; cells = c; heap = k; entries = n }
+abbrev pub headed : (position : ℕ) (ended : Bool) (cells heap entries : ℕ) → Header
+headed p e c k n = record { position = p; ended = e; stopped = false; cells = c; heap = k; entries = n }
 
 -- .. is that of a state
-pub heads_as : {p e c k n : ℕ} (l : Located) → p ≡ l.position → e ≡ bit l.has_ended → l.has_stopped ≡ false → c ≡ length l.cells → k ≡ length (heap_of l.cells)
+pub heads_as : {p : ℕ} {e : Bool} {c k n : ℕ} (l : Located) → p ≡ l.position → e ≡ l.has_ended → l.has_stopped ≡ false → c ≡ length l.cells → k ≡ length (heap_of l.cells)
     → n ≡ length (environment_of l.cells l.environment) → tuple_of (headed p e c k n) ≡ header_of (raw_of l)
 unfolding raw_of
-heads_as l a b s c d e = λ i. (a i, (b i, (ap bit (sym s) i, (tt, (c i, (d i, (e i, tt)))))))
+heads_as l a b s c d e = λ i. (a i, (bit (b i), (bit (sym s i), (tt, (c i, (d i, (e i, tt)))))))
 
 -- the step from l, which the store has with the header h, shows these bytes and leads to the state with this header, with these new slots behind those
 -- of the cells and this environment
@@ -75,13 +76,13 @@ module _ {M : Machine} {P : Prog} {store : List ℕ} {h : Header} {l : Located} 
 
     -- what is written is the step, where the first j entries of the environment stay
     pub leads-makes : (j : ℕ) → j ≤ h.entries → {from : ℕ} {written : List ℕ} → from ≡ 64 + 16 * (h.heap + j)
-        → each slot_bytes (new ++ environment) ≡ each slot_bytes (take j (entries_in store h)) ++ written → {store' events' : List ℕ} {m : Made}
+        → each slot_bytes (new ++ environment) ≡ each slot_bytes (take j (entries_in store h)) ++ written → {store' events' : List ℕ} {m : Result Step Stop}
         → Finishes store events at header shown from written store' events' m → Makes store events at (resting (located_step M P l)) store' events' m
     leads-makes j within {from} {written} f e (finished-full r) = rw w.step (no_room (room_is ∙ r))
     leads-makes j within {from} {written} f e {store'} {events'} {m} (finished r s) =
         let v = viewed o in
         let a = region store h v.heap_slots v.entries_slots j within from written
         (header_bytes (tuple_of header)) new environment f refl e in
-        let made : Makes store events at (some (w.event, w.next)) store' events' (Step header (at + length shown)) =
+        let made : Makes store events at (some (w.event, w.next)) store' events' (Ok (record { header = header; at = at + length shown })) =
         one-step (room_is ∙ r) (s.headed ∙ (a ∙ ap (sets store 0) (sym state-bytes))) (s.shows ∙ ap (sets events at) (sym w.shows)) w.heads (ap (λ (z : List ℕ). at + length z) (sym w.shows)) in
-        rw w.step (subst (λ (z : Made). Makes store events at (some (w.event, w.next)) store' events' z) (sym s.made) made)
+        rw w.step (subst (λ (z : Step). Makes store events at (some (w.event, w.next)) store' events' (Ok z)) (sym s.made) made)

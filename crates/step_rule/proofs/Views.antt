@@ -1,7 +1,7 @@
 -- What code sees of a store that is read as a state: the slots of its cells and of its environment, where the header says. Assumes nothing.
 use Prim.Native.Nat.{ℕ, ◌+◌, ◌*◌, ◌≤◌}
 use mathlib.Core.Path.{◌≡◌, refl, sym, ap, ap₂, ◌∙◌, subst}
-use mathlib.Core.Bool.{true}
+use mathlib.Core.Bool.{Bool, true, false}
 use mathlib.Core.List.{List, [], ◌∷◌, ◌++◌, append_assoc}
 use mathlib.Core.Option.{some}
 use native.Mathlib.Omega.{arith}
@@ -16,7 +16,7 @@ use Rattle.step_slots.specs.Views.{slots_at, is_slot, all_slots}
 use Rattle.step_slots.proofs.SlotLaws.{past, slots-stand}
 use Rattle.step_slots.proofs.SlotBytes.{slots_length}
 use Rattle.step_spec.specs.Located.{Machine, Located}
-use Rattle.step_spec.specs.Store.{heap_of, environment_of, header_of, header_bytes, raw_of, raw_bytes, store_bytes, Fits}
+use Rattle.step_spec.specs.Store.{heap_of, environment_of, bit, header_of, header_bytes, raw_of, raw_bytes, store_bytes, Fits}
 use Rattle.step_spec.proofs.OneToOne.{Stores, only_its_bytes}
 use Rattle.step_header.specs.declared.Header.{Header}
 use Rattle.step_header.specs.Headers.{tuple_of, heap_in, entries_in, Holds}
@@ -27,8 +27,17 @@ fit-slots : (ts : List Slot) → All SlotOk ts → all_slots ts ≡ true
 fit-slots [] o = refl
 fit-slots (t ∷ ts) o = rw (le-leb t.sort 4 o.0.0) (fit-slots ts o.1)
 
+-- a flag is known by its byte
+bit_same : (b c : Bool) → bit b ≡ bit c → b ≡ c
+bit_same true true e = refl
+bit_same false false e = refl
+bit_same true false e = absurd (omega (arith, e))
+bit_same false true e = absurd (omega (arith, e))
+
 pub record Viewed (P : Prog) (store : List ℕ) (h : Header) (l : Located) : Type 0 where
   pub position : h.position ≡ l.position
+  pub ended : h.ended ≡ l.has_ended
+  pub stopped : h.stopped ≡ l.has_stopped
   pub cells : h.cells ≡ length l.cells
   pub heap : heap_in store h ≡ heap_of l.cells
   pub entries : entries_in store h ≡ environment_of l.cells l.environment
@@ -61,6 +70,8 @@ module _ {P : Prog} {store : List ℕ} {h : Header} {l : Located} where
       ap₂ {C = List Slot} (λ (i j : ℕ). slots_at store (64 + 16 * i) j) k n ∙ slots-stand store _ (environment_of l.cells l.environment) s.rest s.slots.environment r in
       record {
         position = ap (λ x. x.0) o.heads;
+        ended = bit_same h.ended l.has_ended (ap (λ x. x.1.0) o.heads);
+        stopped = bit_same h.stopped l.has_stopped (ap (λ x. x.1.1.0) o.heads);
         cells = ap (λ x. x.1.1.1.1.0) o.heads;
         heap = H;
         entries = N;

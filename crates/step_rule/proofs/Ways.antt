@@ -60,7 +60,7 @@ module _ {M : Machine} {P : Prog} {store : List ℕ} {h : Header} {l : Located} 
   module _ (t : Stmt) (ε : Entries) {p n : ℕ} {environment : List Slot} where
     -- to a statement, with the cells that were there
     pub lead_same : (e : Event) → M.step P (project P l) ≡ shows e (at t ε K) → p ≡ next_place_lem P l (some e) → n ≡ length environment → environment_of l.cells ε ≡ environment
-        → Leads M P l store h (event_bytes e) (headed p 0 h.cells h.heap n) [] environment
+        → Leads M P l store h (event_bytes e) (headed p false h.cells h.heap n) [] environment
     lead_same e s q k v = record {
       event = some e;
       next = record { position = next_place_lem P l (some e); environment = ε; cells = l.cells; has_ended = false; has_stopped = false };
@@ -73,7 +73,7 @@ module _ {M : Machine} {P : Prog} {store : List ℕ} {h : Header} {l : Located} 
 
     -- .. of a Substitute
     pub lead_silent : M.step P (project P l) ≡ silent (at t ε K) → p ≡ next_place_lem P l none → n ≡ length environment → environment_of l.cells ε ≡ environment
-        → Leads M P l store h [] (headed p 0 h.cells h.heap n) [] environment
+        → Leads M P l store h [] (headed p false h.cells h.heap n) [] environment
     lead_silent s q k v = record {
       event = none;
       next = record { position = next_place_lem P l none; environment = ε; cells = l.cells; has_ended = false; has_stopped = false };
@@ -88,7 +88,7 @@ module _ {M : Machine} {P : Prog} {store : List ℕ} {h : Header} {l : Located} 
     pub lead_made : (e : Event) (c : Cell) {m : ℕ} {new : List Slot} → M.step P (project P l) ≡ shows e (at t ε (K ++ (c ∷ []))) → p ≡ next_place_lem P l (some e) → n ≡ length environment
         → environment_of (l.cells ++ (keep l.position c ∷ [])) ε ≡ environment
         → each block_slots (blocks_of (place_of (l.cells ++ (keep l.position c ∷ []))) (length l.cells) (keep l.position c ∷ [])) ≡ new → m ≡ length new
-        → Leads M P l store h (event_bytes e) (headed p 0 (h.cells + 1) (h.heap + m) n) new environment
+        → Leads M P l store h (event_bytes e) (headed p false (h.cells + 1) (h.heap + m) n) new environment
     lead_made e c {m} {new} s q k v b w =
         let made = keep l.position c ∷ [] in
         let g : heap_of (l.cells ++ made) ≡ heap_of l.cells ++ new = heap-grows P l.cells made (viewed o).fits.cells ∙ ap (λ (z : List Slot). heap_of l.cells ++ z) b in
@@ -105,7 +105,7 @@ module _ {M : Machine} {P : Prog} {store : List ℕ} {h : Header} {l : Located} 
 
   -- to the end: nothing else changes
   pub lead_ended : (t : Stmt) (e : Event) {p : ℕ} {environment : List Slot} → M.step P (project P l) ≡ shows e (ended t l.environment K) → p ≡ next_place_lem P l (some e)
-      → environment_of l.cells l.environment ≡ environment → Leads M P l store h (event_bytes e) (headed p 1 h.cells h.heap h.entries) [] environment
+      → environment_of l.cells l.environment ≡ environment → Leads M P l store h (event_bytes e) (headed p true h.cells h.heap h.entries) [] environment
   lead_ended t e s q v = record {
     event = some e;
     next = record { position = next_place_lem P l (some e); environment = l.environment; cells = l.cells; has_ended = true; has_stopped = false };

@@ -1,5 +1,5 @@
 -- One step of a machine on a store: what is known before it, and what it must have done.
-use Rattle.std.specs.Prelude.{ℕ, ◌+◌, ◌-◌, ◌*◌, ◌^◌, ◌≤◌, ◌<◌, ◌≡◌, true, false, cond, List, length}
+use Rattle.std.specs.Prelude.{ℕ, ◌+◌, ◌-◌, ◌*◌, ◌^◌, ◌≤◌, ◌<◌, ◌≡◌, true, false, cond, List, length, Result, Ok, Err}
 use Rattle.std.proofs.Math.Option.{Option, none, some}
 use Rattle.std.proofs.lemmas.List.Edits.{sets}
 use Rattle.model.specs.Syntax.{Prog}
@@ -14,8 +14,9 @@ use Rattle.step_header.specs.declared.Header.{Header}
 use Rattle.image_read_nodes.specs.Nodes.{At}
 use Rattle.step_header.specs.Headers.{tuple_of, Holds}
 use Rattle.step_rule.specs.declared.Stepper.{Stepper}
-use Rattle.step_write.specs.declared.Made.{Made}
-use Rattle.step_write.specs.declared.Made.TheVariants.{Nothing, Full, Step}
+use Rattle.step_write.specs.declared.Step.{Step}
+use Rattle.step_write.specs.declared.Stop.{Stop}
+use Rattle.step_write.specs.declared.Stop.TheVariants.{NoStep, NoRoom}
 
 -- the program of an image that was opened
 pub record ProgramOf (P : Prog) (stepper : Stepper) (bytes : List ℕ) : Type 0 where
@@ -48,14 +49,15 @@ resting none = none
 resting (some r) = some (r.0, going' r.1)
 
 -- what is done for the machine's step: nothing where there is none; nothing where it has no room; else state and event are written
-pub data Makes (store events : List ℕ) (at : ℕ) : Option Stepped → (store' events' : List ℕ) → Made → Type 0 where
-  no_step : Makes store events at none store events Nothing
-  no_room : {r : Stepped} → has_room_lem r store (length events - at) ≡ false → Makes store events at (some r) store events Full
-  one-step : {r : Stepped} {store' events' : List ℕ} {h : Header} {n : ℕ} → has_room_lem r store (length events - at) ≡ true → store' ≡ sets store 0 (store_bytes r.1)
-      → events' ≡ sets events at (shown_bytes r.0) → tuple_of h ≡ header_of (raw_of r.1) → n ≡ at + length (shown_bytes r.0) → Makes store events at (some r) store' events' (Step h n)
+pub data Makes (store events : List ℕ) (at : ℕ) : Option Stepped → (store' events' : List ℕ) → Result Step Stop → Type 0 where
+  no_step : Makes store events at none store events (Err NoStep)
+  no_room : {r : Stepped} → has_room_lem r store (length events - at) ≡ false → Makes store events at (some r) store events (Err NoRoom)
+  one-step : {r : Stepped} {store' events' : List ℕ} {step : Step} → has_room_lem r store (length events - at) ≡ true → store' ≡ sets store 0 (store_bytes r.1)
+      → events' ≡ sets events at (shown_bytes r.0) → tuple_of step.header ≡ header_of (raw_of r.1) → step.at ≡ at + length (shown_bytes r.0)
+      → Makes store events at (some r) store' events' (Ok step)
 
 -- .. whatever program and state they are
-pub record MakesAs (M : Machine) (stepper : Stepper) (bytes store events : List ℕ) (h : Header) (at : ℕ) (store' events' : List ℕ) (m : Made) : Type 0 where
+pub record MakesAs (M : Machine) (stepper : Stepper) (bytes store events : List ℕ) (h : Header) (at : ℕ) (store' events' : List ℕ) (m : Result Step Stop) : Type 0 where
   pub makes : (P : Prog) (l : Located) → ProgramOf P stepper bytes → Stored M P store h l → Makes store events at (resting (located_step M P l)) store' events' m
 
 -- what a rule for a statement of this kind is given: the record at the position, a store that has what its header says, a place in the event buffer,

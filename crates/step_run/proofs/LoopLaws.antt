@@ -1,4 +1,5 @@
 -- The loop over steps: its start, its next turn, its ends. Assumes nothing.
+use Rattle.std.specs.Prelude.{Result, Ok, Err}
 use Prim.Native.Nat.{ℕ, ◌+◌, ◌-◌, ◌≤◌, ◌<◌}
 use mathlib.Core.Path.{◌≡◌, refl, sym, ap, ◌∙◌, subst}
 use mathlib.Core.Bool.{Bool, true, false}
@@ -19,21 +20,27 @@ use Rattle.step_spec.specs.Calls.{Progress, stays, has_room_lem, making}
 use Rattle.step_spec.proofs.Sound.{Lawful}
 use Rattle.step_header.specs.declared.Header.{Header}
 use Rattle.step_header.specs.Headers.{tuple_of}
-use Rattle.step_write.specs.declared.Made.{Made}
-use Rattle.step_write.specs.declared.Made.TheVariants.{Nothing, Full, Step}
+use Rattle.step_write.specs.declared.Step.{Step}
+use Rattle.step_write.specs.declared.Stop.{Stop}
+use Rattle.step_write.specs.declared.Stop.TheVariants.{NoStep, NoRoom}
 use Rattle.step_rule.specs.declared.Stepper.{Stepper}
 use Rattle.step_rule.specs.Rules.{Makes, no_step, no_room, one-step}
 use Rattle.step_turn.specs.Turning.{Living, Lives, Advances}
-use Rattle.step_turn.proofs.Turns.{NoStep, made_nothing, NoRoom, made-full, MadeStep}
+use Rattle.step_turn.proofs.Turns.{made_nothing, made-full, MadeStep}
 use Rattle.step_turn.proofs.TurnLaws.{made-living}
 use Rattle.step_run.specs.declared.Ran.{Ran}
 use Rattle.step_run.specs.Runs.{Did, Runs}
 use Rattle.step_run.proofs.RunLaws.{preceded, Running, running_none, same-events, running-all, running_none-left, running-full, running-next}
 
 -- a turn by what it answered
-pub advances_as : {M : Machine} {stepper : Stepper} {bytes store events : List ℕ} {h : Header} {at : ℕ} {store' events' : List ℕ} {m k : Made} → Advances M stepper bytes store events h at store' events' m
+pub advances_as : {M : Machine} {stepper : Stepper} {bytes store events : List ℕ} {h : Header} {at : ℕ} {store' events' : List ℕ} {m k : Result Step Stop} → Advances M stepper bytes store events h at store' events' m
     → m ≡ k → Advances M stepper bytes store events h at store' events' k
 advances_as {M} {stepper} {bytes} {store} {events} {h} {at} {store'} {events'} a e = subst (Advances M stepper bytes store events h at store' events') e a
+
+-- is it for want of room that there is no step?
+abbrev pub is_full : Stop → Bool
+is_full NoStep = false
+is_full NoRoom = true
 
 -- where a call ends
 did_as : {M : Machine} {P : Prog} {n : ℕ} {first : Located} {store₀ events₀ : List ℕ} {i : ℕ} {l : Located} {store events : List ℕ} {at : ℕ} {shown : List ℕ} {f : Bool} {store' events' : List ℕ} {k : ℕ}
@@ -71,11 +78,11 @@ module _ {M : Machine} (lawful : Lawful M) (stepper : Stepper) (bytes : List ℕ
   }
 
   module _ {i : ℕ} {store events : List ℕ} {h : Header} {at : ℕ} (g : Going i store events h at) (below : i < n) {store' events' : List ℕ} where
-    event-room : {h' : Header} {at' : ℕ} {l : Option Stepped} (m : MadeStep store events at l store' events' h' at') → length (shown_bytes m.what.0) ≤ length events - at
+    event-room : {step : Step} {o : Option Stepped} (m : MadeStep store events at o store' events' step) → length (shown_bytes m.what.0) ≤ length events - at
     event-room m = leb-true _ _ (and_right (leb (length (store_bytes m.what.1)) (length store)) (leb (length (shown_bytes m.what.0)) (length events - at)) m.room)
 
-    pub going_next : {h' : Header} {at' : ℕ} → Advances M stepper bytes store events h at store' events' (Step h' at') → Going (i + 1) store' events' h' at'
-    going_next {h'} {at'} a =
+    pub going_next : {step : Step} → Advances M stepper bytes store events h at store' events' (Ok step) → Going (i + 1) store' events' step.header step.at
+    going_next a =
         let w = g.lives in
         let x = made-living lawful w.living (a.advances w.program w.state w.living) in
         record {
@@ -96,7 +103,7 @@ module _ {M : Machine} (lawful : Lawful M) (stepper : Stepper) (bytes : List ℕ
         }
 
     -- the run has no next step, or none for which there is room: what the call says
-    pub going-ends : (k : ℕ) → k ≡ i → Advances M stepper bytes store events h at store' events' Nothing
+    going-ends : (k : ℕ) → k ≡ i → Advances M stepper bytes store events h at store' events' (Err NoStep)
         → Runs M stepper bytes n store₀ events₀ h₀ store' events' (record { steps = k; length = at; full = false })
     going-ends k q a = record {
       runs = λ P first v.
@@ -105,7 +112,7 @@ module _ {M : Machine} (lawful : Lawful M) (stepper : Stepper) (bytes : List ℕ
           did_as r.running (running_none-left M P n first store₀ events₀ r.running below m.none_is) m.store_same m.events-same q;
     }
 
-    pub going_fills : (k : ℕ) → k ≡ i → Advances M stepper bytes store events h at store' events' Full
+    going_fills : (k : ℕ) → k ≡ i → Advances M stepper bytes store events h at store' events' (Err NoRoom)
         → Runs M stepper bytes n store₀ events₀ h₀ store' events' (record { steps = k; length = at; full = true })
     going_fills k q a = record {
       runs = λ P first v.
@@ -114,6 +121,12 @@ module _ {M : Machine} (lawful : Lawful M) (stepper : Stepper) (bytes : List ℕ
           let e = same-events M P n first store₀ events₀ r.running in
           did_as r.running (running-full M P n first store₀ events₀ r.running below m.what m.is (ap (λ (k : ℕ). has_room_lem m.what store (k - at)) (sym e) ∙ m.room)) m.store_same m.events-same q;
     }
+
+    -- .. by what kept it from the step
+    pub going-stops : (k : ℕ) → k ≡ i → (e : Stop) {full : Bool} → full ≡ is_full e → Advances M stepper bytes store events h at store' events' (Err e)
+        → Runs M stepper bytes n store₀ events₀ h₀ store' events' (record { steps = k; length = at; full = full })
+    going-stops k q NoStep {full} f a = subst (λ (b : Bool). Runs M stepper bytes n store₀ events₀ h₀ store' events' (record { steps = k; length = at; full = b })) (sym f) (going-ends k q a)
+    going-stops k q NoRoom {full} f a = subst (λ (b : Bool). Runs M stepper bytes n store₀ events₀ h₀ store' events' (record { steps = k; length = at; full = b })) (sym f) (going_fills k q a)
 
   -- all steps are made
   pub going-all : {i : ℕ} {store events : List ℕ} {h : Header} {at : ℕ} (k : ℕ) → k ≡ i → n ≤ i → Going i store events h at

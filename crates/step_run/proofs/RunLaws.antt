@@ -18,8 +18,6 @@ use Rattle.step_spec.specs.Events.{shown_bytes}
 use Rattle.step_spec.specs.Calls.{Progress, stays, one_more_lem, has_room_lem, if_room, onward, making}
 use Rattle.step_header.specs.declared.Header.{Header}
 use Rattle.step_header.specs.Headers.{tuple_of}
-use Rattle.step_write.specs.declared.Made.{Made}
-use Rattle.step_write.specs.declared.Made.TheVariants.{Nothing, Full, Step}
 use Rattle.step_rule.specs.Rules.{Makes, no_step, no_room, one-step}
 
 -- so many steps with these bytes come before

@@ -9,7 +9,7 @@ ghost use Rattle.step_run.specs.Runs.{Runs};
 use step_header::Header;
 use step_rule::Stepper;
 use step_turn::advance;
-use step_write::Made;
+use step_write::Stop;
 
 // How many steps were made, how many bytes their events took, and whether the next one had no room.
 #[derive(Clone, Copy)]
@@ -36,36 +36,24 @@ pub fn run(
     ensures { Runs (machine_in stepper) stepper image.now steps store.old events.old header store.new events.new result }
 {
     let mut here = header;
-    let mut at: usize = 0;
-    let mut made: u64 = 0;
-    while made < steps {
+    let mut at = 0;
+    for made in 0..steps {
         match advance(image, stepper, ends, store, events, scratch, here, at, sure) {
-            Made::Nothing => {
+            Ok(step) => {
+                here = step.header;
+                at = step.at;
+            }
+            Err(stop) => {
                 return Ran {
                     steps: made,
                     length: at,
-                    full: false,
+                    full: stop == Stop::NoRoom,
                 };
-            }
-            Made::Full => {
-                return Ran {
-                    steps: made,
-                    length: at,
-                    full: true,
-                };
-            }
-            Made::Step {
-                header: next,
-                at: end,
-            } => {
-                here = next;
-                at = end;
-                made += 1;
             }
         }
     }
     Ran {
-        steps: made,
+        steps,
         length: at,
         full: false,
     }

@@ -1,5 +1,4 @@
 -- One pass over the slots of a store: kinds of records, a value, the turn of the loops. Assumes nothing.
-use Rattle.std.specs.Prelude.{Option, Some, None}
 use Prim.Native.Nat.{ℕ, zero, suc, ◌+◌, ◌-◌, ◌*◌, ◌^◌, ◌≤◌, ◌<◌}
 use mathlib.Core.Path.{◌≡◌, refl, sym, ap, ap₂, ◌∙◌}
 use mathlib.Core.Bool.{Bool, true, false, not, ◌&&◌, cond}
@@ -10,9 +9,7 @@ use borrow.Author.Tests.{le-leb, lt-leb, lt-ltb, le-ltb, eq-eqb, ne_eqb}
 use lib.Dec.{leb, ltb, eqb}
 use lib.ListN.{length, drop}
 use Rattle.model.specs.Syntax.{Prog}
-use Rattle.image_spec.specs.Records.{Record, definition, substitute, call, let', switch, create, invoke, literal, op, ifc, clause', print, exit}
-use Rattle.image_shape.specs.declared.Node.{Node}
-use Rattle.image_shape.specs.Nodes.{node_of}
+use Rattle.image_spec.specs.Records.{Record}
 use Rattle.step_slots.specs.declared.Slot.{Slot}
 use Rattle.step_slots.specs.Slots.{is_cell_lem}
 use Rattle.step_slots.specs.Views.{slot_at, slots_at, is_slot, all_slots}
@@ -21,61 +18,10 @@ use Rattle.step_spec.specs.Scan.{held_ok, head_ok, scan}
 use Rattle.step_spec.proofs.Scans.{scanned}
 use Rattle.image_directory.specs.declared.Frame.{Frame}
 use Rattle.image_directory.specs.Slots as image
-use Rattle.step_scan.specs.Pass.{Of, kind_in, pass}
+use Rattle.step_scan.specs.Pass.{Of, pass}
 
--- ── kinds of records ──
+-- ── kinds of records, of the program whose records they are ──
 
-abbrev pub kind_of_node : Option Node → ℕ
-kind_of_node None = 0
-kind_of_node (Some n) = n.kind
-
-pub node_kind : (rs : List Record) → kind_of_node (node_of rs) ≡ kind_in rs
-node_kind [] = refl
-node_kind (r ∷ rs) = refl
-
-pub statement-kind : (rs : List Record) → first_record is_a_statement rs ≡ leb 2 (kind_in rs) && not (eqb (kind_in rs) 11)
-statement-kind [] = refl
-statement-kind (definition x Γ ∷ rs) = refl
-statement-kind (substitute ps ∷ rs) = refl
-statement-kind (call x Γ ∷ rs) = refl
-statement-kind (let' v t g Γ ∷ rs) = refl
-statement-kind (switch v t n ∷ rs) = refl
-statement-kind (create v t e n ∷ rs) = refl
-statement-kind (invoke v g t Γ ∷ rs) = refl
-statement-kind (literal z v ∷ rs) = refl
-statement-kind (op f o s v ∷ rs) = refl
-statement-kind (ifc c f s ∷ rs) = refl
-statement-kind (clause' x Γ ∷ rs) = refl
-statement-kind (print n v ∷ rs) = refl
-statement-kind (exit v ∷ rs) = refl
-
-pub create-kind : (rs : List Record) → first_record is_a_create rs ≡ eqb (kind_in rs) 6
-create-kind [] = refl
-create-kind (definition x Γ ∷ rs) = refl
-create-kind (substitute ps ∷ rs) = refl
-create-kind (call x Γ ∷ rs) = refl
-create-kind (let' v t g Γ ∷ rs) = refl
-create-kind (switch v t n ∷ rs) = refl
-create-kind (create v t e n ∷ rs) = refl
-create-kind (invoke v g t Γ ∷ rs) = refl
-create-kind (literal z v ∷ rs) = refl
-create-kind (op f o s v ∷ rs) = refl
-create-kind (ifc c f s ∷ rs) = refl
-create-kind (clause' x Γ ∷ rs) = refl
-create-kind (print n v ∷ rs) = refl
-create-kind (exit v ∷ rs) = refl
-
--- what is answered for the kind k that was read at j, which is i
-pub no-statement : (rs : List Record) (i j k : ℕ) → j ≡ i → k ≡ kind_in (drop j rs) → k < 2 → false ≡ first_record is_a_statement (drop i rs)
-no-statement rs i j k e f h = sym (statement-kind (drop i rs) ∙ rw (← e, ← f, lt-leb 2 k h) refl)
-
-pub is_statement_lem : (rs : List Record) (i j k : ℕ) → j ≡ i → k ≡ kind_in (drop j rs) → 2 ≤ k → not (eqb k 11) ≡ first_record is_a_statement (drop i rs)
-is_statement_lem rs i j k e f h = sym (statement-kind (drop i rs) ∙ rw (← e, ← f, le-leb 2 k h) refl)
-
-pub create-read : (rs : List Record) (i j k : ℕ) → j ≡ i → k ≡ kind_in (drop j rs) → eqb k 6 ≡ first_record is_a_create (drop i rs)
-create-read rs i j k e f = sym (create-kind (drop i rs) ∙ rw (← e, ← f) refl)
-
--- .. of the program whose records they are
 pub create-of : {P : Prog} {g : Frame} {s : List ℕ} (i : ℕ) → Of P g s → first_record is_a_create (drop i (image.records_in g s)) ≡ create_at P i
 unfolding create_at
 create-of i o = ap (λ (rs : List Record). first_record is_a_create (drop i rs)) o.records

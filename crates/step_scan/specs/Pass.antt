@@ -1,8 +1,6 @@
 -- Question 14 of the slots of cells as code asks it, in one pass; and the state that a store with a header is seen as.
 use Rattle.std.specs.Prelude.{ℕ, suc, ◌≡◌, Bool, ◌&&◌, cond, List, [], ◌∷◌, eqb}
 use Rattle.model.specs.Syntax.{Prog}
-use Rattle.image_spec.specs.Records.{Record}
-use Rattle.image_spec.specs.Kinds.{kind_of}
 use Rattle.image_directory.specs.declared.Frame.{Frame}
 use Rattle.image_directory.specs.Slots as image
 use Rattle.step_slots.specs.declared.Slot.{Slot}
@@ -17,11 +15,6 @@ use Rattle.step_header.specs.Headers.{tuple_of, heap_in, entries_in}
 -- the image's records are the program's
 pub record Of (P : Prog) (g : Frame) (s : List ℕ) : Type 0 where
   pub records : image.records_in g s ≡ records_in P
-
--- the kind of the first record; 0 where there is none
-abbrev pub kind_in : List Record → ℕ
-kind_in [] = 0
-kind_in (r ∷ rs) = kind_of r
 
 module _ (P : Prog) (heap : List Slot) (cells : ℕ) where
   -- k cells have begun, the last of this sort

@@ -1,7 +1,7 @@
 // Question 14: is a store the bytes of a state? One pass over its slots.
 #![tactic(auto)]
 
-ghost use Rattle.std.specs.Prelude.{◌≡◌, List, ◌+◌, ◌*◌, ◌≤◌, ◌<◌, length, drop};
+ghost use Rattle.std.specs.Prelude.{◌≡◌, List, ◌+◌, ◌*◌, ◌≤◌, length, drop};
 ghost use Rattle.model.specs.Syntax.{Prog};
 ghost use Rattle.image_directory.specs.Slots.{Ready, records_in};
 ghost use Rattle.step_slots.specs.Slots.{is_cell_lem};
@@ -9,42 +9,31 @@ ghost use Rattle.step_slots.specs.Views.{slots_at};
 ghost use Rattle.step_slots.specs.declared.Slot as view;
 ghost use Rattle.step_spec.specs.Store.{first_slot, first_record, is_a_statement, is_a_create, entry_ok, every_slot};
 ghost use Rattle.step_spec.specs.Scan.{head_ok, held_ok};
-ghost use Rattle.step_scan.specs.Pass.{Of, kind_in, pass};
+ghost use Rattle.step_scan.specs.Pass.{Of, pass};
 
-use image_directory::{Frame, long};
+use image_directory::Frame;
 use image_kinds::kinds::Kind;
 use image_shape::look;
-use step_header::place;
 use step_slots::{Slot, read};
-
-// The kind of the record at index i; 0 where there is none.
-fn kind_at(image: &[u8], frame: Frame, i: usize) -> u8
-    requires { Ready frame image.now }
-    ensures { result ≡ kind_in (drop i (records_in frame image.now)) }
-{
-    match look(image, frame, i) {
-        Some(node) => node.kind,
-        None => 0,
-    }
-}
 
 pub fn is_statement(image: &[u8], frame: Frame, i: u32) -> bool
     requires { Ready frame image.now }
     ensures { result ≡ first_record is_a_statement (drop i (records_in frame image.now)) }
 {
-    let k = kind_at(image, frame, long(i));
-    if k < Kind::SUBSTITUTE {
-        return false;
+    match look(image, frame, i as usize) {
+        Some(node) => Kind::SUBSTITUTE <= node.kind && node.kind != Kind::CLAUSE,
+        None => false,
     }
-    k != Kind::CLAUSE
 }
 
 fn is_create(image: &[u8], frame: Frame, i: u32) -> bool
     requires { Ready frame image.now }
     ensures { result ≡ first_record is_a_create (drop i (records_in frame image.now)) }
 {
-    let k = kind_at(image, frame, long(i));
-    k == Kind::CREATE
+    match look(image, frame, i as usize) {
+        Some(node) => node.kind == Kind::CREATE,
+        None => false,
+    }
 }
 
 // Is it the place of a cell's slot?
@@ -52,13 +41,8 @@ fn is_cell(store: &[u8], heap: usize, p: u64) -> bool
     requires { 64 + 16 * heap ≤ length store.now }
     ensures { result ≡ first_slot «is_cell_lem» (drop p (slots_at store.now 64 heap)) }
 {
-    let i = place(p);
-    if heap <= i {
-        return false;
-    }
-    let t = read(store, 64 + 16 * i);
-    let sort = t.sort;
-    3 <= sort
+    let i = p as usize;
+    i < heap && 3 <= read(store, 64 + 16 * i).sort
 }
 
 // Is it a value: an integer, a cell by the place of its slot, or an outside number?
@@ -66,18 +50,12 @@ fn value_ok(store: &[u8], heap: usize, t: Slot) -> bool
     requires { 64 + 16 * heap ≤ length store.now }
     ensures { (P : Prog) → result ≡ entry_ok P (slots_at store.now 64 heap) t }
 {
-    let sort = t.sort;
-    let payload = t.payload;
-    if sort == 0 {
-        return true;
+    match t.sort {
+        0 => true,
+        1 => is_cell(store, heap, t.payload),
+        2 => t.payload < 256,
+        _ => false,
     }
-    if sort == 1 {
-        return is_cell(store, heap, payload);
-    }
-    if sort == 2 {
-        return payload < 256;
-    }
-    false
 }
 
 // May a cell whose own slot is of sort f hold it?
@@ -85,17 +63,11 @@ fn held_ok(store: &[u8], heap: usize, f: u8, t: Slot) -> bool
     requires { 64 + 16 * heap ≤ length store.now }
     ensures { (P : Prog) → result ≡ held_ok P (slots_at store.now 64 heap) f t }
 {
-    let id = t.id;
-    if f == 0 {
-        return false;
+    match f {
+        0 => false,
+        3 => t.id == 0 && value_ok(store, heap, t),
+        _ => value_ok(store, heap, t),
     }
-    if f == 3 {
-        if id == 0 {
-            return value_ok(store, heap, t);
-        }
-        return false;
-    }
-    value_ok(store, heap, t)
 }
 
 // Has a cell's own slot a tag, or the place of a Create?
@@ -103,12 +75,10 @@ fn head_ok(image: &[u8], frame: Frame, t: Slot) -> bool
     requires { Ready frame image.now }
     ensures { (P : Prog) (heap : List view.Slot) → Of P frame image.now → result ≡ head_ok P heap t }
 {
-    let sort = t.sort;
-    let id = t.id;
-    if sort == 3 {
-        return id < 65536;
+    if t.sort == 3 {
+        return t.id < 65536;
     }
-    is_create(image, frame, id)
+    is_create(image, frame, t.id)
 }
 
 // The slots of the cells: numbered from 0, with what each may hold, and as many as the header says.
@@ -118,31 +88,19 @@ pub fn cells_ok(image: &[u8], frame: Frame, store: &[u8], cells: u64, heap: usiz
 {
     let mut k: u64 = 0;
     let mut f: u8 = 0;
-    let mut i: usize = 0;
-    while i < heap {
+    for i in 0..heap {
         let t = read(store, 64 + 16 * i);
-        let sort = t.sort;
-        let number = t.payload;
-        if 4 < sort {
+        if 4 < t.sort {
             return false;
         }
-        if 3 <= sort {
-            if number != k {
+        if 3 <= t.sort {
+            if t.payload != k || !head_ok(image, frame, t) {
                 return false;
             }
-            if head_ok(image, frame, t) {
-                k += 1;
-                f = sort;
-                i += 1;
-            } else {
-                return false;
-            }
-        } else {
-            if held_ok(store, heap, f, t) {
-                i += 1;
-            } else {
-                return false;
-            }
+            k += 1;
+            f = t.sort;
+        } else if !held_ok(store, heap, f, t) {
+            return false;
         }
     }
     k == cells
@@ -153,12 +111,8 @@ pub fn entries_ok(store: &[u8], heap: usize, entries: usize) -> bool
     requires { 64 + 16 * (heap + entries) ≤ length store.now }
     ensures { (P : Prog) → result ≡ every_slot (entry_ok P (slots_at store.now 64 heap)) (slots_at store.now (64 + 16 * heap) entries) }
 {
-    let mut i: usize = 0;
-    while i < entries {
-        let t = read(store, 64 + 16 * (heap + i));
-        if value_ok(store, heap, t) {
-            i += 1;
-        } else {
+    for i in 0..entries {
+        if !value_ok(store, heap, read(store, 64 + 16 * (heap + i))) {
             return false;
         }
     }

@@ -1,7 +1,7 @@
 -- The stopped flag is byte 5: setting it makes the bytes those of the state with the flag. Assumes nothing.
 use Prim.Native.Nat.{ℕ, ◌+◌}
 use mathlib.Core.Path.{◌≡◌, refl, sym, ap, ◌∙◌, subst}
-use mathlib.Core.Bool.{Bool, true, false, cond}
+use mathlib.Core.Bool.{Bool, true, false, cond, false≢true}
 use mathlib.Core.List.{List, ◌++◌, map}
 use native.Mathlib.Omega.{arith}
 use lib.ListN.{length, drop, set, length-append}
@@ -19,6 +19,7 @@ use Rattle.step_header.specs.Headers.{tuple_of}
 use Rattle.step_write.proofs.Regions.{sets_same}
 use Rattle.step_rule.specs.declared.Stepper.{Stepper}
 use Rattle.step_rule.specs.Rules.{ProgramOf, machine_in, Reads}
+use Rattle.step_rule.proofs.Views.{views}
 use Rattle.step_settle.specs.Settling.{flagged, stopping, Settles}
 
 module _ {P : Prog} {store : List ℕ} {h : Header} {l : Located} (o : Reads P store h l) where
@@ -78,20 +79,11 @@ pub settles_as : {stepper : Stepper} {bytes store store' : List ℕ} {h h' : Hea
 settles_as {stepper} {bytes} {store} {store'} {h} {h'} e x = subst (λ (z : Bool). Settles (cond z linear_machine source_machine) stepper bytes store h store' h') (sym e) x
 
 -- a state that has ended does not stop
-pub ended-goes : {P : Prog} {store : List ℕ} {h : Header} {l : Located} (b : Bool) → Reads P store h l → h.ended ≡ 1 → is_stop ((cond b linear_machine source_machine).step P (project P l)) ≡ false
-unfolding project raw_of linear_step_lem
-ended-goes {P} {store} {h} {l} b o e = go b l.has_ended (sym (ap (λ x. x.1.0) o.heads) ∙ e)
+pub ended-goes : {P : Prog} {store : List ℕ} {h : Header} {l : Located} (b : Bool) → Reads P store h l → h.ended ≡ true → is_stop ((cond b linear_machine source_machine).step P (project P l)) ≡ false
+unfolding project linear_step_lem
+ended-goes {P} {store} {h} {l} b o e = go b l.has_ended (sym (views o).ended ∙ e)
   where
-    go : (b c : Bool) → bit c ≡ 1 → is_stop ((cond b linear_machine source_machine).step P (state_of c (stmt_in P l.position) l.environment (map (cell_in P) l.cells))) ≡ false
+    go : (b c : Bool) → c ≡ true → is_stop ((cond b linear_machine source_machine).step P (state_of c (stmt_in P l.position) l.environment (map (cell_in P) l.cells))) ≡ false
     go true true f = refl
-    go true false f = absurd (omega arith)
+    go true false f = absurd (false≢true f)
     go false c f = source-never-stops P _
-
--- one whose flag is not 1 has not ended
-pub not_ended : {P : Prog} {store : List ℕ} {h : Header} {l : Located} → Reads P store h l → (h.ended ≡ 1 → ⊥) → l.has_ended ≡ false
-unfolding raw_of
-not_ended {l = l} o e = go l.has_ended (λ f. e (ap (λ x. x.1.0) o.heads ∙ f))
-  where
-    go : (c : Bool) → (bit c ≡ 1 → ⊥) → c ≡ false
-    go true f = absurd (f refl)
-    go false f = refl

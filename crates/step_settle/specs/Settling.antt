@@ -1,5 +1,5 @@
 -- The stopped flag of a state that was just written: whether the machine stops there.
-use Rattle.std.specs.Prelude.{ℕ, ◌≡◌, Bool, false, List}
+use Rattle.std.specs.Prelude.{ℕ, ◌≡◌, Bool, true, false, List}
 use Rattle.std.proofs.lemmas.List.Edits.{sets}
 use Rattle.model.specs.Syntax.{Prog}
 use Rattle.step_spec.specs.Located.{Machine, Located, project, is_stop}
@@ -15,7 +15,7 @@ flagged b l = record { position = l.position; environment = l.environment; cells
 
 -- a header with its stopped flag set
 abbrev pub stopping : Header → Header
-stopping h = record { position = h.position; ended = h.ended; stopped = 1; cells = h.cells; heap = h.heap; entries = h.entries }
+stopping h = record { position = h.position; ended = h.ended; stopped = true; cells = h.cells; heap = h.heap; entries = h.entries }
 
 -- document 02, A.2: the stopped flag [is set] by the step or start after which the machine stops
 pub record Settles (M : Machine) (stepper : Stepper) (bytes store : List ℕ) (h : Header) (store' : List ℕ) (h' : Header) : Type 0 where

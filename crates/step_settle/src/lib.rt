@@ -20,12 +20,8 @@ pub fn stop(store: &mut [u8], header: Header) -> Header
 {
     store[5] = 1;
     Header {
-        position: header.position,
-        ended: header.ended,
-        stopped: 1,
-        cells: header.cells,
-        heap: header.heap,
-        entries: header.entries,
+        stopped: true,
+        ..header
     }
 }
 
@@ -41,15 +37,8 @@ pub fn settle(
     requires { Ready stepper.frame image.now × ((header.position < stepper.frame.count) × (Holds store.old header × (Ends (records_in stepper.frame image.now) ends.now × SureIn stepper sure store.old header))) }
     ensures { Settles (machine_in stepper) stepper image.now store.old header store.new result }
 {
-    let ended = header.ended;
-    if ended == 1 {
-        return header;
-    }
-    if stepper.linear {
-        if stops(image, stepper, ends, store, header, sure) {
-            return stop(store, header);
-        }
-        return header;
+    if !header.ended && stepper.linear && stops(image, stepper, ends, store, header, sure) {
+        return stop(store, header);
     }
     header
 }

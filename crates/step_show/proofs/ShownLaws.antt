@@ -7,6 +7,7 @@ use native.Mathlib.Omega.{arith}
 use lib.Dec.{leb}
 use lib.ListN.{length, length-append, length-map}
 use lib.Seq.{sets}
+use Rattle.std.specs.Prelude.{Result, Ok, Err}
 use Rattle.image_spec.specs.Parse.{each}
 use Rattle.image_write_parts.specs.Puts.{Puts}
 use Rattle.image_write_parts.proofs.Putting.{puts_then}
@@ -19,8 +20,9 @@ use Rattle.step_header.specs.declared.Header.{Header}
 use Rattle.step_header.specs.Headers.{tuple_of, heap_in}
 use Rattle.step_gather.specs.Gathering.{shown_as}
 use Rattle.step_write.specs.declared.EventHead.{EventHead}
-use Rattle.step_write.specs.declared.Made.{Made}
-use Rattle.step_write.specs.declared.Made.TheVariants.{Full, Step}
+use Rattle.step_write.specs.declared.Step.{Step}
+use Rattle.step_write.specs.declared.Stop.{Stop}
+use Rattle.step_write.specs.declared.Stop.TheVariants.{NoRoom}
 use Rattle.step_write.specs.Writing.{head_bytes, size, room_for, Finishes, finished, finished-full}
 use Rattle.step_show.specs.Showing.{shown_with}
 
@@ -39,19 +41,20 @@ module _ (store events : List ℕ) (at : ℕ) (e : EventHead) (header : Header) 
   asked : room_for store events at header shown ≡ r
   asked = ap (λ (m : ℕ). leb (size header) (length store) && leb m (length events - at)) (shown-length e (heap_in store header) (slots_at slots from n) n (slots-count slots from n)) ∙ sym room
 
-  pub showing_full : r ≡ false → Finishes store events at header (shown_with e (heap_in store header) (slots_at slots from n)) 64 [] store events Full
+  pub showing_full : r ≡ false → Finishes store events at header (shown_with e (heap_in store header) (slots_at slots from n)) 64 [] store events (Err NoRoom)
   showing_full f = finished-full (asked ∙ f)
 
   pub showing_finishes : {events₁ events' store' : List ℕ} {heap values next : ℕ} → r ≡ true → heap ≡ header.heap → Puts events events₁ at values (head_bytes e)
       → Puts events₁ events' values next (each slot_bytes (map (shown_as (slots_at store 64 heap)) (slots_at slots from n))) → store' ≡ sets store 0 (header_bytes (tuple_of header))
-      → Finishes store events at header (shown_with e (heap_in store header) (slots_at slots from n)) 64 [] store' events' (Step header next)
+      → Finishes store events at header (shown_with e (heap_in store header) (slots_at slots from n)) 64 [] store' events' (Ok record { header = header; at = next })
   showing_finishes {events₁} {events'} {heap = heap} {values} {next} f h p q w =
       let F : ℕ → Type 0 = λ (j : ℕ). Puts events₁ events' values next (each slot_bytes (map (shown_as (slots_at store 64 j)) (slots_at slots from n))) in
       let all = puts_then {xs = head_bytes e} p (subst F h q) in
-      finished (asked ∙ f) record { headed = w; shows = all.holds; made = ap (Step header) all.ends }
+      let sealed : ℕ → Step = λ (i : ℕ). record { header = header; at = i } in
+      finished (asked ∙ f) record { headed = w; shows = all.holds; made = ap sealed all.ends }
 
 -- nothing is written from anywhere on
-pub shown_anywhere : {store events store' events' : List ℕ} {at : ℕ} {header : Header} {shown : List ℕ} {m : Made} (to : ℕ) {from : ℕ} → Finishes store events at header shown from [] store' events' m
+pub shown_anywhere : {store events store' events' : List ℕ} {at : ℕ} {header : Header} {shown : List ℕ} {m : Result Step Stop} (to : ℕ) {from : ℕ} → Finishes store events at header shown from [] store' events' m
     → Finishes store events at header shown to [] store' events' m
 shown_anywhere to (finished-full r) = finished-full r
 shown_anywhere to (finished r s) = finished r s

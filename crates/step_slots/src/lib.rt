@@ -1,7 +1,7 @@
 // The slots of a store: sixteen bytes for a cell, an entry or a value.
 #![tactic(auto)]
 
-ghost use Rattle.std.specs.Prelude.{◌≡◌, ◌∷◌, [], ◌+◌, ◌*◌, ◌/◌, ◌%◌, ◌≤◌, ◌^◌, length, drop};
+ghost use Rattle.std.specs.Prelude.{◌≡◌, ◌∷◌, [], ◌+◌, ◌≤◌, length, drop};
 ghost use Rattle.image_spec.specs.Parse.{got, number, field, zeros, only_if};
 ghost use Rattle.image_write_parts.specs.Puts.{Puts};
 ghost use Rattle.step_slots.specs.Slots.{slot_bytes};
@@ -12,17 +12,11 @@ use image_write_parts::store_pair;
 
 // What the sixteen bytes hold: a sort (0 an integer, 1 a cell, 2 an outside number, 3 a cell of a Let, 4 a cell of a Create), an ID, a tag or a
 // place, and 64 bits.
-#[derive(Clone, Copy)]
+#[derive(Clone, Copy, Debug, PartialEq, Eq)]
 pub struct Slot {
     pub sort: u8,
     pub id: u32,
     pub payload: u64,
-}
-
-fn joined(low: u32, high: u32) -> u64
-    ensures { result ≡ low + 256 ^ 4 * high }
-{
-    low as u64 + 4294967296 * (high as u64)
 }
 
 // The number in the eight bytes from at, the lowest first.
@@ -32,7 +26,7 @@ pub fn long_at(s: &[u8], at: usize) -> u64
 {
     let low = number(s, at, 4);
     let high = number(s, at + 4, 4);
-    joined(low, high)
+    u64::from(low) + 0x1_0000_0000 * u64::from(high)
 }
 
 // Are the n bytes from at zero?
@@ -40,12 +34,10 @@ pub fn all_zero(s: &[u8], at: usize, n: usize) -> bool
     requires { at + n ≤ length s.now }
     ensures { zeros n (drop at s.now) ≡ only_if result (got tt (drop (at + n) s.now)) }
 {
-    let mut i = 0;
-    while i < n {
+    for i in 0..n {
         if s[at + i] != 0 {
             return false;
         }
-        i += 1;
     }
     true
 }
@@ -56,30 +48,16 @@ pub fn read(s: &[u8], at: usize) -> Slot
     ensures { result ≡ slot_at s.now at }
 {
     let sort = s[at];
-    if sort <= 4 {
-        if all_zero(s, at + 1, 3) {
-            let id = number(s, at + 4, 4);
-            let payload = long_at(s, at + 8);
-            return Slot { sort, id, payload };
-        }
+    if sort <= 4 && all_zero(s, at + 1, 3) {
+        let id = number(s, at + 4, 4);
+        let payload = long_at(s, at + 8);
+        return Slot { sort, id, payload };
     }
     Slot {
         sort: 5,
         id: 0,
         payload: 0,
     }
-}
-
-fn low_half(n: u64) -> u32
-    ensures { result ≡ n % 4294967296 }
-{
-    (n % 4294967296) as u32
-}
-
-fn high_half(n: u64) -> u32
-    ensures { result ≡ n / 4294967296 }
-{
-    (n / 4294967296) as u32
 }
 
 // The four bytes of n, the lowest first. Here and below the caller has asked for the room once, so that no byte is tested by itself.
@@ -96,8 +74,8 @@ pub fn put_long(out: &mut [u8], at: usize, n: u64) -> usize
     requires { at + 8 ≤ length out.old }
     ensures { Puts out.old out.new at result (field 8 n) }
 {
-    let next = put_four(out, at, low_half(n));
-    put_four(out, next, high_half(n))
+    let next = put_four(out, at, (n % 0x1_0000_0000) as u32);
+    put_four(out, next, (n / 0x1_0000_0000) as u32)
 }
 
 // A sort, and three zero bytes.

@@ -3,6 +3,7 @@ use Prim.Native.Nat.{ℕ}
 use mathlib.Core.Path.{◌≡◌, sym, ap, ◌∙◌}
 use mathlib.Core.List.{List, [], ◌++◌, map, append-nil}
 use lib.ListN.{length}
+use Rattle.std.specs.Prelude.{Option as Maybe, Some, None, Result, Err}
 use Rattle.syntax.specs.declared.names.Name.{Name}
 use Rattle.syntax.specs.declared.names.VarId.{VarId}
 use Rattle.model.specs.Syntax.{Def, Prog}
@@ -13,15 +14,14 @@ use Rattle.step_spec.specs.Located.{Machine, Located, cell_in, project, next_pla
 use Rattle.step_spec.specs.Store.{place_of, environment_of}
 use Rattle.step_spec.specs.Events.{event_head, event_bytes}
 use Rattle.step_header.specs.declared.Header.{Header}
-use Rattle.step_rows.specs.declared.Row.{Row}
 use Rattle.step_rows.specs.Rows.{ids_in}
 use Rattle.step_gather.specs.Gathering.{renamed}
-use Rattle.step_write.specs.declared.Made.{Made}
-use Rattle.step_write.specs.declared.Made.TheVariants.{Nothing}
+use Rattle.step_write.specs.declared.Step.{Step}
+use Rattle.step_write.specs.declared.Stop.{Stop}
+use Rattle.step_write.specs.declared.Stop.TheVariants.{NoStep}
 use Rattle.step_rule.specs.declared.Stepper.{Stepper}
 use Rattle.step_rule.specs.Rules.{ProgramOf, Stored, resting, Makes}
 use Rattle.step_enter.specs.declared.Parameters.{Parameters}
-use Rattle.step_enter.specs.declared.Parameters.TheVariants.{Absent, Listed}
 use Rattle.step_enter.specs.Entering.{Enters}
 use Rattle.step_enter.proofs.ParameterLaws.{with_values, absent-halts, uneven_halts, enters_with}
 use Rattle.step_enter.proofs.Around.{nothing_makes, alone, enters-makes}
@@ -43,22 +43,22 @@ pub record Laid (l : Located) (vs : List Value) (ts : List Slot) : Type 0 where
   pub slots : (xs : List VarId) → renamed xs ts ≡ renamed xs (map (value_slot (place_of l.cells) 0) vs)
 
 module _ {M : Machine} {P : Prog} {store : List ℕ} {h : Header} {l : Located} (o : Stored M P store h l) {stepper : Stepper} {bytes : List ℕ} (p : ProgramOf P stepper bytes)
-    {label : Name} {vs : List Value} {n : ℕ} (s : Calls M P l label vs n) {k : ℕ} (same : k ≡ label.0) {r : Parameters} (d : DefinitionOf stepper bytes k r) {events : List ℕ} {at' : ℕ} where
+    {label : Name} {vs : List Value} {n : ℕ} (s : Calls M P l label vs n) {k : ℕ} (same : k ≡ label.0) {r : Maybe Parameters} (d : DefinitionOf stepper bytes k r) {events : List ℕ} {at' : ℕ} where
   -- there is no such definition
-  pub absent-makes : r ≡ Absent → Makes store events at' (resting (located_step M P l)) store events Nothing
+  pub absent-makes : r ≡ None → Makes store events at' (resting (located_step M P l)) store events (Err NoStep)
   absent-makes e = nothing_makes o (s.works ∙ absent-halts (label-found p same d.finds) d.reads vs s.enter e)
 
-  module _ {row : Row} {body : ℕ} (e : r ≡ Listed row body) where
+  module _ {f : Parameters} (e : r ≡ Some f) where
     -- .. or it has another number of parameters
-    pub uneven_makes : (row.len ≡ n → ⊥) → Makes store events at' (resting (located_step M P l)) store events Nothing
+    pub uneven_makes : (f.row.len ≡ n → ⊥) → Makes store events at' (resting (located_step M P l)) store events (Err NoStep)
     uneven_makes u = nothing_makes o (s.works ∙ uneven_halts (label-found p same d.finds) d.reads vs s.enter e (λ q. u (q ∙ sym s.count)))
 
-    pub call-makes : {ts : List Slot} {store' events' : List ℕ} {m : Made} → row.len ≡ n → Laid l vs ts
-        → Enters store events h at' body (event_head 3 0 k 0 0) 0 0 (renamed (ids_in bytes row) ts) store' events' m
+    pub call-makes : {ts : List Slot} {store' events' : List ℕ} {m : Result Step Stop} → f.row.len ≡ n → Laid l vs ts
+        → Enters store events h at' f.body (event_head 3 0 k 0 0) 0 0 (renamed (ids_in bytes f.row) ts) store' events' m
         → Makes store events at' (resting (located_step M P l)) store' events' m
     unfolding event_bytes next_place_lem environment_of
     call-makes u v w =
         let g = enters_with (label-found p same d.finds) d.reads vs s.enter e (place_of l.cells) (u ∙ s.count) in
         let t : M.step P (project P l) ≡ shows (Call' label) (at g.what.body (g.new ++ []) (cells P l)) =
         s.shown g.what g.new (s.works ∙ g.is) ∙ ap (λ (ε : Entries). shows (Call' label) (at g.what.body ε (cells P l))) (sym (append-nil g.new)) in
-        enters-makes o (Call' label) g.what.body g.new (alone o) t g.next (ap (λ (i : ℕ). event_head 3 0 i 0 0) same) (g.slots ∙ sym (v.slots (ids_in bytes row))) w
+        enters-makes o (Call' label) g.what.body g.new (alone o) t g.next (ap (λ (i : ℕ). event_head 3 0 i 0 0) same) (g.slots ∙ sym (v.slots (ids_in bytes f.row))) w

@@ -6,6 +6,7 @@ use mathlib.Core.List.{List, map}
 use mathlib.Core.Option.{Option}
 use native.Mathlib.Omega.{arith}
 use lib.ListN.{length, length-map}
+use Rattle.std.specs.Prelude.{Err}
 use Rattle.syntax.specs.Context.{Context, ids}
 use Rattle.syntax.specs.declared.names.Identifier.{Identifier}
 use Rattle.syntax.specs.declared.names.Name.{Name}
@@ -25,7 +26,7 @@ use Rattle.step_header.specs.Headers.{entries_in}
 use Rattle.step_gather.specs.Gathering.{Gathers, renamed}
 use Rattle.step_gather.proofs.GatheredSlots.{slots-ok, gathered-stand}
 use Rattle.step_gather.proofs.GatheringLaws.{gathered, not_gathered}
-use Rattle.step_write.specs.declared.Made.TheVariants.{Nothing}
+use Rattle.step_write.specs.declared.Stop.TheVariants.{NoStep}
 use Rattle.step_rule.specs.Rules.{Stored, resting, Makes}
 use Rattle.step_rule.proofs.Views.{viewed}
 use Rattle.step_rule.proofs.Machines.{source-works}
@@ -56,7 +57,7 @@ module _ {P : Prog} {store : List ℕ} {h : Header} {l : Located} (o : Stored so
     looked q = works ∙ ap (λ (x : Option (List Value)). or_halt x calls) (ap (λ (ys : List VarId). lookups ys l.environment) (sym e) ∙ q)
 
     -- one of them is absent
-    pub missing-makes : {events : List ℕ} {at' : ℕ} → r ≡ false → Makes store events at' (resting (located_step source_machine P l)) store events Nothing
+    pub missing-makes : {events : List ℕ} {at' : ℕ} → r ≡ false → Makes store events at' (resting (located_step source_machine P l)) store events (Err NoStep)
     missing-makes f = nothing_makes o (looked (not_gathered o xs (sym g.found ∙ f)))
 
     -- all are there, and so are their slots
@@ -73,9 +74,3 @@ module _ {P : Prog} {store : List ℕ} {h : Header} {l : Located} (o : Stored so
           laid = record { slots = λ ys. ap (renamed ys) stand };
         }
 
--- what was gathered, where the code looks for it
-pub gathers_as : (store : List ℕ) (h : Header) {scratch scratch' : List ℕ} {heap n : ℕ} {xs : List VarId} {r : Bool} → heap ≡ h.heap → n ≡ h.entries
-    → Gathers (slots_at store (64 + 16 * heap) n) xs scratch 0 scratch' r → Gathers (entries_in store h) xs scratch 0 scratch' r
-gathers_as store h {scratch} {scratch'} {heap} {n} {xs} {r} p q g =
-    let F : ℕ → ℕ → Type 0 = λ (i j : ℕ). Gathers (slots_at store (64 + 16 * i) j) xs scratch 0 scratch' r in
-    subst (F h.heap) q (subst (λ (i : ℕ). F i n) p g)

@@ -3,6 +3,7 @@ use Prim.Native.Nat.{ℕ}
 use mathlib.Core.Path.{◌≡◌, refl, ap, ◌∙◌, subst}
 use mathlib.Core.List.{List}
 use native.Mathlib.Omega.{arith}
+use Rattle.std.specs.Prelude.{Option as Maybe}
 use Rattle.syntax.specs.Context.{Context}
 use Rattle.syntax.specs.declared.names.Name.{Name}
 use Rattle.syntax.specs.declared.names.Identifier.{Identifier}
@@ -11,7 +12,6 @@ use Rattle.model.specs.Machine.{find_def}
 use Rattle.image_spec.specs.Records.{Record, call}
 use Rattle.image_spec.specs.Kinds.{kind_of}
 use Rattle.image_spec.specs.Shape.{max_depth}
-use Rattle.image_fields.specs.declared.Found.{Found}
 use Rattle.image_directory.specs.Slots as image
 use Rattle.image_read_nodes.specs.Nodes.{record_at, first_of, At}
 use Rattle.scope_check.proofs.CheckLaws.{stands-flat}
@@ -52,7 +52,7 @@ module _ {P : Prog} {stepper : Stepper} {bytes : List ℕ} (p : ProgramOf P step
   the_call {h = h} o a = calling (here p o (record_at stepper.frame bytes h.position) refl) a.kind
 
   -- the first definition with its label
-  pub label-found : {k : ℕ} {label : Name} {found : Found} → k ≡ label.0 → FindsLabel stepper.frame bytes stepper.definitions k found
+  pub label-found : {k : ℕ} {label : Name} {found : Maybe ℕ} → k ≡ label.0 → FindsLabel stepper.frame bytes stepper.definitions k found
       → FindsDef 1 max_depth (image.records_in stepper.frame bytes) (label_place label P.defs 0) (find_def label P.defs) found
   label-found {found = found} e f =
       let g = subst (λ (i : ℕ). FindsLabel stepper.frame bytes stepper.definitions i found) e f in

@@ -13,30 +13,29 @@ ghost use Rattle.step_rule.specs.Rules.{Given, MakesAs};
 ghost use Rattle.step_enter.specs.Entering.{Enters};
 ghost use Rattle.step_statement_call.specs.Calling.{DefinitionOf};
 
-use image_directory::{Frame, long};
+use image_directory::Frame;
 use image_kinds::kinds::Kind;
 use image_read_nodes::first;
 use step_enter::{Parameters, enter, fetch, parameters_of};
 use step_gather::gather;
-use step_header::{Header, place};
+use step_header::Header;
 use step_places::search::find_label;
 use step_rows::Row;
 use step_rows::records::list_row;
 use step_rule::Stepper;
-use step_write::{EventHead, Made};
+use step_write::{EventHead, Step, Stop};
 
 // The label of the Call at this place.
 fn label_of(image: &[u8], frame: Frame, position: u32) -> u32
     requires { At frame image.now position 3 }
     ensures { result ≡ (first_of (record_at frame image.now position)).name.0 }
 {
-    let label = first(image, frame, long(position), Kind::CALL);
-    let name = label.name;
-    name.0 as u32
+    let label = first(image, frame, position as usize, Kind::CALL);
+    u32::from(label.name.0)
 }
 
 // The first definition with this label.
-fn definition_of(image: &[u8], stepper: Stepper, ends: &[u32], label: u32) -> Parameters
+fn definition_of(image: &[u8], stepper: Stepper, ends: &[u32], label: u32) -> Option<Parameters>
     requires { Ready stepper.frame image.now × Ends (records_in stepper.frame image.now) ends.now }
     ensures { DefinitionOf stepper image.now label result }
 {
@@ -56,7 +55,7 @@ fn jump(
     at: usize,
     label: u32,
     body: u32,
-) -> Made
+) -> Result<Step, Stop>
     requires { Inside image.now row × (Holds store.old header × ((at ≤ length events.old) × ((16 * row.len ≤ length scratch.old) × (all_slots (slots_at scratch.old 0 row.len) ≡ true)))) }
     ensures { Enters store.old events.old header at body (event_head 3 0 label 0 0) 0 0 (renamed (ids_in image.now row) (slots_at scratch.old 0 row.len)) store.new events.new result }
 {
@@ -82,31 +81,34 @@ pub fn source(
     scratch: &mut [u8],
     header: Header,
     at: usize,
-) -> Made
+) -> Result<Step, Stop>
     requires { Given stepper image.now store.old events.old scratch.old header at 3 × Ends (records_in stepper.frame image.now) ends.now }
     ensures { MakesAs source_machine stepper image.now store.old events.old header at store.new events.new result }
 {
     let frame = stepper.frame;
-    let args = list_row(image, frame, long(header.position), Kind::CALL);
-    let heap = place(header.heap);
-    let entries = place(header.entries);
-    if gather(image, args, store, 64 + 16 * heap, entries, scratch, 0) {
-        let label = label_of(image, frame, header.position);
-        match definition_of(image, stepper, ends, label) {
-            Parameters::Absent => {
-                return Made::Nothing;
-            }
-            Parameters::Listed { row, body } => {
-                let len = row.len;
-                let count = args.len;
-                if len != count {
-                    return Made::Nothing;
-                }
-                return jump(image, row, store, events, scratch, header, at, label, body);
-            }
-        }
+    let args = list_row(image, frame, header.position as usize, Kind::CALL);
+    let from = 64 + 16 * header.heap as usize;
+    let entries = header.entries as usize;
+    if !gather(image, args, store, from, entries, scratch, 0) {
+        return Err(Stop::NoStep);
     }
-    Made::Nothing
+    let label = label_of(image, frame, header.position);
+    let called = definition_of(image, stepper, ends, label).ok_or(Stop::NoStep)?;
+    let row = called.row;
+    if row.len != args.len {
+        return Err(Stop::NoStep);
+    }
+    jump(
+        image,
+        row,
+        store,
+        events,
+        scratch,
+        header,
+        at,
+        label,
+        called.body,
+    )
 }
 
 // The linear machine's: the values are those of all entries. The args aren't read.
@@ -119,23 +121,28 @@ pub fn linear(
     scratch: &mut [u8],
     header: Header,
     at: usize,
-) -> Made
+) -> Result<Step, Stop>
     requires { Given stepper image.now store.old events.old scratch.old header at 3 × Ends (records_in stepper.frame image.now) ends.now }
     ensures { MakesAs linear_machine stepper image.now store.old events.old header at store.new events.new result }
 {
-    let frame = stepper.frame;
-    let heap = place(header.heap);
-    let entries = place(header.entries);
-    let label = label_of(image, frame, header.position);
-    match definition_of(image, stepper, ends, label) {
-        Parameters::Absent => Made::Nothing,
-        Parameters::Listed { row, body } => {
-            let len = row.len;
-            if len != entries {
-                return Made::Nothing;
-            }
-            fetch(store, 64 + 16 * heap, len, scratch);
-            jump(image, row, store, events, scratch, header, at, label, body)
-        }
+    let from = 64 + 16 * header.heap as usize;
+    let entries = header.entries as usize;
+    let label = label_of(image, stepper.frame, header.position);
+    let called = definition_of(image, stepper, ends, label).ok_or(Stop::NoStep)?;
+    let row = called.row;
+    if row.len != entries {
+        return Err(Stop::NoStep);
     }
+    fetch(store, from, entries, scratch);
+    jump(
+        image,
+        row,
+        store,
+        events,
+        scratch,
+        header,
+        at,
+        label,
+        called.body,
+    )
 }

@@ -5,6 +5,7 @@ use mathlib.Core.List.{List, [], ◌∷◌, ◌++◌, map, append-nil}
 use mathlib.Core.Option.{Option}
 use native.Mathlib.Omega.{arith}
 use lib.ListN.{length}
+use Rattle.std.specs.Prelude.{Result}
 use Rattle.syntax.specs.Context.{Context}
 use Rattle.syntax.specs.declared.names.Identifier.{Identifier}
 use Rattle.syntax.specs.declared.types.Ty.{Ty}
@@ -27,7 +28,8 @@ use Rattle.step_spec.specs.Events.{event_bytes, event_head}
 use Rattle.step_header.specs.declared.Header.{Header}
 use Rattle.step_places.specs.Ends.{Ends, Hopped}
 use Rattle.step_places.proofs.NextPlaces.{bodies-place}
-use Rattle.step_write.specs.declared.Made.{Made}
+use Rattle.step_write.specs.declared.Step.{Step}
+use Rattle.step_write.specs.declared.Stop.{Stop}
 use Rattle.step_write.specs.Writing.{Finishes}
 use Rattle.step_rule.specs.declared.Stepper.{Stepper}
 use Rattle.step_rule.specs.Rules.{ProgramOf, Stored}
@@ -92,15 +94,11 @@ module _ {M : Machine} {P : Prog} {stepper : Stepper} {bytes store : List ℕ} {
 -- ── the step in slots ──
 
 -- what was finished, with what the code computed
-pub finishes_as : {store events store' events' shown shown' bytes bytes' : List ℕ} {next next' : Header} {at' from from' : ℕ} {m : Made}
+pub finishes_as : {store events store' events' shown shown' bytes bytes' : List ℕ} {next next' : Header} {at' from from' : ℕ} {m : Result Step Stop}
     → next ≡ next' → shown ≡ shown' → from ≡ from' → bytes ≡ bytes' → Finishes store events at' next shown from bytes store' events' m → Finishes store events at' next' shown' from' bytes' store' events' m
 finishes_as {store} {events} {store'} {events'} {at' = at'} {m = m} a b c d w =
     let Known : Type 0 = Header × (List ℕ × (ℕ × List ℕ)) in
     subst (λ (t : Known). Finishes store events at' t.0 t.1.0 t.1.1.0 t.1.1.1 store' events' m) (λ i. (a i, (b i, (c i, d i)))) w
-
--- how many slots there are after it
-pub counts : (h : Header) (j n : ℕ) {p : ℕ} {next : Header} → next ≡ closed h p j n → next.heap + next.entries ≡ h.heap + (j + 1) + (n + 1)
-counts h j n e = ap (λ (z : Header). z.heap + z.entries) e
 
 module _ {M : Machine} {P : Prog} {store : List ℕ} {h : Header} {l : Located} (o : Stored M P store h l) where
   abbrev K : Cells

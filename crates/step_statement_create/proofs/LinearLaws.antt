@@ -7,6 +7,7 @@ use mathlib.Core.Option.{Option, none, some}
 use native.Mathlib.Omega.{arith}
 use lib.ListN.{length, take, drop, length-append, length-drop, length-map}
 use lib.Seq.{length-take-le}
+use Rattle.std.specs.Prelude.{Option as Maybe, Some, None, Result}
 use Rattle.syntax.specs.Sets.{distinct}
 use Rattle.syntax.specs.Context.{Context, id_of, ids}
 use Rattle.syntax.specs.declared.names.VarId.{VarId}
@@ -33,12 +34,11 @@ use Rattle.step_header.specs.declared.Header.{Header}
 use Rattle.step_header.specs.Headers.{entries_in}
 use Rattle.step_places.specs.Ends.{Ends}
 use Rattle.step_rows.specs.declared.Row.{Row}
-use Rattle.step_rows.specs.declared.records.Environment.{Environment}
-use Rattle.step_rows.specs.declared.records.Environment.TheVariants.{Absent, Listed}
 use Rattle.step_rows.specs.RecordRows.{environment_of, EnvironmentRow}
 use Rattle.step_rows.proofs.RowLaws.{row-length}
 use Rattle.step_rows.proofs.RecordRowLaws.{environment_none, environment_some}
-use Rattle.step_write.specs.declared.Made.{Made}
+use Rattle.step_write.specs.declared.Step.{Step}
+use Rattle.step_write.specs.declared.Stop.{Stop}
 use Rattle.step_write.specs.Writing.{Finishes}
 use Rattle.step_rule.specs.declared.Stepper.{Stepper}
 use Rattle.step_rule.specs.Rules.{ProgramOf, Stored, resting, Makes}
@@ -52,7 +52,7 @@ use Rattle.step_statement_create.specs.Creating.{PartsOf, closed, cell_slot_lem,
 use Rattle.step_statement_create.proofs.CreateLaws.{Creation, created, body-place, finishes_as, lead_created}
 
 -- what was finished, with what the code computed
-pub closes_as : {store events store' events' shown front : List ℕ} {h next : Header} {at' k from kept : ℕ} {r : Parts} {head var : Slot} {m : Made}
+pub closes_as : {store events store' events' shown front : List ℕ} {h next : Header} {at' k from kept : ℕ} {r : Parts} {head var : Slot} {m : Result Step Stop}
     → next ≡ closed h r.next k (h.entries - k) → shown ≡ event_head 6 1 0 0 h.cells → from ≡ 64 + 16 * h.heap → kept ≡ h.entries - k
     → head ≡ cell_slot_lem h → var ≡ var_slot_lem h r.id → front ≡ slot_bytes head ++ take (16 * k) (drop (from + 16 * kept) store)
     → Finishes store events at' next shown from (front ++ (take (16 * kept) (drop from store) ++ slot_bytes var)) store' events' m → Closes store events h at' r k store' events' m
@@ -89,13 +89,13 @@ few-held w Γ (clause' x Δ) k ok e = absurd (omega arith)
 few-held w Γ (print n v) k ok e = absurd (omega arith)
 few-held w Γ (exit v) k ok e = absurd (omega arith)
 
-module _ (g : Frame) {s : List ℕ} {i position : ℕ} {r : Environment} (at' : i ≡ position) (q : EnvironmentRow s r (environment_of (record_at g s i))) where
+module _ (g : Frame) {s : List ℕ} {i position : ℕ} {r : Maybe Row} (at' : i ≡ position) (q : EnvironmentRow s r (environment_of (record_at g s i))) where
   -- the code found none
-  pub none_there : r ≡ Absent → environment_of (record_at g s position) ≡ none
+  pub none_there : r ≡ None → environment_of (record_at g s position) ≡ none
   none_there e = ap (λ (j : ℕ). environment_of (record_at g s j)) (sym at') ∙ environment_none q e
 
   -- .. or a row of it
-  pub some_there : {row : Row} → At g s position 6 → r ≡ Listed row → Encloses g s position row.len
+  pub some_there : {row : Row} → At g s position 6 → r ≡ Some row → Encloses g s position row.len
   some_there {row} a e =
       let t = environment_some q e in
       let f : environment_of (record_at g s position) ≡ some t.context = ap (λ (j : ℕ). environment_of (record_at g s j)) (sym at') ∙ t.is in
@@ -167,7 +167,7 @@ module _ {P : Prog} {stepper : Stepper} {bytes store : List ℕ} {h : Header} {l
         each-++ slot_bytes T (var ∷ []) ∙ ap₂ {C = List ℕ} (λ (y z : List ℕ). y ++ z) (sym (before-bytes o k)) (append-nil (slot_bytes var)) in
         ap (λ (z : List ℕ). slot_bytes (cell_slot_lem h) ++ z) (each-++ slot_bytes D (T ++ (var ∷ [])) ∙ ap₂ {C = List ℕ} (λ (y z : List ℕ). y ++ z) (sym (last-bytes o k within)) t)
 
-    pub linear-makes : {ends events store' events' : List ℕ} {at' : ℕ} {q : Parts} {m : Made} → Ends (image.records_in stepper.frame bytes) ends
+    pub linear-makes : {ends events store' events' : List ℕ} {at' : ℕ} {q : Parts} {m : Result Step Stop} → Ends (image.records_in stepper.frame bytes) ends
         → PartsOf stepper.frame bytes ends h.position q → Closes store events h at' q k store' events' m
         → Makes store events at' (resting (located_step linear_machine P l)) store' events' m
     linear-makes {events = events} {at' = at'} {q = q} en pq w =

@@ -4,6 +4,7 @@ use mathlib.Core.Path.{◌≡◌, sym, ap, ◌∙◌}
 use mathlib.Core.List.{List, [], ◌∷◌, ◌++◌, map}
 use native.Mathlib.Omega.{arith}
 use lib.ListN.{length, take, drop}
+use Rattle.std.specs.Prelude.{Result}
 use Rattle.model.specs.Machine.{cell, Cells}
 use Rattle.model.specs.Source.{source_work}
 use Rattle.model.specs.Syntax.{Create, Prog}
@@ -20,7 +21,8 @@ use Rattle.step_spec.proofs.Lists.{each-++}
 use Rattle.step_header.specs.declared.Header.{Header}
 use Rattle.step_header.specs.Headers.{entries_in}
 use Rattle.step_places.specs.Ends.{Ends}
-use Rattle.step_write.specs.declared.Made.{Made}
+use Rattle.step_write.specs.declared.Step.{Step}
+use Rattle.step_write.specs.declared.Stop.{Stop}
 use Rattle.step_write.specs.Writing.{Finishes}
 use Rattle.step_rule.specs.declared.Stepper.{Stepper}
 use Rattle.step_rule.specs.Rules.{ProgramOf, Stored, resting, Makes}
@@ -47,7 +49,7 @@ module _ {P : Prog} {store : List ℕ} {h : Header} {l : Located} (o : Stored so
       sym (slots-taken store (64 + 16 * h.heap) h.entries (slots-count store (64 + 16 * h.heap) h.entries) (viewed o).entries_slots) in
       ap (λ (z : List ℕ). slot_bytes (cell_slot_lem h) ++ z) (each-++ slot_bytes E (var ∷ E) ∙ ap (λ (z : List ℕ). z ++ (slot_bytes var ++ z)) t)
 
-  pub source-makes : {stepper : Stepper} {bytes ends events store' events' shown : List ℕ} {at' from n : ℕ} {r : Parts} {next : Header} {head var : Slot} {m : Made}
+  pub source-makes : {stepper : Stepper} {bytes ends events store' events' shown : List ℕ} {at' from n : ℕ} {r : Parts} {next : Header} {head var : Slot} {m : Result Step Stop}
       → ProgramOf P stepper bytes → At stepper.frame bytes h.position 6 → Ends (image.records_in stepper.frame bytes) ends
       → PartsOf stepper.frame bytes ends h.position r → next ≡ closed h r.next h.entries h.entries → shown ≡ event_head 6 1 0 0 h.cells
       → from ≡ 64 + 16 * h.heap → n ≡ h.entries → head ≡ cell_slot_lem h → var ≡ var_slot_lem h r.id

@@ -1,5 +1,5 @@
 -- What is read of a Create, and the slots and the header that its step writes.
-use Rattle.std.specs.Prelude.{ℕ, ◌+◌, ◌-◌, ◌*◌, ◌≡◌, List, ◌++◌, take, drop}
+use Rattle.std.specs.Prelude.{ℕ, ◌+◌, ◌-◌, ◌*◌, ◌≡◌, false, List, ◌++◌, take, drop, Result}
 use Rattle.image_spec.specs.Kinds.{clauses_of}
 use Rattle.image_directory.specs.declared.Frame.{Frame}
 use Rattle.image_read_nodes.specs.Nodes.{record_at, first_of}
@@ -8,7 +8,8 @@ use Rattle.step_slots.specs.Slots.{slot, slot_bytes}
 use Rattle.step_spec.specs.Events.{event_head}
 use Rattle.step_header.specs.declared.Header.{Header}
 use Rattle.step_places.specs.Ends.{Hopped}
-use Rattle.step_write.specs.declared.Made.{Made}
+use Rattle.step_write.specs.declared.Step.{Step}
+use Rattle.step_write.specs.declared.Stop.{Stop}
 use Rattle.step_write.specs.Writing.{Finishes}
 use Rattle.step_statement_create.specs.declared.create.Parts.{Parts}
 
@@ -19,7 +20,7 @@ pub record PartsOf (frame : Frame) (bytes ends : List ℕ) (i : ℕ) (r : Parts)
 
 -- the header after it: the cell holds so many entries, and so many are kept beside var
 abbrev pub closed : Header → (next held kept : ℕ) → Header
-closed h p j n = record { position = p; ended = 0; stopped = 0; cells = h.cells + 1; heap = h.heap + (j + 1); entries = n + 1 }
+closed h p j n = record { position = p; ended = false; stopped = false; cells = h.cells + 1; heap = h.heap + (j + 1); entries = n + 1 }
 
 -- the new cell's own slot: the place of the Create, and the cell's number
 abbrev pub cell_slot_lem : Header → Slot
@@ -38,5 +39,5 @@ closing store h k x =
     ++ slot_bytes (var_slot_lem h x)))
 
 -- .. with event and header
-pub record Closes (store events : List ℕ) (h : Header) (at : ℕ) (r : Parts) (k : ℕ) (store' events' : List ℕ) (m : Made) : Type 0 where
+pub record Closes (store events : List ℕ) (h : Header) (at : ℕ) (r : Parts) (k : ℕ) (store' events' : List ℕ) (m : Result Step Stop) : Type 0 where
   pub finishes : Finishes store events at (closed h r.next k (h.entries - k)) (event_head 6 1 0 0 h.cells) (64 + 16 * h.heap) (closing store h k r.id) store' events' m

@@ -11,17 +11,16 @@ ghost use Rattle.step_write.specs.Writing.{head_bytes};
 ghost use Rattle.step_rule.specs.Rules.{Given, MakesAs};
 ghost use Rattle.step_statement_create.specs.Creating.{PartsOf, closed, cell_slot_lem, var_slot_lem, Closes};
 
-use image_directory::{Frame, long};
+use image_directory::Frame;
 use image_kinds::kinds::Kind;
 use image_read_nodes::{first, parts_of};
 use image_write_bytes::bytes::copy;
-use image_write_directory::directory::narrow;
-use step_header::{Header, long_count, place};
+use step_header::Header;
 use step_places::ends::hop;
-use step_rows::records::{Environment, environment_row};
+use step_rows::records::environment_row;
 use step_rule::Stepper;
 use step_slots::{Slot, put_slot};
-use step_write::{EventHead, Made, finish_before, finish_holding};
+use step_write::{EventHead, Step, Stop, finish_before, finish_holding};
 
 // What is read of a Create: the ID of its var, and the place of its body.
 #[derive(Clone, Copy)]
@@ -35,13 +34,14 @@ fn read_parts(image: &[u8], frame: Frame, ends: &[u32], position: u32) -> Parts
     requires { At frame image.now position 6 }
     ensures { PartsOf frame image.now ends.now position result }
 {
-    let i = long(position);
+    let i = position as usize;
     let var = first(image, frame, i, Kind::CREATE);
     let follows = parts_of(image, frame, i);
     let body = hop(ends, i + 1, follows.clauses);
-    let id = var.id;
-    let next = narrow(body);
-    Parts { id: id.0, next }
+    Parts {
+        id: var.id.0,
+        next: body as u32,
+    }
 }
 
 // The header after a Create whose cell holds `held` entries, where `kept` stay beside var.
@@ -51,8 +51,8 @@ fn after(header: Header, next: u32, held: u64, kept: u64) -> Header
 {
     Header {
         position: next,
-        ended: 0,
-        stopped: 0,
+        ended: false,
+        stopped: false,
         cells: header.cells + 1,
         heap: header.heap + (held + 1),
         entries: kept + 1,
@@ -103,15 +103,13 @@ pub fn source(
     events: &mut [u8],
     header: Header,
     at: usize,
-) -> Made
+) -> Result<Step, Stop>
     requires { At stepper.frame image.now header.position 6 × (Holds store.old header × ((at ≤ length events.old) × Ends (records_in stepper.frame image.now) ends.now)) }
     ensures { MakesAs source_machine stepper image.now store.old events.old header at store.new events.new result }
 {
-    let frame = stepper.frame;
-    let heap = place(header.heap);
-    let from = 64 + 16 * heap;
-    let n = place(header.entries);
-    let create = read_parts(image, frame, ends, header.position);
+    let from = 64 + 16 * header.heap as usize;
+    let n = header.entries as usize;
+    let create = read_parts(image, stepper.frame, ends, header.position);
     let next = after(header, create.next, header.entries, header.entries);
     let cell = cell_slot(header);
     let var = var_slot(header, create.id);
@@ -136,16 +134,14 @@ fn close_over(
     at: usize,
     create: Parts,
     k: usize,
-) -> Made
+) -> Result<Step, Stop>
     requires { Holds store.old header × ((at ≤ length events.old) × ((16 * (k + 1) ≤ length scratch.old) × (k ≤ header.entries))) }
     ensures { Closes store.old events.old header at create k store.new events.new result }
 {
-    let heap = place(header.heap);
-    let kept = place(header.entries) - k;
-    let slots = k + 1;
-    let from = 64 + 16 * heap;
+    let kept = header.entries as usize - k;
+    let from = 64 + 16 * header.heap as usize;
     let last = from + 16 * kept;
-    let next = after(header, create.next, long_count(k), long_count(kept));
+    let next = after(header, create.next, k as u64, kept as u64);
     let cell = cell_slot(header);
     let var = var_slot(header, create.id);
     pack(store, last, k, cell, scratch);
@@ -159,7 +155,7 @@ fn close_over(
         kept,
         var,
         scratch,
-        slots,
+        k + 1,
     )
 }
 
@@ -173,20 +169,15 @@ pub fn linear(
     scratch: &mut [u8],
     header: Header,
     at: usize,
-) -> Made
+) -> Result<Step, Stop>
     requires { Given stepper image.now store.old events.old scratch.old header at 6 × Ends (records_in stepper.frame image.now) ends.now }
     ensures { MakesAs linear_machine stepper image.now store.old events.old header at store.new events.new result }
 {
     let frame = stepper.frame;
-    match environment_row(image, frame, long(header.position)) {
-        Environment::Absent => Made::Nothing,
-        Environment::Listed(row) => {
-            let k = row.len;
-            if place(header.entries) < k {
-                return Made::Nothing;
-            }
-            let create = read_parts(image, frame, ends, header.position);
-            close_over(store, events, scratch, header, at, create, k)
-        }
+    let row = environment_row(image, frame, header.position as usize).ok_or(Stop::NoStep)?;
+    if (header.entries as usize) < row.len {
+        return Err(Stop::NoStep);
     }
+    let create = read_parts(image, frame, ends, header.position);
+    close_over(store, events, scratch, header, at, create, row.len)
 }

@@ -1,4 +1,5 @@
 -- Exit: the step of either machine. Assumes nothing.
+use Rattle.std.specs.Prelude.{Result, Err}
 use Prim.Native.Nat.{ℕ, ◌<◌}
 use mathlib.Core.Path.{◌≡◌, refl, sym, ap, ap₂, ◌∙◌}
 use mathlib.Core.Bool.{Bool, true, false, cond}
@@ -24,8 +25,9 @@ use Rattle.step_spec.proofs.Representable.{lookup-fits}
 use Rattle.step_header.specs.declared.Header.{Header}
 use Rattle.step_header.specs.Headers.{heap_in, entries_in}
 use Rattle.step_entries.specs.Named.{named}
-use Rattle.step_write.specs.declared.Made.{Made}
-use Rattle.step_write.specs.declared.Made.TheVariants.{Nothing}
+use Rattle.step_write.specs.declared.Step.{Step}
+use Rattle.step_write.specs.declared.Stop.{Stop}
+use Rattle.step_write.specs.declared.Stop.TheVariants.{NoStep}
 use Rattle.step_rule.specs.declared.Stepper.{Stepper}
 use Rattle.step_rule.specs.Rules.{ProgramOf, Stored, resting, Makes}
 use Rattle.step_rule.proofs.Views.{viewed}
@@ -94,11 +96,11 @@ exit-there is_exit = refl
 module _ (b : Bool) {P : Prog} {stepper : Stepper} {bytes store : List ℕ} {h : Header} {l : Located} {v : Identifier} {t : Slot}
     (p : ProgramOf P stepper bytes) (o : Stored (machine b) P store h l) (e : record_at stepper.frame bytes h.position ≡ exit v) (q : t ≡ named v.id.0 (entries_in store h))
     (events : List ℕ) (at' : ℕ) where
-  pub exit-halts : t.sort ≡ 5 → Makes store events at' (resting (located_step (machine b) P l)) store events Nothing
+  pub exit-halts : t.sort ≡ 5 → Makes store events at' (resting (located_step (machine b) P l)) store events (Err NoStep)
   exit-halts s = nothing-made o events at' (goes P l v (exit-there (here p o (exit v) e)) b o) (absent o v.id (sees o v.id q) s)
 
-  pub exit-makes : {payload : ℕ} {store' events' : List ℕ} {m : Made} → (t.sort ≡ 5 → ⊥) → payload ≡ shown_in (heap_in store h) t
-      → Stays store events h at' h.position 1 (event_head 13 t.sort 0 0 payload) store' events' m → Makes store events at' (resting (located_step (machine b) P l)) store' events' m
+  pub exit-makes : {payload : ℕ} {store' events' : List ℕ} {m : Result Step Stop} → (t.sort ≡ 5 → ⊥) → payload ≡ shown_in (heap_in store h) t
+      → Stays store events h at' h.position true (event_head 13 t.sort 0 0 payload) store' events' m → Makes store events at' (resting (located_step (machine b) P l)) store' events' m
   unfolding event_bytes next_place_lem
   exit-makes s k w =
       let r = valued o v.id (sees o v.id q) s in

@@ -1,4 +1,5 @@
 -- IfC: the step of either machine. Assumes nothing.
+use Rattle.std.specs.Prelude.{Result, Err}
 use Prim.Native.Nat.{ℕ, ◌+◌}
 use mathlib.Core.Path.{◌≡◌, refl, sym, ap, ap₂, ◌∙◌, subst}
 use mathlib.Core.Bool.{Bool, true, false, cond}
@@ -25,8 +26,9 @@ use Rattle.step_spec.specs.Events.{event_head, event_bytes}
 use Rattle.step_header.specs.declared.Header.{Header}
 use Rattle.step_header.specs.Headers.{entries_in}
 use Rattle.step_entries.specs.Named.{named}
-use Rattle.step_write.specs.declared.Made.{Made}
-use Rattle.step_write.specs.declared.Made.TheVariants.{Nothing}
+use Rattle.step_write.specs.declared.Step.{Step}
+use Rattle.step_write.specs.declared.Stop.{Stop}
+use Rattle.step_write.specs.declared.Stop.TheVariants.{NoStep}
 use Rattle.step_places.specs.Ends.{Ends, Hopped}
 use Rattle.step_places.proofs.NextPlaces.{else_place}
 use Rattle.step_rule.specs.declared.Stepper.{Stepper}
@@ -90,23 +92,23 @@ there (is_ifc thenc elsec) = (thenc, elsec, refl)
 
 module _ (b : Bool) {P : Prog} {stepper : Stepper} {bytes store : List ℕ} {h : Header} {l : Located} {sort : IfSort} {fst : Identifier} {snd : Option Identifier}
     (p : ProgramOf P stepper bytes) (o : Stored (machine b) P store h l) (e : record_at stepper.frame bytes h.position ≡ ifc sort fst snd) (events : List ℕ) (at' : ℕ) where
-  pub ifc-halts : none ≡ shown store h sort fst snd → Makes store events at' (resting (located_step (machine b) P l)) store events Nothing
+  pub ifc-halts : none ≡ shown store h sort fst snd → Makes store events at' (resting (located_step (machine b) P l)) store events (Err NoStep)
   ifc-halts w = let t = there (here p o (ifc sort fst snd) e) in nothing-made o events at' (goes P l sort fst snd t.0 t.1 t.2 b o) w
 
-  module _ {store' events' : List ℕ} {m : Made} where
-    ifc-makes : (c : Bool) {r : ℕ} → some c ≡ shown store h sort fst snd → r ≡ next_place_lem P l (some (IfC' c)) → Stays store events h at' r 0 (event_head 10 (bit c) 0 0 0) store' events' m
+  module _ {store' events' : List ℕ} {m : Result Step Stop} where
+    ifc-makes : (c : Bool) {r : ℕ} → some c ≡ shown store h sort fst snd → r ≡ next_place_lem P l (some (IfC' c)) → Stays store events h at' r false (event_head 10 (bit c) 0 0 0) store' events' m
         → Makes store events at' (resting (located_step (machine b) P l)) store' events' m
     unfolding event_bytes
     ifc-makes c w q s =
         let t = there (here p o (ifc sort fst snd) e) in
         stays-makes o (IfC' c) refl (cond c t.0 t.1) (goes_with (goes P l sort fst snd t.0 t.1 t.2 b o) c w) q s
 
-    pub then_makes : some true ≡ shown store h sort fst snd → Stays store events h at' (h.position + 1) 0 (event_head 10 1 0 0 0) store' events' m
+    pub then_makes : some true ≡ shown store h sort fst snd → Stays store events h at' (h.position + 1) false (event_head 10 1 0 0 0) store' events' m
         → Makes store events at' (resting (located_step (machine b) P l)) store' events' m
     then_makes w s = let t = there (here p o (ifc sort fst snd) e) in ifc-makes true w (then_at P l sort fst snd t.0 t.1 t.2 h (viewed o).position) s
 
     pub else_makes : {r : ℕ} {ends : List ℕ} → some false ≡ shown store h sort fst snd → Ends (image.records_in stepper.frame bytes) ends → Hopped ends 1 (h.position + 1) r
-        → Stays store events h at' r 0 (event_head 10 0 0 0 0) store' events' m → Makes store events at' (resting (located_step (machine b) P l)) store' events' m
+        → Stays store events h at' r false (event_head 10 0 0 0 0) store' events' m → Makes store events at' (resting (located_step (machine b) P l)) store' events' m
     else_makes {r} {ends} w n j s =
         let t = there (here p o (ifc sort fst snd) e) in
         let q = else_at P l sort fst snd t.0 t.1 t.2 h (viewed o).position (subst (λ (rs : List Record). Ends rs ends) p.records n) (placed p o).here j in

@@ -4,6 +4,7 @@ use mathlib.Core.Path.{◌≡◌, sym, ap, ◌∙◌, subst}
 use mathlib.Core.List.{List, [], ◌++◌, map}
 use lib.ListN.{length, take, drop}
 use lib.Seq.{sets}
+use Rattle.std.specs.Prelude.{Option as Maybe, Some, None, Result, Err}
 use Rattle.syntax.specs.declared.names.VarId.{VarId}
 use Rattle.image_spec.specs.Parse.{each}
 use Rattle.image_directory.specs.declared.Frame.{Frame}
@@ -16,16 +17,15 @@ use Rattle.step_header.specs.declared.Header.{Header}
 use Rattle.step_header.specs.Headers.{heap_in}
 use Rattle.step_gather.specs.Gathering.{renamed, shown_as}
 use Rattle.step_gather.proofs.Renaming.{renamed-length}
-use Rattle.step_rows.specs.declared.Row.{Row}
 use Rattle.step_rows.specs.Rows.{ids_in}
 use Rattle.step_cells.specs.declared.Cell.{Cell}
 use Rattle.step_cells.specs.Cells.{cell_in'}
-use Rattle.step_write.specs.declared.Made.{Made}
-use Rattle.step_write.specs.declared.Made.TheVariants.{Nothing}
+use Rattle.step_write.specs.declared.Step.{Step}
+use Rattle.step_write.specs.declared.Stop.{Stop}
+use Rattle.step_write.specs.declared.Stop.TheVariants.{NoStep}
 use Rattle.step_write.specs.Writing.{Finishes}
 use Rattle.step_write.proofs.Regions.{taken-put}
 use Rattle.step_enter.specs.declared.Parameters.{Parameters}
-use Rattle.step_enter.specs.declared.Parameters.TheVariants.{Absent, Listed}
 use Rattle.step_enter.specs.Entering.{entered}
 use Rattle.step_statement_invoke.specs.Invoking.{EntranceOf, EntersClause, over, Invokes, of-outside, of-nothing, of-closure}
 
@@ -38,7 +38,7 @@ taken-renamed scratch scratch' k xs n r e =
     ap (take (16 * k)) e ∙ taken-put scratch (each slot_bytes (renamed xs ts)) (16 * k) (slots_length (renamed xs ts) ∙ ap (λ (i : ℕ). 16 * i) m) r
 
 pub enters-clause : (scratch : List ℕ) {store events scratch' store' events' : List ℕ} {h : Header} {at : ℕ} {cell : Cell} {body tag : ℕ} (k : ℕ) {xs : List VarId}
-    {entries heap : ℕ} {shown : List ℕ} {m : Made} → length xs ≡ k → 16 * k ≤ length scratch
+    {entries heap : ℕ} {shown : List ℕ} {m : Result Step Stop} → length xs ≡ k → 16 * k ≤ length scratch
     → scratch' ≡ sets scratch 0 (each slot_bytes (renamed xs (slots_at scratch 0 k))) → entries ≡ k + cell.len → heap ≡ h.heap
     → shown ≡ event_head 7 1 tag 0 cell.number
     → Finishes store events at (entered h body entries) shown (64 + 16 * heap) (take (16 * k) scratch' ++ take (16 * cell.len) (drop cell.from store)) store' events' m
@@ -51,16 +51,8 @@ enters-clause scratch {store} {events} {scratch'} {store'} {events'} {h} {at} {c
     λ (z : ℕ × (List ℕ × (ℕ × List ℕ))). Finishes store events at (entered h body z.0) z.1.0 (64 + 16 * z.1.1.0) (z.1.1.1 ++ held) store' events' m in
     record { finishes = subst Is (λ i. (c i, (s i, (g i, t i)))) w }
 
--- the end of the run leaves the counts
-pub record SameCounts (h next : Header) : Type 0 where
-  pub heap : next.heap ≡ h.heap
-  pub entries : next.entries ≡ h.entries
-
-pub over-counts : (h : Header) {next : Header} → next ≡ over h → SameCounts h next
-over-counts h e = record { heap = ap (λ (z : Header). z.heap) e; entries = ap (λ (z : Header). z.entries) e }
-
 pub outside_as : {frame : Frame} {bytes store events store' events' : List ℕ} {h : Header} {at : ℕ} {value : Slot} {slots values : List Slot} {tag : ℕ} (k : ℕ) {shown : List ℕ} {next : Header}
-    {m : Made} → value.sort ≡ 2 → next ≡ over h → shown ≡ event_head 7 2 tag k value.payload → length values ≡ k → slots ≡ values
+    {m : Result Step Stop} → value.sort ≡ 2 → next ≡ over h → shown ≡ event_head 7 2 tag k value.payload → length values ≡ k → slots ≡ values
     → Finishes store events at next (shown ++ each slot_bytes (map (shown_as (heap_in store next)) slots)) 64 [] store' events' m
     → Invokes frame bytes store events h at value values tag store' events' m
 outside_as {store = store} {events} {store'} {events'} {h} {at} {value} {slots} {values} {tag} k {shown} {next} {m} s n e c q w =
@@ -70,18 +62,18 @@ outside_as {store = store} {events} {store'} {events'} {h} {at} {value} {slots} 
     of-outside s (subst Is (λ i. (n i, (g i, q i))) w)
 
 -- an entrance with equal parts
-entrance_as : {frame : Frame} {bytes : List ℕ} {cell cell' : Cell} {tag j k : ℕ} {r r' : Parameters} → cell ≡ cell' → j ≡ k → r ≡ r' → EntranceOf frame bytes cell tag j r
+entrance_as : {frame : Frame} {bytes : List ℕ} {cell cell' : Cell} {tag j k : ℕ} {r r' : Maybe Parameters} → cell ≡ cell' → j ≡ k → r ≡ r' → EntranceOf frame bytes cell tag j r
     → EntranceOf frame bytes cell' tag k r'
-entrance_as {frame} {bytes} {tag = tag} c n e w = subst (λ (z : Cell × (ℕ × Parameters)). EntranceOf frame bytes z.0 tag z.1.0 z.1.1) (λ i. (c i, (n i, e i))) w
+entrance_as {frame} {bytes} {tag = tag} c n e w = subst (λ (z : Cell × (ℕ × Maybe Parameters)). EntranceOf frame bytes z.0 tag z.1.0 z.1.1) (λ i. (c i, (n i, e i))) w
 
 -- the clause of this cell was asked for with as many parameters as there are values
-module _ {frame : Frame} {bytes store events : List ℕ} {h : Header} {at : ℕ} {value : Slot} {values : List Slot} {tag k : ℕ} {cell : Cell} {r : Parameters}
+module _ {frame : Frame} {bytes store events : List ℕ} {h : Header} {at : ℕ} {value : Slot} {values : List Slot} {tag k : ℕ} {cell : Cell} {r : Maybe Parameters}
     (w : EntranceOf frame bytes cell tag k r) (c : cell ≡ cell_in' (heap_in store h) value) (n : length values ≡ k) where
-  pub nothing_as : r ≡ Absent → (value.sort ≡ 2 → ⊥) → Invokes frame bytes store events h at value values tag store events Nothing
+  pub nothing_as : r ≡ None → (value.sort ≡ 2 → ⊥) → Invokes frame bytes store events h at value values tag store events (Err NoStep)
   nothing_as e s = of-nothing s (entrance_as c (sym n) e w)
 
-  pub closure_as : {row : Row} {body : ℕ} {slots : List Slot} {store' events' : List ℕ} {m : Made} → r ≡ Listed row body → slots ≡ values
-      → EntersClause store events h at cell body (ids_in bytes row) slots tag store' events' m → Invokes frame bytes store events h at value values tag store' events' m
-  closure_as {row} {body} {slots} {store'} {events'} {m} e q x =
+  pub closure_as : {p : Parameters} {slots : List Slot} {store' events' : List ℕ} {m : Result Step Stop} → r ≡ Some p → slots ≡ values
+      → EntersClause store events h at cell p.body (ids_in bytes p.row) slots tag store' events' m → Invokes frame bytes store events h at value values tag store' events' m
+  closure_as {p} {slots} {store'} {events'} {m} e q x =
       of-closure (entrance_as c (sym n) e w)
-      (subst (λ (z : Cell × List Slot). EntersClause store events h at z.0 body (ids_in bytes row) z.1 tag store' events' m) (λ i. (c i, q i)) x)
+      (subst (λ (z : Cell × List Slot). EntersClause store events h at z.0 p.body (ids_in bytes p.row) z.1 tag store' events' m) (λ i. (c i, q i)) x)

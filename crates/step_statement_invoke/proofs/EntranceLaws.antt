@@ -5,39 +5,38 @@ use mathlib.Core.Bool.{true}
 use mathlib.Core.List.{List}
 use native.Mathlib.Omega.{arith}
 use lib.ListN.{length}
+use Rattle.std.specs.Prelude.{Option as Maybe, Some}
 use Rattle.image_directory.specs.declared.Frame.{Frame}
 use Rattle.step_slots.specs.declared.Slot.{Slot}
 use Rattle.step_slots.specs.Views.{slots_at, all_slots}
 use Rattle.step_header.specs.declared.Header.{Header}
 use Rattle.step_header.specs.Headers.{heap_in, Holds}
-use Rattle.step_rows.specs.declared.Row.{Row}
 use Rattle.step_cells.specs.declared.Cell.{Cell}
 use Rattle.step_cells.specs.Cells.{cell_in'}
 use Rattle.step_cells.proofs.HeapLaws.{cell_holds}
 use Rattle.step_enter.specs.declared.Parameters.{Parameters}
-use Rattle.step_enter.specs.declared.Parameters.TheVariants.{Listed}
 use Rattle.step_enter.specs.Entering.{ClauseOf}
 use Rattle.step_enter.proofs.ParameterLaws.{Fitting, fitting}
 use Rattle.step_statement_invoke.specs.Invoking.{EntranceOf, no-closure, no_record, no-clause, other-count, a-clause, Enterable}
 
 -- what is known of one that was found
-pub record Entered (frame : Frame) (bytes : List ℕ) (cell : Cell) (tag k : ℕ) (row : Row) (body : ℕ) : Type 0 where
+pub record Entered (frame : Frame) (bytes : List ℕ) (cell : Cell) (tag k : ℕ) (p : Parameters) : Type 0 where
   pub sort : cell.sort ≡ 4
-  pub clause : ClauseOf frame bytes cell.id tag (Listed row body)
-  pub count : row.len ≡ k
+  pub clause : ClauseOf frame bytes cell.id tag (Some p)
+  pub count : p.row.len ≡ k
 
-module _ {frame : Frame} {bytes : List ℕ} {cell : Cell} {tag k : ℕ} {row : Row} {body : ℕ} where
-  pub entered_by : {r : Parameters} → EntranceOf frame bytes cell tag k r → r ≡ Listed row body → Entered frame bytes cell tag k row body
+module _ {frame : Frame} {bytes : List ℕ} {cell : Cell} {tag k : ℕ} {p : Parameters} where
+  pub entered_by : {r : Maybe Parameters} → EntranceOf frame bytes cell tag k r → r ≡ Some p → Entered frame bytes cell tag k p
   entered_by (no-closure s) e = let z : ◌≡◌ {A = ℕ} 0 1 = cc in absurd (omega arith)
   entered_by (no_record s n) e = let z : ◌≡◌ {A = ℕ} 0 1 = cc in absurd (omega arith)
   entered_by (no-clause s f) e = let z : ◌≡◌ {A = ℕ} 0 1 = cc in absurd (omega arith)
   entered_by (other-count s f n) e = let z : ◌≡◌ {A = ℕ} 0 1 = cc in absurd (omega arith)
-  entered_by (a-clause {row = w} {body = b} s f c) e =
-      let x : w ≡ row = cc (e) in
-      record { sort = s; clause = subst (ClauseOf frame bytes cell.id tag) e f; count = sym (ap (λ (t : Row). t.len) x) ∙ c }
+  entered_by (a-clause {p = q} s f c) e =
+      let same : q ≡ p = cc (e) in
+      subst (Entered frame bytes cell tag k) same record { sort = s; clause = f; count = c }
 
-  module _ (w : Entered frame bytes cell tag k row body) where
-    entered-fits : Fitting bytes row
+  module _ (w : Entered frame bytes cell tag k p) where
+    entered-fits : Fitting bytes p.row
     entered-fits = fitting refl w.clause.reads
 
     pub entered-few : k ≤ 128
@@ -45,7 +44,7 @@ module _ {frame : Frame} {bytes : List ℕ} {cell : Cell} {tag k : ℕ} {row : R
 
     -- it can be entered
     pub can_enter : {store events scratch : List ℕ} {h : Header} {at : ℕ} (value : Slot) → Holds store h → cell ≡ cell_in' (heap_in store h) value → at ≤ length events → 2080 ≤ length scratch
-        → all_slots (slots_at scratch 0 k) ≡ true → Enterable bytes store events scratch h at cell row
+        → all_slots (slots_at scratch 0 k) ≡ true → Enterable bytes store events scratch h at cell p.row
     can_enter {store} {scratch = scratch} {h} value o e n r s = record {
       inside = entered-fits.inside;
       holds = o;

@@ -7,6 +7,7 @@ use mathlib.Core.Option.{Option, some}
 use native.Mathlib.Omega.{arith}
 use lib.ListN.{length, take, drop, length-append}
 use lib.Seq.{take-length}
+use Rattle.std.specs.Prelude.{Option as Maybe, None, Result}
 use Rattle.syntax.specs.Context.{Context}
 use Rattle.syntax.specs.declared.names.Name.{Name}
 use Rattle.syntax.specs.declared.names.VarId.{VarId}
@@ -32,7 +33,6 @@ use Rattle.step_spec.proofs.Lists.{each-++}
 use Rattle.step_header.specs.declared.Header.{Header}
 use Rattle.step_header.specs.Headers.{heap_in, entries_in}
 use Rattle.step_places.specs.Searches.{Finds}
-use Rattle.step_rows.specs.declared.Row.{Row}
 use Rattle.step_rows.specs.Rows.{ids_in}
 use Rattle.step_rows.proofs.RowLaws.{ids-length}
 use Rattle.step_gather.specs.Gathering.{renamed, shown_as}
@@ -41,11 +41,11 @@ use Rattle.step_cells.specs.declared.Cell.{Cell}
 use Rattle.step_cells.specs.Cells.{cell_in'}
 use Rattle.step_cells.proofs.CellLaws.{Meets, OfCreate, cells_of, lacks_halts, is_create_lem, is_outside, invoked-create, no_target}
 use Rattle.step_cells.proofs.CreateLaws.{created}
-use Rattle.step_write.specs.declared.Made.{Made}
+use Rattle.step_write.specs.declared.Step.{Step}
+use Rattle.step_write.specs.declared.Stop.{Stop}
 use Rattle.step_write.specs.Writing.{Finishes}
 use Rattle.step_show.proofs.ShownLaws.{shown_anywhere}
 use Rattle.step_enter.specs.declared.Parameters.{Parameters}
-use Rattle.step_enter.specs.declared.Parameters.TheVariants.{Absent}
 use Rattle.step_enter.proofs.Around.{nothing_makes}
 use Rattle.step_enter.proofs.ParameterLaws.{with_values, absent-halts, uneven_halts, enters_with}
 use Rattle.step_rule.specs.declared.Stepper.{Stepper}
@@ -118,7 +118,7 @@ module _ {M : Machine} {P : Prog} {stepper : Stepper} {bytes store : List ℕ} {
   outside-step s =
       rule.goes ∙ (ap (λ (v : Option Value). or_halt v λ v. or_halt (invoked (cells_of P l) v) rule.enter) (is_outside met s) ∙ rule.ends value.payload)
 
-  outside-makes : {events store' events' : List ℕ} {at' : ℕ} {m : Made} → value.sort ≡ 2
+  outside-makes : {events store' events' : List ℕ} {at' : ℕ} {m : Result Step Stop} → value.sort ≡ 2
       → Finishes store events at' (over h) (event_head 7 2 tag.0 (length values) value.payload ++ each slot_bytes (map (shown_as (heap_in store h)) values)) 64 [] store' events' m
       → Makes store events at' (resting (located_step M P l)) store' events' m
   unfolding event_bytes next_place_lem
@@ -145,12 +145,12 @@ module _ {M : Machine} {P : Prog} {stepper : Stepper} {bytes store : List ℕ} {
       ∙ (ap (λ (x : Option Target). or_halt x rule.enter) (invoked-create c) ∙ rule.enters cell.number c.entries (clauses_in (stmt_in P cell.id))))
 
   -- what the search found of its clauses
-  searched : OfCreate P store h l w cell → {r : Parameters} (f : ClauseOf stepper.frame bytes cell.id tag.0 r)
+  searched : OfCreate P store h l w cell → {r : Maybe Parameters} (f : ClauseOf stepper.frame bytes cell.id tag.0 r)
       → Finds (λ c. c.0) (λ c. c.1) 11 (max_depth - 1) (image.records_in stepper.frame bytes) (clause_place tag (clauses_in (stmt_in P cell.id)) (cell.id + 1))
       (find_clause_lem tag (clauses_in (stmt_in P cell.id))) f.found
   searched c f = f.finds.finds (max_depth - 1) (clauses_in (stmt_in P cell.id)) (created p o ready c).clauses
 
-  nothing-step : (value.sort ≡ 2 → ⊥) → EntranceOf stepper.frame bytes cell tag.0 (length values) Absent → M.step P (project P l) ≡ halts
+  nothing-step : (value.sort ≡ 2 → ⊥) → EntranceOf stepper.frame bytes cell tag.0 (length values) None → M.step P (project P l) ≡ halts
   nothing-step s (no-closure n) =
       rule.goes ∙ lacks_halts (no_target met s n) (λ v. or_halt (invoked (cells_of P l) v) rule.enter) (λ v e. ap (λ (x : Option Target). or_halt x rule.enter) e)
   nothing-step s (no_record k n) = absurd (omega (arith, n, (created p o ready (is_create_lem met k)).at.inside))
@@ -180,12 +180,12 @@ module _ {M : Machine} {P : Prog} {stepper : Stepper} {bytes store : List ℕ} {
     closure-count : (xs : List VarId) → length xs ≡ length values → length values + cell.len ≡ length (renamed xs values ++ held)
     closure-count xs n = omega (arith, n, renamed-length xs values n, c.holds.count, length-append (renamed xs values) held)
 
-    closure-makes : {events store' events' : List ℕ} {at' body : ℕ} {row : Row} {m : Made} → Entered stepper.frame bytes cell tag.0 (length values) row body
-        → EntersClause store events h at' cell body (ids_in bytes row) values tag.0 store' events' m → Makes store events at' (resting (located_step M P l)) store' events' m
+    closure-makes : {events store' events' : List ℕ} {at' : ℕ} {q : Parameters} {m : Result Step Stop} → Entered stepper.frame bytes cell tag.0 (length values) q
+        → EntersClause store events h at' cell q.body (ids_in bytes q.row) values tag.0 store' events' m → Makes store events at' (resting (located_step M P l)) store' events' m
     unfolding event_bytes
-    closure-makes {events} {store'} {events'} {at'} {body} {row} {m} x f =
-        let xs = ids_in bytes row in
-        let n : length xs ≡ length values = ids-length bytes row ∙ x.count in
+    closure-makes {events} {store'} {events'} {at'} {q} {m} x f =
+        let xs = ids_in bytes q.row in
+        let n : length xs ≡ length values = ids-length bytes q.row ∙ x.count in
         let g = enters_with (searched c x.clause) x.clause.reads args (with_pairs c.entries) refl of (x.count ∙ valued.count) in
         let step = closure-step c ∙ g.is in
         let goes = step ∙ rule.runs cell.number g.what.1 (g.new ++ c.entries) (ap is_stop (sym step) ∙ o.goes) in
@@ -193,13 +193,13 @@ module _ {M : Machine} {P : Prog} {stepper : Stepper} {bytes store : List ℕ} {
         let T = take (16 * cell.len) (drop cell.from store) in
         let written : each slot_bytes E ≡ each slot_bytes (renamed xs values) ++ T =
         each-++ slot_bytes (renamed xs values) held ∙ ap (λ (z : List ℕ). each slot_bytes (renamed xs values) ++ z) (sym held_bytes) in
-        let lead = lead_same o g.what.1 (g.new ++ c.entries) {p = body} {n = length values + cell.len} {environment = E} (Invoke' cell.number tag) goes (g.next ∙ closure-place)
+        let lead = lead_same o g.what.1 (g.new ++ c.entries) {p = q.body} {n = length values + cell.len} {environment = E} (Invoke' cell.number tag) goes (g.next ∙ closure-place)
         (closure-count xs n) (closure-environment xs g.new g.slots) in
         leads-makes o lead events at' 0 (omega arith) {from = 64 + 16 * h.heap} {written = each slot_bytes (renamed xs values) ++ T} (omega arith) written f.finishes
 
   -- ---- what is written is the step
 
-  pub invokes-makes : {events store' events' : List ℕ} {at' : ℕ} {m : Made} → Invokes stepper.frame bytes store events h at' value values tag.0 store' events' m
+  pub invokes-makes : {events store' events' : List ℕ} {at' : ℕ} {m : Result Step Stop} → Invokes stepper.frame bytes store events h at' value values tag.0 store' events' m
       → Makes store events at' (resting (located_step M P l)) store' events' m
   invokes-makes (of-outside s f) = outside-makes s f
   invokes-makes (of-nothing s e) = nothing_makes o (nothing-step s e)

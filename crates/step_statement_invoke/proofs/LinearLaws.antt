@@ -5,6 +5,7 @@ use mathlib.Core.List.{List, [], ◌∷◌, map}
 use mathlib.Core.Option.{Option, some, none}
 use native.Mathlib.Omega.{arith}
 use lib.ListN.{length, drop, get_or, length-map}
+use Rattle.std.specs.Prelude.{Result, Err}
 use Rattle.syntax.specs.declared.names.VarId.{VarId}
 use Rattle.model.specs.Machine.{Value, Entries, values, ended, Invoke', or_halt, invoked}
 use Rattle.model.specs.Linear.{first, before_last, shows_unless_twice, last_value_lem, linear_enter_lem, linear_work}
@@ -25,8 +26,9 @@ use Rattle.step_gather.proofs.GatheringLaws.{renamed-values, shown-entries}
 use Rattle.step_cells.proofs.CellLaws.{Meets, cells_of, meets}
 use Rattle.step_cells.specs.Cells.{cell_in'}
 use Rattle.step_tags.specs.Tags.{tag_in}
-use Rattle.step_write.specs.declared.Made.{Made}
-use Rattle.step_write.specs.declared.Made.TheVariants.{Nothing}
+use Rattle.step_write.specs.declared.Step.{Step}
+use Rattle.step_write.specs.declared.Stop.{Stop}
+use Rattle.step_write.specs.declared.Stop.TheVariants.{NoStep}
 use Rattle.step_rule.specs.declared.Stepper.{Stepper}
 use Rattle.step_rule.specs.Rules.{ProgramOf, Stored, resting, Makes}
 use Rattle.step_rule.proofs.Views.{viewed}
@@ -111,7 +113,7 @@ module _ {P : Prog} {store : List ℕ} {h : Header} {l : Located} (o : Stored li
       go (x ∷ ε) e = absurd (omega arith)
 
   module _ {stepper : Stepper} {bytes : List ℕ} (p : ProgramOf P stepper bytes) (a : At stepper.frame bytes h.position 7) where
-    pub linear-makes : {events store' events' : List ℕ} {at' : ℕ} {value : Slot} {k tag : ℕ} {m : Made} → 0 < h.entries → value ≡ slot_at store (64 + 16 * h.heap + 16 * (h.entries - 1))
+    pub linear-makes : {events store' events' : List ℕ} {at' : ℕ} {value : Slot} {k tag : ℕ} {m : Result Step Stop} → 0 < h.entries → value ≡ slot_at store (64 + 16 * h.heap + 16 * (h.entries - 1))
         → k ≡ h.entries - 1 → tag ≡ (tag_in (record_at stepper.frame bytes h.position)).name.0
         → Invokes stepper.frame bytes store events h at' value (slots_at store (64 + 16 * h.heap) k) tag store' events' m
         → Makes store events at' (resting (located_step linear_machine P l)) store' events' m
@@ -122,7 +124,7 @@ module _ {P : Prog} {store : List ℕ} {h : Header} {l : Located} (o : Stored li
         let x = last l.environment (h.entries - 1) (omega (arith, n, environment-count o)) in
         invokes-makes p o a.ready (linear-rule i) before-valued (last_met n x e) (subst Is (λ j. (c j, q j)) w)
 
-    pub linear_none : {events : List ℕ} {at' : ℕ} → h.entries ≡ 0 → Makes store events at' (resting (located_step linear_machine P l)) store events Nothing
+    pub linear_none : {events : List ℕ} {at' : ℕ} → h.entries ≡ 0 → Makes store events at' (resting (located_step linear_machine P l)) store events (Err NoStep)
     linear_none n =
         let i = invocation-at p o a in
         nothing_makes o ((linear-rule i).goes ∙ ap (λ (v : Option Value). or_halt v λ v. or_halt (invoked (cells_of P l) v) (linear-rule i).enter) (none_last n))

@@ -5,6 +5,7 @@ use mathlib.Core.Bool.{true, false}
 use mathlib.Core.List.{List, map}
 use mathlib.Core.Option.{Option, none, some}
 use lib.ListN.{length, length-map}
+use Rattle.std.specs.Prelude.{Result, Err}
 use Rattle.syntax.specs.Context.{ids}
 use Rattle.model.specs.Lists.{lookup, lookups}
 use Rattle.model.specs.Machine.{Value, at, ended, Invoke', Outcome, shows, halts, or_halt, Target, invoked}
@@ -27,8 +28,9 @@ use Rattle.step_gather.specs.Gathering.{all_found_lem, found_slots, shown_as, re
 use Rattle.step_gather.proofs.GatheringLaws.{gathered, not_gathered, shown-values}
 use Rattle.step_cells.proofs.CellLaws.{cells_of, looked-up}
 use Rattle.step_tags.specs.Tags.{tag_in}
-use Rattle.step_write.specs.declared.Made.{Made}
-use Rattle.step_write.specs.declared.Made.TheVariants.{Nothing}
+use Rattle.step_write.specs.declared.Step.{Step}
+use Rattle.step_write.specs.declared.Stop.{Stop}
+use Rattle.step_write.specs.declared.Stop.TheVariants.{NoStep}
 use Rattle.step_enter.proofs.Around.{nothing_makes}
 use Rattle.step_rule.specs.declared.Stepper.{Stepper}
 use Rattle.step_rule.specs.Rules.{ProgramOf, Stored, resting, Makes}
@@ -85,7 +87,7 @@ module _ {P : Prog} {stepper : Stepper} {bytes store : List ℕ} {h : Header} {l
   args_are : ids_in bytes row ≡ ids i.args
   args_are = x.args.ids ∙ ap (λ (r : Record). ids (list_of r)) i.holds
 
-  pub source-makes : {events store' events' : List ℕ} {at' : ℕ} {values : List Slot} {m : Made} → all_found_lem (entries_in store h) (ids_in bytes row) ≡ true
+  pub source-makes : {events store' events' : List ℕ} {at' : ℕ} {values : List Slot} {m : Result Step Stop} → all_found_lem (entries_in store h) (ids_in bytes row) ≡ true
       → values ≡ found_slots (entries_in store h) (ids_in bytes row) → Invokes stepper.frame bytes store events h at' value values tag store' events' m
       → Makes store events at' (resting (located_step source_machine P l)) store' events' m
   source-makes {events} {store'} {events'} {at'} {values} {m} f e w =
@@ -103,5 +105,5 @@ module _ {P : Prog} {stepper : Stepper} {bytes store : List ℕ} {h : Header} {l
       invokes-makes p o a.ready (source-rule o i g.found g.looked) valued (looked-up o i.var.id (sees o i.var.id v) refl)
       (subst (λ (k : ℕ). Invokes stepper.frame bytes store events h at' value values k store' events' m) n w)
 
-  pub source_none : {events : List ℕ} {at' : ℕ} → all_found_lem (entries_in store h) (ids_in bytes row) ≡ false → Makes store events at' (resting (located_step source_machine P l)) store events Nothing
+  pub source_none : {events : List ℕ} {at' : ℕ} → all_found_lem (entries_in store h) (ids_in bytes row) ≡ false → Makes store events at' (resting (located_step source_machine P l)) store events (Err NoStep)
   source_none f = nothing_makes o (source-halts o i (not_gathered o (ids i.args) (ap (all_found_lem (entries_in store h)) (sym args_are) ∙ f)))

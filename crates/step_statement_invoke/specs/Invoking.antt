@@ -1,5 +1,5 @@
 -- What an Invoke finds for the value of var, and what it writes.
-use Rattle.std.specs.Prelude.{ℕ, ◌+◌, ◌*◌, ◌≤◌, ◌≡◌, true, List, [], ◌++◌, map, length, take, drop}
+use Rattle.std.specs.Prelude.{ℕ, ◌+◌, ◌*◌, ◌≤◌, ◌≡◌, true, false, List, [], ◌++◌, map, length, take, drop, Option, Some, None, Result, Err}
 use Rattle.syntax.specs.declared.names.VarId.{VarId}
 use Rattle.image_spec.specs.Parse.{each}
 use Rattle.image_directory.specs.declared.Frame.{Frame}
@@ -14,21 +14,21 @@ use Rattle.step_rows.specs.Rows.{ids_in, Inside}
 use Rattle.step_gather.specs.Gathering.{renamed, shown_as}
 use Rattle.step_cells.specs.declared.Cell.{Cell}
 use Rattle.step_cells.specs.Cells.{cell_in'}
-use Rattle.step_write.specs.declared.Made.{Made}
-use Rattle.step_write.specs.declared.Made.TheVariants.{Nothing}
+use Rattle.step_write.specs.declared.Step.{Step}
+use Rattle.step_write.specs.declared.Stop.{Stop}
+use Rattle.step_write.specs.declared.Stop.TheVariants.{NoStep}
 use Rattle.step_write.specs.Writing.{Finishes}
 use Rattle.step_enter.specs.declared.Parameters.{Parameters}
-use Rattle.step_enter.specs.declared.Parameters.TheVariants.{Absent, Listed}
 use Rattle.step_enter.specs.Entering.{ClauseOf, entered}
 
 -- the clause of a cell that has this tag and k parameters. There is none where the cell is no closure, was made at no record (which does not happen), or has
 -- no such clause
-pub data EntranceOf (frame : Frame) (bytes : List ℕ) (cell : Cell) (tag k : ℕ) : Parameters → Type 0 where
-  no-closure : (cell.sort ≡ 4 → ⊥) → EntranceOf frame bytes cell tag k Absent
-  no_record : cell.sort ≡ 4 → frame.count ≤ cell.id → EntranceOf frame bytes cell tag k Absent
-  no-clause : cell.sort ≡ 4 → ClauseOf frame bytes cell.id tag Absent → EntranceOf frame bytes cell tag k Absent
-  other-count : {row : Row} {body : ℕ} → cell.sort ≡ 4 → ClauseOf frame bytes cell.id tag (Listed row body) → (row.len ≡ k → ⊥) → EntranceOf frame bytes cell tag k Absent
-  a-clause : {row : Row} {body : ℕ} → cell.sort ≡ 4 → ClauseOf frame bytes cell.id tag (Listed row body) → row.len ≡ k → EntranceOf frame bytes cell tag k (Listed row body)
+pub data EntranceOf (frame : Frame) (bytes : List ℕ) (cell : Cell) (tag k : ℕ) : Option Parameters → Type 0 where
+  no-closure : (cell.sort ≡ 4 → ⊥) → EntranceOf frame bytes cell tag k None
+  no_record : cell.sort ≡ 4 → frame.count ≤ cell.id → EntranceOf frame bytes cell tag k None
+  no-clause : cell.sort ≡ 4 → ClauseOf frame bytes cell.id tag None → EntranceOf frame bytes cell tag k None
+  other-count : {p : Parameters} → cell.sort ≡ 4 → ClauseOf frame bytes cell.id tag (Some p) → (p.row.len ≡ k → ⊥) → EntranceOf frame bytes cell tag k None
+  a-clause : {p : Parameters} → cell.sort ≡ 4 → ClauseOf frame bytes cell.id tag (Some p) → p.row.len ≡ k → EntranceOf frame bytes cell tag k (Some p)
 
 -- ---- a clause is entered
 
@@ -42,7 +42,7 @@ pub record Enterable (bytes store events scratch : List ℕ) (h : Header) (at : 
   pub closure : cell.from + 16 * cell.len ≤ 64 + 16 * h.heap
 
 -- the body's environment: these slots under the parameters' IDs, and then what the closure holds
-pub record EntersClause (store events : List ℕ) (h : Header) (at : ℕ) (cell : Cell) (body : ℕ) (xs : List VarId) (values : List Slot) (tag : ℕ) (store' events' : List ℕ) (m : Made) : Type 0 where
+pub record EntersClause (store events : List ℕ) (h : Header) (at : ℕ) (cell : Cell) (body : ℕ) (xs : List VarId) (values : List Slot) (tag : ℕ) (store' events' : List ℕ) (m : Result Step Stop) : Type 0 where
   pub finishes : Finishes store events at (entered h body (length values + cell.len)) (event_head 7 1 tag 0 cell.number) (64 + 16 * h.heap)
       (each slot_bytes (renamed xs values) ++ take (16 * cell.len) (drop cell.from store)) store' events' m
 
@@ -50,15 +50,15 @@ pub record EntersClause (store events : List ℕ) (h : Header) (at : ℕ) (cell 
 
 -- the header of the state in which the run has ended
 abbrev pub over : Header → Header
-over h = record { position = h.position; ended = 1; stopped = 0; cells = h.cells; heap = h.heap; entries = h.entries }
+over h = record { position = h.position; ended = true; stopped = false; cells = h.cells; heap = h.heap; entries = h.entries }
 
 -- an Invoke of this value with the values of the args in these slots: of an outside number it shows them and ends the run; else it enters a clause, if
 -- there is one
-pub data Invokes (frame : Frame) (bytes store events : List ℕ) (h : Header) (at : ℕ) (value : Slot) (values : List Slot) (tag : ℕ) : (store' events' : List ℕ) → Made → Type 0 where
-  of-outside : {store' events' : List ℕ} {m : Made} → value.sort ≡ 2
+pub data Invokes (frame : Frame) (bytes store events : List ℕ) (h : Header) (at : ℕ) (value : Slot) (values : List Slot) (tag : ℕ) : (store' events' : List ℕ) → Result Step Stop → Type 0 where
+  of-outside : {store' events' : List ℕ} {m : Result Step Stop} → value.sort ≡ 2
       → Finishes store events at (over h) (event_head 7 2 tag (length values) value.payload ++ each slot_bytes (map (shown_as (heap_in store h)) values)) 64 [] store' events' m
       → Invokes frame bytes store events h at value values tag store' events' m
-  of-nothing : (value.sort ≡ 2 → ⊥) → EntranceOf frame bytes (cell_in' (heap_in store h) value) tag (length values) Absent
-      → Invokes frame bytes store events h at value values tag store events Nothing
-  of-closure : {row : Row} {body : ℕ} {store' events' : List ℕ} {m : Made} → EntranceOf frame bytes (cell_in' (heap_in store h) value) tag (length values) (Listed row body)
-      → EntersClause store events h at (cell_in' (heap_in store h) value) body (ids_in bytes row) values tag store' events' m → Invokes frame bytes store events h at value values tag store' events' m
+  of-nothing : (value.sort ≡ 2 → ⊥) → EntranceOf frame bytes (cell_in' (heap_in store h) value) tag (length values) None
+      → Invokes frame bytes store events h at value values tag store events (Err NoStep)
+  of-closure : {p : Parameters} {store' events' : List ℕ} {m : Result Step Stop} → EntranceOf frame bytes (cell_in' (heap_in store h) value) tag (length values) (Some p)
+      → EntersClause store events h at (cell_in' (heap_in store h) value) p.body (ids_in bytes p.row) values tag store' events' m → Invokes frame bytes store events h at value values tag store' events' m

@@ -14,13 +14,13 @@ ghost use Rattle.step_write.specs.Writing.{head_bytes};
 ghost use Rattle.step_rule.specs.Rules.{Given, MakesAs};
 ghost use Rattle.step_statement_invoke.specs.Invoking.{EntranceOf, Enterable, EntersClause, over, Invokes};
 
-use image_directory::{Frame, long};
+use image_directory::Frame;
 use image_kinds::kinds::Kind;
 use image_read_nodes::first;
 use step_cells::{Cell, cell_of};
 use step_enter::{Parameters, clause_of, fetch};
 use step_gather::{gather, rename};
-use step_header::{Header, place};
+use step_header::Header;
 use step_lookup::slot_of;
 use step_rows::Row;
 use step_rows::records::list_row;
@@ -28,7 +28,7 @@ use step_rule::Stepper;
 use step_show::{finish_showing, finish_showing_from};
 use step_slots::{Slot, read};
 use step_tags::tag_of;
-use step_write::{EventHead, Made, finish_entering};
+use step_write::{EventHead, Step, Stop, finish_entering};
 
 // The name of the tag of the Invoke at index i.
 fn read_tag(image: &[u8], frame: Frame, i: usize) -> u32
@@ -36,8 +36,7 @@ fn read_tag(image: &[u8], frame: Frame, i: usize) -> u32
     ensures { result ≡ (tag_in (record_at frame image.now i)).name.0 }
 {
     let tag = tag_of(image, frame, i, Kind::INVOKE);
-    let name = tag.name;
-    name.0 as u32
+    u32::from(tag.name.0)
 }
 
 // The parameters of the first clause with this tag of the closure in a cell; absent also where they are not k, or the cell is no closure.
@@ -48,29 +47,18 @@ fn entrance_of(
     cell: Cell,
     tag: u32,
     k: usize,
-) -> Parameters
+) -> Option<Parameters>
     requires { Ready frame image.now × Ends (records_in frame image.now) ends.now }
     ensures { EntranceOf frame image.now cell tag k result }
 {
-    let sort = cell.sort;
-    let count = frame.count;
-    let made = long(cell.id);
-    if sort != 4 {
-        return Parameters::Absent;
+    if cell.sort != 4 || frame.count <= cell.id as usize {
+        return None;
     }
-    if count <= made {
-        return Parameters::Absent;
+    let clause = clause_of(image, frame, ends, cell.id, tag)?;
+    if clause.row.len != k {
+        return None;
     }
-    match clause_of(image, frame, ends, cell.id, tag) {
-        Parameters::Absent => Parameters::Absent,
-        Parameters::Listed { row, body } => {
-            let len = row.len;
-            if len != k {
-                return Parameters::Absent;
-            }
-            Parameters::Listed { row, body }
-        }
-    }
+    Some(clause)
 }
 
 // The number of the closure's cell is shown, and the tag.
@@ -98,22 +86,20 @@ fn enter_clause(
     cell: Cell,
     tag: u32,
     body: u32,
-) -> Made
+) -> Result<Step, Stop>
     requires { Enterable image.now store.old events.old scratch.old header at cell row }
     ensures { EntersClause store.old events.old header at cell body (ids_in image.now row) (slots_at scratch.old 0 row.len) tag store.new events.new result }
 {
-    let heap = place(header.heap);
     let k = row.len;
     let len = cell.len;
     let next = Header {
         position: body,
-        ended: 0,
-        stopped: 0,
-        cells: header.cells,
-        heap: header.heap,
+        ended: false,
+        stopped: false,
         entries: (k + len) as u64,
+        ..header
     };
-    let from = 64 + 16 * heap;
+    let from = 64 + 16 * header.heap as usize;
     rename(image, row, scratch, 0);
     finish_entering(
         store,
@@ -154,12 +140,9 @@ fn ended(header: Header) -> Header
     ensures { result ≡ over header }
 {
     Header {
-        position: header.position,
-        ended: 1,
-        stopped: 0,
-        cells: header.cells,
-        heap: header.heap,
-        entries: header.entries,
+        ended: true,
+        stopped: false,
+        ..header
     }
 }
 
@@ -176,25 +159,28 @@ fn source_enter(
     value: Slot,
     tag: u32,
     k: usize,
-) -> Made
+) -> Result<Step, Stop>
     requires { Given stepper image.now store.old events.old scratch.old header at 7 × (Ends (records_in stepper.frame image.now) ends.now × ((k ≤ 128) × (all_slots (slots_at scratch.old 0 k) ≡ true))) }
     ensures { Invokes stepper.frame image.now store.old events.old header at value (slots_at scratch.old 0 k) tag store.new events.new result }
 {
-    let sort = value.sort;
-    let frame = stepper.frame;
-    if sort == 2 {
+    if value.sort == 2 {
         let shown = last_event(tag, value.payload, k);
         return finish_showing_from(store, events, at, shown, ended(header), scratch, k);
     }
     let cell = cell_of(store, header, value);
-    match entrance_of(image, frame, ends, cell, tag, k) {
-        Parameters::Absent => Made::Nothing,
-        Parameters::Listed { row, body } => {
-            enter_clause(
-                image, row, store, events, scratch, header, at, cell, tag, body,
-            )
-        }
-    }
+    let clause = entrance_of(image, stepper.frame, ends, cell, tag, k).ok_or(Stop::NoStep)?;
+    enter_clause(
+        image,
+        clause.row,
+        store,
+        events,
+        scratch,
+        header,
+        at,
+        cell,
+        tag,
+        clause.body,
+    )
 }
 
 // The source machine's: var and the args are looked up.
@@ -207,26 +193,24 @@ pub fn source(
     scratch: &mut [u8],
     header: Header,
     at: usize,
-) -> Made
+) -> Result<Step, Stop>
     requires { Given stepper image.now store.old events.old scratch.old header at 7 × Ends (records_in stepper.frame image.now) ends.now }
     ensures { MakesAs source_machine stepper image.now store.old events.old header at store.new events.new result }
 {
     let frame = stepper.frame;
-    let i = long(header.position);
-    let heap = place(header.heap);
-    let from = 64 + 16 * heap;
-    let n = place(header.entries);
+    let i = header.position as usize;
+    let from = 64 + 16 * header.heap as usize;
+    let n = header.entries as usize;
     let var = first(image, frame, i, Kind::INVOKE);
-    let id = var.id;
-    let value = slot_of(store, header, id.0);
+    let value = slot_of(store, header, var.id.0);
     let tag = read_tag(image, frame, i);
     let row = list_row(image, frame, i, Kind::INVOKE);
-    if gather(image, row, store, from, n, scratch, 0) {
-        return source_enter(
-            image, stepper, ends, store, events, scratch, header, at, value, tag, row.len,
-        );
+    if !gather(image, row, store, from, n, scratch, 0) {
+        return Err(Stop::NoStep);
     }
-    Made::Nothing
+    source_enter(
+        image, stepper, ends, store, events, scratch, header, at, value, tag, row.len,
+    )
 }
 
 // The values of the args are the first k entries.
@@ -242,28 +226,30 @@ fn linear_enter(
     value: Slot,
     tag: u32,
     k: usize,
-) -> Made
+) -> Result<Step, Stop>
     requires { Given stepper image.now store.old events.old scratch.old header at 7 × (Ends (records_in stepper.frame image.now) ends.now × (k ≤ header.entries)) }
     ensures { Invokes stepper.frame image.now store.old events.old header at value (slots_at store.old (64 + 16 * header.heap) k) tag store.new events.new result }
 {
-    let sort = value.sort;
-    let frame = stepper.frame;
-    let heap = place(header.heap);
-    let from = 64 + 16 * heap;
-    if sort == 2 {
+    let from = 64 + 16 * header.heap as usize;
+    if value.sort == 2 {
         let last = last_event(tag, value.payload, k);
         return finish_showing(store, events, at, last, ended(header), from, k);
     }
     let cell = cell_of(store, header, value);
-    match entrance_of(image, frame, ends, cell, tag, k) {
-        Parameters::Absent => Made::Nothing,
-        Parameters::Listed { row, body } => {
-            fetch(store, from, k, scratch);
-            enter_clause(
-                image, row, store, events, scratch, header, at, cell, tag, body,
-            )
-        }
-    }
+    let clause = entrance_of(image, stepper.frame, ends, cell, tag, k).ok_or(Stop::NoStep)?;
+    fetch(store, from, k, scratch);
+    enter_clause(
+        image,
+        clause.row,
+        store,
+        events,
+        scratch,
+        header,
+        at,
+        cell,
+        tag,
+        clause.body,
+    )
 }
 
 // The linear machine's: var is the last entry, and the args are those before it.
@@ -276,19 +262,18 @@ pub fn linear(
     scratch: &mut [u8],
     header: Header,
     at: usize,
-) -> Made
+) -> Result<Step, Stop>
     requires { Given stepper image.now store.old events.old scratch.old header at 7 × Ends (records_in stepper.frame image.now) ends.now }
     ensures { MakesAs linear_machine stepper image.now store.old events.old header at store.new events.new result }
 {
-    let frame = stepper.frame;
-    let heap = place(header.heap);
-    let n = place(header.entries);
+    let heap = header.heap as usize;
+    let n = header.entries as usize;
     if n == 0 {
-        return Made::Nothing;
+        return Err(Stop::NoStep);
     }
     let k = n - 1;
     let value = read(store, 64 + 16 * heap + 16 * k);
-    let tag = read_tag(image, frame, long(header.position));
+    let tag = read_tag(image, stepper.frame, header.position as usize);
     linear_enter(
         image, stepper, ends, store, events, scratch, header, at, value, tag, k,
     )

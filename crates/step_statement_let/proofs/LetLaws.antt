@@ -75,10 +75,6 @@ let_here {stepper = stepper} {bytes = bytes} {h = h} p o a = letting (here p o (
 
 -- ── the step in slots ──
 
--- how many slots there are after it
-pub counts : (h : Header) (j n : ℕ) {next : Header} → next ≡ kept h j n → next.heap + next.entries ≡ h.heap + (j + 1) + (n + 1)
-counts h j n e = ap (λ (z : Header). z.heap + z.entries) e
-
 module _ {M : Machine} {P : Prog} {store : List ℕ} {h : Header} {l : Located} (o : Stored M P store h l) where
   abbrev K : Cells
   K = map (cell_in P) l.cells

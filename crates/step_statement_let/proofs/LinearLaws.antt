@@ -5,6 +5,7 @@ use mathlib.Core.List.{List, [], ◌∷◌, ◌++◌, map, append-nil}
 use native.Mathlib.Omega.{arith}
 use lib.ListN.{length, take, drop, length-append, length-drop, length-map}
 use lib.Seq.{length-take-le}
+use Rattle.std.specs.Prelude.{Result}
 use Rattle.syntax.specs.Sets.{distinct}
 use Rattle.syntax.specs.Context.{id_of, ids}
 use Rattle.syntax.specs.declared.names.VarId.{VarId}
@@ -27,7 +28,8 @@ use Rattle.step_header.specs.declared.Header.{Header}
 use Rattle.step_header.specs.Headers.{entries_in}
 use Rattle.step_entries.specs.Named.{under}
 use Rattle.step_rows.proofs.RowLaws.{row-length}
-use Rattle.step_write.specs.declared.Made.{Made}
+use Rattle.step_write.specs.declared.Step.{Step}
+use Rattle.step_write.specs.declared.Stop.{Stop}
 use Rattle.step_rule.specs.declared.Stepper.{Stepper}
 use Rattle.step_rule.specs.Rules.{ProgramOf, Stored, resting, Makes}
 use Rattle.step_rule.proofs.Views.{viewed}
@@ -111,7 +113,7 @@ module _ {P : Prog} {stepper : Stepper} {bytes store : List ℕ} {h : Header} {l
         each-++ slot_bytes T (var ∷ []) ∙ ap₂ {C = List ℕ} (λ (y z : List ℕ). y ++ z) (sym (before-bytes o k)) (append-nil (slot_bytes var)) in
         each-++ slot_bytes (head ∷ D) (T ++ (var ∷ [])) ∙ ap₂ {C = List ℕ} (λ (y z : List ℕ). y ++ z) (sym e) t
 
-    pub linear-makes : (scratch : List ℕ) {events store' events' : List ℕ} {at' : ℕ} {m : Made}
+    pub linear-makes : (scratch : List ℕ) {events store' events' : List ℕ} {at' : ℕ} {m : Result Step Stop}
         → take (16 * (k + 1)) scratch ≡ each slot_bytes (cell_slot_lem h parts.tag ∷ D)
         → Adds store events h at' parts k (h.entries - k)
         (take (16 * (k + 1)) scratch ++ (take (16 * (h.entries - k)) (drop (64 + 16 * h.heap) store) ++ slot_bytes (var_slot_lem h parts.id))) store' events' m

@@ -6,6 +6,7 @@ use mathlib.Core.List.{List, [], ◌∷◌, ◌++◌, map, append_assoc}
 use mathlib.Core.Option.{Option, none, some}
 use native.Mathlib.Omega.{arith}
 use lib.ListN.{length, take, drop, length-map}
+use Rattle.std.specs.Prelude.{Result, Err}
 use Rattle.syntax.specs.Context.{ids}
 use Rattle.syntax.specs.declared.names.VarId.{VarId}
 use Rattle.model.specs.Syntax.{Let, Prog}
@@ -28,8 +29,9 @@ use Rattle.step_header.specs.Headers.{entries_in}
 use Rattle.step_entries.specs.Named.{named, under}
 use Rattle.step_rows.specs.Rows.{ids_in}
 use Rattle.step_rows.proofs.RowLaws.{ids-length}
-use Rattle.step_write.specs.declared.Made.{Made}
-use Rattle.step_write.specs.declared.Made.TheVariants.{Nothing}
+use Rattle.step_write.specs.declared.Step.{Step}
+use Rattle.step_write.specs.declared.Stop.{Stop}
+use Rattle.step_write.specs.declared.Stop.TheVariants.{NoStep}
 use Rattle.step_rule.specs.declared.Stepper.{Stepper}
 use Rattle.step_rule.specs.Rules.{ProgramOf, Stored, resting, Makes, no_step}
 use Rattle.step_rule.proofs.Views.{viewed}
@@ -75,7 +77,7 @@ module _ {P : Prog} {stepper : Stepper} {bytes store : List ℕ} {h : Header} {l
 
     -- one of the args is absent
     pub source-halts : {scratch events : List ℕ} {at' : ℕ} {b : Bool} → Packs E xs h parts scratch b → b ≡ false
-        → Makes store events at' (resting (located_step source_machine P l)) store events Nothing
+        → Makes store events at' (resting (located_step source_machine P l)) store events (Err NoStep)
     source-halts w f = rw (halted o (works none (ap (λ (ys : List VarId). lookups ys l.environment) args_are ∙ not_gathered o xs (sym w.found ∙ f)))) no_step
 
     abbrev F : List Slot
@@ -91,7 +93,7 @@ module _ {P : Prog} {stepper : Stepper} {bytes store : List ℕ} {h : Header} {l
         ap (λ (z : List Slot). each slot_bytes (head ∷ z)) (sym (append_assoc F (var ∷ []) E)) ∙ (each-++ slot_bytes X E ∙ ap₂ {C = List ℕ} (λ (y z : List ℕ). y ++ z) (sym e) t)
 
     -- all are there
-    pub source-makes : {scratch events store' events' : List ℕ} {at' : ℕ} {b : Bool} {m : Made} → Packs E xs h parts scratch b → b ≡ true
+    pub source-makes : {scratch events store' events' : List ℕ} {at' : ℕ} {b : Bool} {m : Result Step Stop} → Packs E xs h parts scratch b → b ≡ true
         → Adds store events h at' parts parts.args.len h.entries (take (16 * (parts.args.len + 2)) scratch ++ take (16 * h.entries) (drop (64 + 16 * h.heap) store)) store' events' m
         → Makes store events at' (resting (located_step source_machine P l)) store' events' m
     source-makes {scratch} {events} {at' = at'} w t d =

@@ -1,5 +1,5 @@
 -- What is read of a Let, and the slots and the header that its step writes.
-use Rattle.std.specs.Prelude.{ℕ, ◌+◌, ◌*◌, ◌≤◌, ◌≡◌, Bool, true, List, [], ◌∷◌, ◌++◌, length, take}
+use Rattle.std.specs.Prelude.{ℕ, ◌+◌, ◌*◌, ◌≤◌, ◌≡◌, Bool, true, false, List, [], ◌∷◌, ◌++◌, length, take, Result}
 use Rattle.syntax.specs.Context.{ids}
 use Rattle.syntax.specs.declared.names.VarId.{VarId}
 use Rattle.image_spec.specs.Parse.{each}
@@ -11,7 +11,8 @@ use Rattle.step_slots.specs.Slots.{slot, slot_bytes}
 use Rattle.step_spec.specs.Events.{event_head}
 use Rattle.step_header.specs.declared.Header.{Header}
 use Rattle.step_rows.specs.Rows.{RowOf}
-use Rattle.step_write.specs.declared.Made.{Made}
+use Rattle.step_write.specs.declared.Step.{Step}
+use Rattle.step_write.specs.declared.Stop.{Stop}
 use Rattle.step_write.specs.Writing.{Finishes}
 use Rattle.step_gather.specs.Gathering.{all_found_lem, found_slots}
 use Rattle.step_tags.specs.Tags.{tag_in}
@@ -26,7 +27,7 @@ pub record PartsOf (bytes : List ℕ) (r : Record) (parts : Parts) : Type 0 wher
 
 -- the header after it: the cell holds so many values, and so many entries stay beside var
 abbrev pub kept : Header → (held others : ℕ) → Header
-kept h j n = record { position = h.position + 1; ended = 0; stopped = 0; cells = h.cells + 1; heap = h.heap + (j + 1); entries = n + 1 }
+kept h j n = record { position = h.position + 1; ended = false; stopped = false; cells = h.cells + 1; heap = h.heap + (j + 1); entries = n + 1 }
 
 -- the new cell's own slot: the tag, and the cell's number
 abbrev pub cell_slot_lem : Header → (tag : ℕ) → Slot
@@ -42,5 +43,5 @@ pub record Packs (E : List Slot) (xs : List VarId) (h : Header) (parts : Parts) 
   pub put : r ≡ true → take (16 * (length xs + 2)) out' ≡ each slot_bytes (cell_slot_lem h parts.tag ∷ (found_slots E xs ++ (var_slot_lem h parts.id ∷ [])))
 
 -- these bytes behind the slots of the cells, with event and header
-pub record Adds (store events : List ℕ) (h : Header) (at : ℕ) (parts : Parts) (held others : ℕ) (bytes store' events' : List ℕ) (m : Made) : Type 0 where
+pub record Adds (store events : List ℕ) (h : Header) (at : ℕ) (parts : Parts) (held others : ℕ) (bytes store' events' : List ℕ) (m : Result Step Stop) : Type 0 where
   pub finishes : Finishes store events at (kept h held others) (event_head 4 1 parts.tag 0 h.cells) (64 + 16 * h.heap) bytes store' events' m

@@ -12,18 +12,18 @@ ghost use Rattle.step_write.specs.Writing.{head_bytes};
 ghost use Rattle.step_rule.specs.Rules.{Given, MakesAs};
 ghost use Rattle.step_statement_let.specs.Letting.{PartsOf, kept, cell_slot_lem, var_slot_lem, Packs, Adds};
 
-use image_directory::{Frame, long};
+use image_directory::Frame;
 use image_kinds::kinds::Kind;
 use image_read_nodes::first;
 use image_write_bytes::bytes::copy;
 use step_gather::{erase, gather};
-use step_header::{Header, long_count, place};
+use step_header::Header;
 use step_rows::Row;
 use step_rows::records::list_row;
 use step_rule::Stepper;
 use step_slots::{Slot, put_slot};
 use step_tags::tag_of;
-use step_write::{EventHead, Made, finish, finish_before};
+use step_write::{EventHead, Step, Stop, finish, finish_before};
 
 // What is read of a Let: the ID of its var, the name of its tag, and the row of its args.
 #[derive(Clone, Copy)]
@@ -33,27 +33,18 @@ pub struct Parts {
     pub args: Row,
 }
 
-fn wide(name: u16) -> u32
-    ensures { result ≡ name }
-{
-    name as u32
-}
-
 // The parts of the Let at this place.
 fn read_parts(image: &[u8], frame: Frame, position: u32) -> Parts
     requires { At frame image.now position 4 }
     ensures { PartsOf image.now (record_at frame image.now position) result }
 {
-    let i = long(position);
+    let i = position as usize;
     let var = first(image, frame, i, Kind::LET);
-    let xtor = tag_of(image, frame, i, Kind::LET);
+    let tag = tag_of(image, frame, i, Kind::LET);
     let args = list_row(image, frame, i, Kind::LET);
-    let id = var.id;
-    let name = xtor.name;
-    let tag = wide(name.0);
     Parts {
-        id: id.0,
-        tag,
+        id: var.id.0,
+        tag: u32::from(tag.name.0),
         args,
     }
 }
@@ -65,8 +56,8 @@ fn after(header: Header, held: u64, others: u64) -> Header
 {
     Header {
         position: header.position + 1,
-        ended: 0,
-        stopped: 0,
+        ended: false,
+        stopped: false,
         cells: header.cells + 1,
         heap: header.heap + (held + 1),
         entries: others + 1,
@@ -113,18 +104,15 @@ fn pack_found(image: &[u8], store: &[u8], header: Header, parts: Parts, scratch:
     requires { Inside image.now parts.args × (Holds store.now header × (16 * (parts.args.len + 2) ≤ length scratch.old)) }
     ensures { Packs (entries_in store.now header) (ids_in image.now parts.args) header parts scratch.new result }
 {
-    let heap = place(header.heap);
-    let entries = place(header.entries);
+    let from = 64 + 16 * header.heap as usize;
+    let entries = header.entries as usize;
     let args = parts.args;
-    let len = args.len;
-    let cell = cell_slot(header, parts.tag);
-    let var = var_slot(header, parts.id);
-    put_slot(scratch, 0, cell);
-    if gather(image, args, store, 64 + 16 * heap, entries, scratch, 16) {
-        put_slot(scratch, 16 + 16 * len, var);
-        return true;
+    put_slot(scratch, 0, cell_slot(header, parts.tag));
+    if !gather(image, args, store, from, entries, scratch, 16) {
+        return false;
     }
-    false
+    put_slot(scratch, 16 + 16 * args.len, var_slot(header, parts.id));
+    true
 }
 
 // The cell of k values and var that are in `scratch` go before the entries.
@@ -136,13 +124,13 @@ fn add_before(
     at: usize,
     parts: Parts,
     k: usize,
-) -> Made
+) -> Result<Step, Stop>
     requires { Holds store.old header × ((header.position + 1 < 2 ^ 32) × ((at ≤ length events.old) × (16 * (k + 2) ≤ length scratch.now))) }
     ensures { Adds store.old events.old header at parts k header.entries (take (16 * (k + 2)) scratch.now ++ take (16 * header.entries) (drop (64 + 16 * header.heap) store.old)) store.new events.new result }
 {
-    let heap = place(header.heap);
-    let n = place(header.entries);
-    let next = after(header, long_count(k), header.entries);
+    let heap = header.heap as usize;
+    let n = header.entries as usize;
+    let next = after(header, k as u64, header.entries);
     let shown = event(header, parts.tag);
     finish(
         store,
@@ -166,17 +154,15 @@ pub fn source(
     scratch: &mut [u8],
     header: Header,
     at: usize,
-) -> Made
+) -> Result<Step, Stop>
     requires { Given stepper image.now store.old events.old scratch.old header at 4 }
     ensures { MakesAs source_machine stepper image.now store.old events.old header at store.new events.new result }
 {
-    let frame = stepper.frame;
-    let parts = read_parts(image, frame, header.position);
-    let args = parts.args;
-    if pack_found(image, store, header, parts, scratch) {
-        return add_before(store, events, scratch, header, at, parts, args.len);
+    let parts = read_parts(image, stepper.frame, header.position);
+    if !pack_found(image, store, header, parts, scratch) {
+        return Err(Stop::NoStep);
     }
-    Made::Nothing
+    add_before(store, events, scratch, header, at, parts, parts.args.len)
 }
 
 // A cell that holds the values of the last k entries, at the beginning of `scratch`.
@@ -184,10 +170,9 @@ fn pack_last(store: &[u8], header: Header, tag: u32, k: usize, scratch: &mut [u8
     requires { Holds store.now header × ((k ≤ header.entries) × (16 * (k + 1) ≤ length scratch.old)) }
     ensures { take (16 * (k + 1)) scratch.new ≡ each slot_bytes (cell_slot_lem header tag ∷ map (under 0) (drop (header.entries - k) (entries_in store.now header))) }
 {
-    let heap = place(header.heap);
-    let others = place(header.entries) - k;
-    let cell = cell_slot(header, tag);
-    put_slot(scratch, 0, cell);
+    let heap = header.heap as usize;
+    let others = header.entries as usize - k;
+    put_slot(scratch, 0, cell_slot(header, tag));
     copy(store, 64 + 16 * heap + 16 * others, 16 * k, scratch, 16);
     erase(scratch, 16, k);
 }
@@ -201,13 +186,13 @@ fn add_behind(
     at: usize,
     parts: Parts,
     k: usize,
-) -> Made
+) -> Result<Step, Stop>
     requires { Holds store.old header × ((header.position + 1 < 2 ^ 32) × ((at ≤ length events.old) × ((k ≤ header.entries) × (16 * (k + 1) ≤ length scratch.now)))) }
     ensures { Adds store.old events.old header at parts k (header.entries - k) (take (16 * (k + 1)) scratch.now ++ (take (16 * (header.entries - k)) (drop (64 + 16 * header.heap) store.old) ++ slot_bytes (var_slot_lem header parts.id))) store.new events.new result }
 {
-    let heap = place(header.heap);
-    let others = place(header.entries) - k;
-    let next = after(header, long_count(k), long_count(others));
+    let heap = header.heap as usize;
+    let others = header.entries as usize - k;
+    let next = after(header, k as u64, others as u64);
     let shown = event(header, parts.tag);
     let var = var_slot(header, parts.id);
     finish_before(
@@ -233,16 +218,14 @@ pub fn linear(
     scratch: &mut [u8],
     header: Header,
     at: usize,
-) -> Made
+) -> Result<Step, Stop>
     requires { Given stepper image.now store.old events.old scratch.old header at 4 }
     ensures { MakesAs linear_machine stepper image.now store.old events.old header at store.new events.new result }
 {
-    let frame = stepper.frame;
-    let parts = read_parts(image, frame, header.position);
-    let args = parts.args;
-    let k = args.len;
-    if place(header.entries) < k {
-        return Made::Nothing;
+    let parts = read_parts(image, stepper.frame, header.position);
+    let k = parts.args.len;
+    if (header.entries as usize) < k {
+        return Err(Stop::NoStep);
     }
     pack_last(store, header, parts.tag, k, scratch);
     add_behind(store, events, scratch, header, at, parts, k)

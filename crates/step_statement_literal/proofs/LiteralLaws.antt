@@ -1,4 +1,5 @@
 -- Literal: the step of either machine. Assumes nothing.
+use Rattle.std.specs.Prelude.{Result}
 use Prim.Native.Nat.{ℕ, ◌+◌}
 use mathlib.Core.Path.{◌≡◌, refl, sym, ap, ap₂, ◌∙◌, subst}
 use mathlib.Core.Bool.{Bool, true, false, cond}
@@ -19,7 +20,8 @@ use Rattle.image_read_nodes.specs.Nodes.{record_at}
 use Rattle.step_spec.specs.Located.{Machine, source_machine, linear_machine, Located, stmt_in, cell_in, project, next_place_lem, located_step}
 use Rattle.step_spec.specs.Events.{event_bytes}
 use Rattle.step_header.specs.declared.Header.{Header}
-use Rattle.step_write.specs.declared.Made.{Made}
+use Rattle.step_write.specs.declared.Step.{Step}
+use Rattle.step_write.specs.declared.Stop.{Stop}
 use Rattle.step_rule.specs.declared.Stepper.{Stepper}
 use Rattle.step_rule.specs.Rules.{ProgramOf, Stored, resting, Makes}
 use Rattle.step_rule.proofs.Views.{viewed}
@@ -41,7 +43,7 @@ next_place : (P : Prog) (h : Header) (l : Located) (z : ℤ) (v : Identifier) (n
 unfolding next_place_lem flatten_clauses
 next_place P h l z v next p e = rw e (omega (arith, p))
 
-pub literal-makes : (b : Bool) {P : Prog} {stepper : Stepper} {bytes store events store' events' : List ℕ} {h : Header} {l : Located} {at' payload : ℕ} {z : ℤ} {v : Identifier} {m : Made}
+pub literal-makes : (b : Bool) {P : Prog} {stepper : Stepper} {bytes store events store' events' : List ℕ} {h : Header} {l : Located} {at' payload : ℕ} {z : ℤ} {v : Identifier} {m : Result Step Stop}
     → ProgramOf P stepper bytes → Stored (cond b linear_machine source_machine) P store h l → record_at stepper.frame bytes h.position ≡ literal z v → payload ≡ of_z w64 z
     → Binds b store events h at' 8 v.id.0 payload store' events' m → Makes store events at' (resting (located_step (cond b linear_machine source_machine) P l)) store' events' m
 unfolding event_bytes

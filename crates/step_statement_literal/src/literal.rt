@@ -1,14 +1,13 @@
 // literal.rs: the integer, under var.
 ghost use Rattle.step_rule.specs.Rules.{Given, machine_in, MakesAs};
 
-use image_directory::long;
 use image_integers::bits;
 use image_kinds::kinds::Kind;
 use pass_records as records;
 use step_bind::bind;
 use step_header::Header;
 use step_rule::Stepper;
-use step_write::Made;
+use step_write::{Step, Stop};
 
 pub fn literal(
     image: &[u8],
@@ -18,25 +17,20 @@ pub fn literal(
     scratch: &mut [u8],
     header: Header,
     at: usize,
-) -> Made
+) -> Result<Step, Stop>
     requires { Given stepper image.now store.old events.old scratch.old header at 8 }
     ensures { MakesAs (machine_in stepper) stepper image.now store.old events.old header at store.new events.new result }
 {
-    let frame = stepper.frame;
-    let linear = stepper.linear;
-    let statement = records::literal(image, frame, long(header.position));
-    let payload = bits(statement.lit);
-    let var = statement.var;
-    let id = var.id;
+    let statement = records::literal(image, stepper.frame, header.position as usize);
     bind(
-        linear,
+        stepper.linear,
         store,
         events,
         scratch,
         header,
         at,
         Kind::LITERAL,
-        id.0,
-        payload,
+        statement.var.id.0,
+        bits(statement.lit),
     )
 }

@@ -1,4 +1,5 @@
 -- Op: the step of either machine. Assumes nothing.
+use Rattle.std.specs.Prelude.{Result, Err}
 use Prim.Native.Nat.{ℕ, ◌+◌}
 use mathlib.Core.Path.{◌≡◌, refl, sym, ap₂, ◌∙◌}
 use mathlib.Core.Bool.{Bool, true, false}
@@ -24,8 +25,9 @@ use Rattle.step_spec.specs.Events.{event_bytes}
 use Rattle.step_header.specs.declared.Header.{Header}
 use Rattle.step_header.specs.Headers.{entries_in}
 use Rattle.step_entries.specs.Named.{named}
-use Rattle.step_write.specs.declared.Made.{Made}
-use Rattle.step_write.specs.declared.Made.TheVariants.{Nothing}
+use Rattle.step_write.specs.declared.Step.{Step}
+use Rattle.step_write.specs.declared.Stop.{Stop}
+use Rattle.step_write.specs.declared.Stop.TheVariants.{NoStep}
 use Rattle.step_rule.specs.declared.Stepper.{Stepper}
 use Rattle.step_rule.specs.Rules.{ProgramOf, Stored, resting, Makes}
 use Rattle.step_rule.proofs.Views.{viewed}
@@ -73,10 +75,10 @@ there (is_op next) = (next, refl)
 
 module _ (b : Bool) {P : Prog} {stepper : Stepper} {bytes store : List ℕ} {h : Header} {l : Located} {fst : Identifier} {f : BinOp} {snd v : Identifier}
     (p : ProgramOf P stepper bytes) (o : Stored (machine b) P store h l) (e : record_at stepper.frame bytes h.position ≡ op fst f snd v) (events : List ℕ) (at' : ℕ) where
-  pub op-halts : none ≡ shown store h fst f snd → Makes store events at' (resting (located_step (machine b) P l)) store events Nothing
+  pub op-halts : none ≡ shown store h fst f snd → Makes store events at' (resting (located_step (machine b) P l)) store events (Err NoStep)
   op-halts w = let t = there (here p o (op fst f snd v) e) in nothing-made o events at' (goes P l fst f snd v t.0 t.1 b o) w
 
-  pub op-makes : (z : ℤ) {payload : ℕ} {store' events' : List ℕ} {m : Made} → some z ≡ shown store h fst f snd → payload ≡ of_z w64 z
+  pub op-makes : (z : ℤ) {payload : ℕ} {store' events' : List ℕ} {m : Result Step Stop} → some z ≡ shown store h fst f snd → payload ≡ of_z w64 z
       → Binds b store events h at' 9 v.id.0 payload store' events' m → Makes store events at' (resting (located_step (machine b) P l)) store' events' m
   unfolding event_bytes
   op-makes z w q d =

@@ -1,4 +1,5 @@
 -- PrintI64: the step of either machine. Assumes nothing.
+use Rattle.std.specs.Prelude.{Result, Err}
 use Prim.Native.Nat.{ℕ, ◌+◌}
 use mathlib.Core.Path.{◌≡◌, refl, sym, ap, ap₂, ◌∙◌}
 use mathlib.Core.Bool.{Bool, true, false}
@@ -24,8 +25,9 @@ use Rattle.step_spec.specs.Events.{event_head, event_bytes}
 use Rattle.step_header.specs.declared.Header.{Header}
 use Rattle.step_header.specs.Headers.{entries_in}
 use Rattle.step_entries.specs.Named.{named}
-use Rattle.step_write.specs.declared.Made.{Made}
-use Rattle.step_write.specs.declared.Made.TheVariants.{Nothing}
+use Rattle.step_write.specs.declared.Step.{Step}
+use Rattle.step_write.specs.declared.Stop.{Stop}
+use Rattle.step_write.specs.declared.Stop.TheVariants.{NoStep}
 use Rattle.step_rule.specs.declared.Stepper.{Stepper}
 use Rattle.step_rule.specs.Rules.{ProgramOf, Stored, resting, Makes}
 use Rattle.step_rule.proofs.Views.{viewed}
@@ -71,11 +73,11 @@ there (is_print next) = (next, refl)
 
 module _ (b : Bool) {P : Prog} {stepper : Stepper} {bytes store : List ℕ} {h : Header} {l : Located} {newline : Bool} {v : Identifier}
     (p : ProgramOf P stepper bytes) (o : Stored (machine b) P store h l) (e : record_at stepper.frame bytes h.position ≡ print newline v) (events : List ℕ) (at' : ℕ) where
-  pub print-halts : none ≡ shown store h v → Makes store events at' (resting (located_step (machine b) P l)) store events Nothing
+  pub print-halts : none ≡ shown store h v → Makes store events at' (resting (located_step (machine b) P l)) store events (Err NoStep)
   print-halts w = let t = there (here p o (print newline v) e) in nothing-made o events at' (goes P l newline v t.0 t.1 b o) w
 
-  pub print-makes : (z : ℤ) {detail payload : ℕ} {store' events' : List ℕ} {m : Made} → some z ≡ shown store h v → detail ≡ newline_code_lem newline → payload ≡ of_z w64 z
-      → Stays store events h at' (h.position + 1) 0 (event_head 12 detail 0 0 payload) store' events' m → Makes store events at' (resting (located_step (machine b) P l)) store' events' m
+  pub print-makes : (z : ℤ) {detail payload : ℕ} {store' events' : List ℕ} {m : Result Step Stop} → some z ≡ shown store h v → detail ≡ newline_code_lem newline → payload ≡ of_z w64 z
+      → Stays store events h at' (h.position + 1) false (event_head 12 detail 0 0 payload) store' events' m → Makes store events at' (resting (located_step (machine b) P l)) store' events' m
   unfolding event_bytes
   print-makes z w d q s =
       let t = there (here p o (print newline v) e) in

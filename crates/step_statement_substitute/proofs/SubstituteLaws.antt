@@ -6,6 +6,7 @@ use mathlib.Core.List.{List, [], map}
 use mathlib.Core.Option.{Option, none, some}
 use native.Mathlib.Omega.{arith}
 use lib.ListN.{length, take, length-map}
+use Rattle.std.specs.Prelude.{Result, Err}
 use Rattle.syntax.specs.declared.names.VarId.{VarId}
 use Rattle.syntax.specs.declared.names.Identifier.{Identifier}
 use Rattle.syntax.specs.declared.context.ContextBinding.{ContextBinding}
@@ -28,8 +29,9 @@ use Rattle.step_entries.specs.Named.{named, under}
 use Rattle.step_rows.specs.Rows.{ids_in}
 use Rattle.step_rows.specs.RecordRows.{pairs_of}
 use Rattle.step_rows.proofs.RowLaws.{row-length, ids-length}
-use Rattle.step_write.specs.declared.Made.{Made}
-use Rattle.step_write.specs.declared.Made.TheVariants.{Nothing}
+use Rattle.step_write.specs.declared.Step.{Step}
+use Rattle.step_write.specs.declared.Stop.{Stop}
+use Rattle.step_write.specs.declared.Stop.TheVariants.{NoStep}
 use Rattle.step_rule.specs.declared.Stepper.{Stepper}
 use Rattle.step_rule.specs.Rules.{ProgramOf, Stored, resting, Makes, no_step}
 use Rattle.step_rule.proofs.Views.{viewed}
@@ -136,11 +138,11 @@ module _ {P : Prog} {stepper : Stepper} {bytes store : List ℕ} {h : Header} {l
 
     -- one of the sources is absent
     pub linear-halts : {scratch events : List ℕ} {at' : ℕ} {b : Bool} → Packs E xs ys scratch b → b ≡ false
-        → Makes store events at' (resting (located_step linear_machine P l)) store events Nothing
+        → Makes store events at' (resting (located_step linear_machine P l)) store events (Err NoStep)
     linear-halts w f = rw (halted o (works none (not_gathered o ys (sym w.found ∙ f)))) no_step
 
     -- all are there
-    pub linear-makes : {scratch events store' events' : List ℕ} {at' : ℕ} {b : Bool} {m : Made} → Packs E xs ys scratch b → b ≡ true
+    pub linear-makes : {scratch events store' events' : List ℕ} {at' : ℕ} {b : Bool} {m : Result Step Stop} → Packs E xs ys scratch b → b ≡ true
         → Replaces store events h at' parts.targets.len (take (16 * parts.targets.len) scratch) store' events' m
         → Makes store events at' (resting (located_step linear_machine P l)) store' events' m
     unfolding environment_of

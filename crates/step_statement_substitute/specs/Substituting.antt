@@ -1,5 +1,5 @@
 -- What is read of a Substitute, and the slots and the header that its step writes.
-use Rattle.std.specs.Prelude.{ℕ, ◌+◌, ◌*◌, ◌≤◌, ◌≡◌, Bool, true, List, [], length, take}
+use Rattle.std.specs.Prelude.{ℕ, ◌+◌, ◌*◌, ◌≤◌, ◌≡◌, Bool, true, false, List, [], length, take, Result}
 use Rattle.syntax.specs.declared.names.VarId.{VarId}
 use Rattle.model.specs.Linear.{targets, sources}
 use Rattle.image_spec.specs.Parse.{each}
@@ -9,7 +9,8 @@ use Rattle.step_slots.specs.Slots.{slot_bytes}
 use Rattle.step_header.specs.declared.Header.{Header}
 use Rattle.step_rows.specs.Rows.{RowOf}
 use Rattle.step_rows.specs.RecordRows.{pairs_of}
-use Rattle.step_write.specs.declared.Made.{Made}
+use Rattle.step_write.specs.declared.Step.{Step}
+use Rattle.step_write.specs.declared.Stop.{Stop}
 use Rattle.step_write.specs.Writing.{Finishes}
 use Rattle.step_gather.specs.Gathering.{all_found_lem, found_slots, renamed}
 use Rattle.step_statement_substitute.specs.declared.substitute.Parts.{Parts}
@@ -22,7 +23,7 @@ pub record PartsOf (bytes : List ℕ) (r : Record) (parts : Parts) : Type 0 wher
 
 -- the header after it: so many entries, and the cells that were there
 abbrev pub rebuilt : Header → (entries : ℕ) → Header
-rebuilt h n = record { position = h.position + 1; ended = 0; stopped = 0; cells = h.cells; heap = h.heap; entries = n }
+rebuilt h n = record { position = h.position + 1; ended = false; stopped = false; cells = h.cells; heap = h.heap; entries = n }
 
 -- what is packed: the answer whether all sources are among the slots and, where they are, their values under the targets
 pub record Packs (E : List Slot) (xs ys : List VarId) (out' : List ℕ) (r : Bool) : Type 0 where
@@ -30,5 +31,5 @@ pub record Packs (E : List Slot) (xs ys : List VarId) (out' : List ℕ) (r : Boo
   pub put : r ≡ true → take (16 * length xs) out' ≡ each slot_bytes (renamed xs (found_slots E ys))
 
 -- these bytes behind the slots of the cells, with the header and no event
-pub record Replaces (store events : List ℕ) (h : Header) (at n : ℕ) (bytes store' events' : List ℕ) (m : Made) : Type 0 where
+pub record Replaces (store events : List ℕ) (h : Header) (at n : ℕ) (bytes store' events' : List ℕ) (m : Result Step Stop) : Type 0 where
   pub finishes : Finishes store events at (rebuilt h n) [] (64 + 16 * h.heap) bytes store' events' m

@@ -7,13 +7,13 @@ ghost use Rattle.step_rows.specs.Rows.{ids_in, Inside};
 ghost use Rattle.step_rule.specs.Rules.{Given, MakesAs};
 ghost use Rattle.step_statement_substitute.specs.Substituting.{PartsOf, rebuilt, Packs, Replaces};
 
-use image_directory::{Frame, long};
+use image_directory::Frame;
 use step_gather::{gather, rename};
-use step_header::{Header, long_count, place};
+use step_header::Header;
 use step_rows::Row;
 use step_rows::records::{source_row, target_row};
 use step_rule::Stepper;
-use step_write::{Made, finish_silent};
+use step_write::{Step, Stop, finish_silent};
 
 // What is read of a Substitute: the IDs that it gives, and those that it takes the values from.
 #[derive(Clone, Copy)]
@@ -27,7 +27,7 @@ fn read_parts(image: &[u8], frame: Frame, position: u32) -> Parts
     requires { At frame image.now position 2 }
     ensures { PartsOf image.now (record_at frame image.now position) result }
 {
-    let i = long(position);
+    let i = position as usize;
     let targets = target_row(image, frame, i);
     let sources = source_row(image, frame, i);
     Parts { targets, sources }
@@ -38,15 +38,13 @@ fn pack(image: &[u8], store: &[u8], header: Header, parts: Parts, scratch: &mut 
     requires { Inside image.now parts.targets × (Inside image.now parts.sources × ((parts.targets.len ≡ parts.sources.len) × (Holds store.now header × (16 * parts.targets.len ≤ length scratch.old)))) }
     ensures { Packs (entries_in store.now header) (ids_in image.now parts.targets) (ids_in image.now parts.sources) scratch.new result }
 {
-    let heap = place(header.heap);
-    let entries = place(header.entries);
-    let targets = parts.targets;
-    let sources = parts.sources;
-    if gather(image, sources, store, 64 + 16 * heap, entries, scratch, 0) {
-        rename(image, targets, scratch, 0);
-        return true;
+    let from = 64 + 16 * header.heap as usize;
+    let entries = header.entries as usize;
+    if !gather(image, parts.sources, store, from, entries, scratch, 0) {
+        return false;
     }
-    false
+    rename(image, parts.targets, scratch, 0);
+    true
 }
 
 // The header after a Substitute of k pairs.
@@ -56,11 +54,10 @@ fn after(header: Header, k: u64) -> Header
 {
     Header {
         position: header.position + 1,
-        ended: 0,
-        stopped: 0,
-        cells: header.cells,
-        heap: header.heap,
+        ended: false,
+        stopped: false,
         entries: k,
+        ..header
     }
 }
 
@@ -72,13 +69,13 @@ fn replace(
     header: Header,
     at: usize,
     k: usize,
-) -> Made
+) -> Result<Step, Stop>
     requires { Holds store.old header × ((header.position + 1 < 2 ^ 32) × ((at ≤ length events.old) × (16 * k ≤ length scratch.now))) }
     ensures { Replaces store.old events.old header at k (take (16 * k) scratch.now) store.new events.new result }
 {
-    let heap = place(header.heap);
-    let next = after(header, long_count(k));
-    finish_silent(store, events, at, next, 64 + 16 * heap, scratch, k)
+    let from = 64 + 16 * header.heap as usize;
+    let next = after(header, k as u64);
+    finish_silent(store, events, at, next, from, scratch, k)
 }
 
 // The linear machine's. (The source machine has no rule.)
@@ -90,15 +87,13 @@ pub fn linear(
     scratch: &mut [u8],
     header: Header,
     at: usize,
-) -> Made
+) -> Result<Step, Stop>
     requires { Given stepper image.now store.old events.old scratch.old header at 2 }
     ensures { MakesAs linear_machine stepper image.now store.old events.old header at store.new events.new result }
 {
-    let frame = stepper.frame;
-    let parts = read_parts(image, frame, header.position);
-    let targets = parts.targets;
-    if pack(image, store, header, parts, scratch) {
-        return replace(store, events, scratch, header, at, targets.len);
+    let parts = read_parts(image, stepper.frame, header.position);
+    if !pack(image, store, header, parts, scratch) {
+        return Err(Stop::NoStep);
     }
-    Made::Nothing
+    replace(store, events, scratch, header, at, parts.targets.len)
 }

@@ -5,6 +5,7 @@ use mathlib.Core.List.{List, [], ◌∷◌, ◌++◌, append-nil}
 use mathlib.Core.Option.{Option, none, some}
 use native.Mathlib.Omega.{arith}
 use lib.ListN.{length}
+use Rattle.std.specs.Prelude.{Result, Err}
 use Rattle.syntax.specs.Context.{Context}
 use Rattle.syntax.specs.declared.names.Name.{Name}
 use Rattle.model.specs.Syntax.{Stmt, Switch, Prog}
@@ -21,8 +22,9 @@ use Rattle.step_header.specs.Headers.{heap_in}
 use Rattle.step_scan.proofs.PassLaws.{slots-drop, slots_next}
 use Rattle.step_cells.specs.Cells.{cell_in'}
 use Rattle.step_cells.proofs.CellLaws.{Meets, cells_of, meets}
-use Rattle.step_write.specs.declared.Made.{Made}
-use Rattle.step_write.specs.declared.Made.TheVariants.{Nothing}
+use Rattle.step_write.specs.declared.Step.{Step}
+use Rattle.step_write.specs.declared.Stop.{Stop}
+use Rattle.step_write.specs.declared.Stop.TheVariants.{NoStep}
 use Rattle.step_rule.specs.declared.Stepper.{Stepper}
 use Rattle.step_rule.specs.Rules.{ProgramOf, Stored, resting, Makes}
 use Rattle.step_rule.proofs.Views.{viewed}
@@ -85,14 +87,14 @@ module _ {P : Prog} {store : List ℕ} {h : Header} {l : Located} (o : Stored li
         }
 
     -- no entry is there
-    pub empty-makes : {events : List ℕ} {at' n : ℕ} → n ≡ h.entries → n ≡ 0 → Makes store events at' (resting (located_step linear_machine P l)) store events Nothing
+    pub empty-makes : {events : List ℕ} {at' n : ℕ} → n ≡ h.entries → n ≡ 0 → Makes store events at' (resting (located_step linear_machine P l)) store events (Err NoStep)
     empty-makes e z =
         let t = the_switch p o a in
         let w = works t in
         let q : last_value_lem l.environment ≡ none = no_last l.environment (omega (arith, environment-count o, e, z)) in
         nothing_makes o (w.works ∙ ap (λ (v : Option Value). or_halt v λ v. or_halt (matched (cells_of P l) v) (entering t.clauses w.enter)) q)
 
-    pub linear-makes : {heap n at' : ℕ} {value : Slot} {events store' events' : List ℕ} {m : Made} → heap ≡ h.heap → n ≡ h.entries → 0 < n → value ≡ slot_at store (64 + 16 * (heap + (n - 1)))
+    pub linear-makes : {heap n at' : ℕ} {value : Slot} {events store' events' : List ℕ} {m : Result Step Stop} → heap ≡ h.heap → n ≡ h.entries → 0 < n → value ≡ slot_at store (64 + 16 * (heap + (n - 1)))
         → Switches stepper.frame bytes store events h at' value (n - 1) 0 store' events' m → Makes store events at' (resting (located_step linear_machine P l)) store' events' m
     linear-makes {heap} {n} {at'} {value} {events} {store'} {events'} {m} e f s v w =
         let t = the_switch p o a in

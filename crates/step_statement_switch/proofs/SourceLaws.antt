@@ -2,6 +2,7 @@
 use Prim.Native.Nat.{ℕ}
 use mathlib.Core.Path.{◌≡◌, refl, ap, ◌∙◌, subst}
 use mathlib.Core.List.{List, [], ◌++◌}
+use Rattle.std.specs.Prelude.{Result}
 use Rattle.syntax.specs.Context.{Context}
 use Rattle.syntax.specs.declared.names.Name.{Name}
 use Rattle.syntax.specs.declared.names.Identifier.{Identifier}
@@ -16,7 +17,8 @@ use Rattle.step_header.specs.declared.Header.{Header}
 use Rattle.step_header.specs.Headers.{entries_in}
 use Rattle.step_entries.specs.Named.{named}
 use Rattle.step_cells.proofs.CellLaws.{cells_of, looked-up}
-use Rattle.step_write.specs.declared.Made.{Made}
+use Rattle.step_write.specs.declared.Step.{Step}
+use Rattle.step_write.specs.declared.Stop.{Stop}
 use Rattle.step_rule.specs.declared.Stepper.{Stepper}
 use Rattle.step_rule.specs.Rules.{ProgramOf, Stored, resting, Makes}
 use Rattle.step_rule.proofs.Finds.{sees}
@@ -37,7 +39,7 @@ module _ {P : Prog} {stepper : Stepper} {bytes store : List ℕ} {h : Header} {l
     shown = λ k tag c new e. e;
   }
 
-  pub source-makes : {i : ℕ} {var : Identifier} {value : Slot} {back at' : ℕ} {events store' events' : List ℕ} {m : Made} → At stepper.frame bytes h.position 5
+  pub source-makes : {i : ℕ} {var : Identifier} {value : Slot} {back at' : ℕ} {events store' events' : List ℕ} {m : Result Step Stop} → At stepper.frame bytes h.position 5
       → i ≡ h.position → var ≡ first_of (record_at stepper.frame bytes i) → value ≡ named var.id.0 (entries_in store h) → back ≡ h.entries
       → Switches stepper.frame bytes store events h at' value 0 back store' events' m → Makes store events at' (resting (located_step source_machine P l)) store' events' m
   source-makes {var = var} {value = value} {at' = at'} {events = events} {store' = store'} {events' = events'} {m = m} a i v e n w =

@@ -5,6 +5,7 @@ use mathlib.Core.List.{List, ◌++◌}
 use mathlib.Core.Option.{Option}
 use native.Mathlib.Omega.{arith}
 use lib.ListN.{length, length-map}
+use Rattle.std.specs.Prelude.{Option as Maybe, Some, Result}
 use Rattle.syntax.specs.Context.{Context}
 use Rattle.syntax.specs.declared.names.Name.{Name}
 use Rattle.model.specs.Syntax.{Stmt, Clauses, Prog}
@@ -24,11 +25,11 @@ use Rattle.step_rows.specs.Rows.{ids_in}
 use Rattle.step_cells.specs.declared.Cell.{Cell}
 use Rattle.step_cells.proofs.CellLaws.{OfLet, Meets, cells_of, is_let, matched_let, no_let, lacks_halts}
 use Rattle.step_gather.specs.Gathering.{renamed}
-use Rattle.step_write.specs.declared.Made.{Made}
+use Rattle.step_write.specs.declared.Step.{Step}
+use Rattle.step_write.specs.declared.Stop.{Stop}
 use Rattle.step_rule.specs.declared.Stepper.{Stepper}
 use Rattle.step_rule.specs.Rules.{ProgramOf, Stored, resting, Makes}
 use Rattle.step_enter.specs.declared.Parameters.{Parameters}
-use Rattle.step_enter.specs.declared.Parameters.TheVariants.{Listed}
 use Rattle.step_enter.specs.Entering.{Enters}
 use Rattle.step_enter.proofs.ParameterLaws.{Fitting, fitting, with_values, absent-halts, uneven_halts, enters_with}
 use Rattle.step_enter.proofs.Around.{Around, nothing_makes, enters-makes}
@@ -42,21 +43,21 @@ pub record Enterable (bytes : List ℕ) (cell : Cell) (row : Row) : Type 0 where
   pub fits : Fitting bytes row
   pub even : row.len ≡ cell.len
 
-pub enterable : {frame : Frame} {bytes : List ℕ} {i : ℕ} {cell : Cell} {r : Parameters} {row : Row} {body : ℕ} → r ≡ Listed row body → ClauseFor frame bytes i cell r → Enterable bytes cell row
+pub enterable : {frame : Frame} {bytes : List ℕ} {i : ℕ} {cell : Cell} {r : Maybe Parameters} {p : Parameters} → r ≡ Some p → ClauseFor frame bytes i cell r → Enterable bytes cell p.row
 enterable e (other-cell n) = let z : ◌≡◌ {A = ℕ} 0 1 = cc (e) in absurd (omega arith)
 enterable e (no-clause s c) = let z : ◌≡◌ {A = ℕ} 0 1 = cc (e) in absurd (omega arith)
 enterable e (other-count s c n) = let z : ◌≡◌ {A = ℕ} 0 1 = cc (e) in absurd (omega arith)
-enterable {bytes = bytes} {cell = cell} {row = row} e (the_clause {row = other} s c n) =
-    let p : other ≡ row = cc (e) in
-    subst (Enterable bytes cell) p record { fits = fitting refl c.reads; even = n }
+enterable {bytes = bytes} {cell = cell} {p = p} e (the_clause {p = other} s c n) =
+    let same : other ≡ p = cc (e) in
+    subst (λ (z : Parameters). Enterable bytes cell z.row) same record { fits = fitting refl c.reads; even = n }
 
 -- what was entered is what the contract says, with the event and the slots that the code has
-pub switched_as : {frame : Frame} {bytes store events shown store' events' : List ℕ} {h : Header} {at' j n body : ℕ} {cell : Cell} {row : Row} (ts : List Slot) {m : Made}
-    → ClauseFor frame bytes h.position cell (Listed row body) → shown ≡ event_head 5 1 cell.id 0 cell.number → ts ≡ slots_at store cell.from row.len
-    → Enters store events h at' body shown j n (renamed (ids_in bytes row) ts) store' events' m → SwitchesOn frame bytes store events h at' cell j n store' events' m
-switched_as {frame} {bytes} {store} {events} {shown} {store'} {events'} {h} {at'} {j} {n} {body} {cell} {row} ts {m} c v w f =
+pub switched_as : {frame : Frame} {bytes store events shown store' events' : List ℕ} {h : Header} {at' j n : ℕ} {cell : Cell} {p : Parameters} (ts : List Slot) {m : Result Step Stop}
+    → ClauseFor frame bytes h.position cell (Some p) → shown ≡ event_head 5 1 cell.id 0 cell.number → ts ≡ slots_at store cell.from p.row.len
+    → Enters store events h at' p.body shown j n (renamed (ids_in bytes p.row) ts) store' events' m → SwitchesOn frame bytes store events h at' cell j n store' events' m
+switched_as {frame} {bytes} {store} {events} {shown} {store'} {events'} {h} {at'} {j} {n} {cell} {p} ts {m} c v w f =
     let q : ts ≡ slots_at store cell.from cell.len = w ∙ ap (slots_at store cell.from) (enterable refl c).even in
-    let F : List ℕ → List Slot → Type 0 = λ (x : List ℕ) (y : List Slot). Enters store events h at' body x j n (renamed (ids_in bytes row) y) store' events' m in
+    let F : List ℕ → List Slot → Type 0 = λ (x : List ℕ) (y : List Slot). Enters store events h at' p.body x j n (renamed (ids_in bytes p.row) y) store' events' m in
     switched c (subst (λ (x : List ℕ). F x (slots_at store cell.from cell.len)) v (subst (F shown) q f))
 
 -- ── the step ──
@@ -84,7 +85,7 @@ module _ {M : Machine} {P : Prog} {stepper : Stepper} {bytes store : List ℕ} {
     held : (c : OfLet P store h l w cell') → cell'.len ≡ length c.fields
     held c = c.holds.count ∙ length-map c.fields (value_slot (place_of l.cells) 0)
 
-    pub switches-makes : {value : Slot} {j n : ℕ} {events store' events' : List ℕ} {at' : ℕ} {m : Made} → Meets P store h l w value cell' → Around l.cells store h j n front back
+    pub switches-makes : {value : Slot} {j n : ℕ} {events store' events' : List ℕ} {at' : ℕ} {m : Result Step Stop} → Meets P store h l w value cell' → Around l.cells store h j n front back
         → SwitchesOn stepper.frame bytes store events h at' cell' j n store' events' m
         → Makes store events at' (resting (located_step M P l)) store' events' m
     unfolding event_bytes environment_of
@@ -96,11 +97,11 @@ module _ {M : Machine} {P : Prog} {stepper : Stepper} {bytes store : List ℕ} {
     switches-makes met around (not_switched (other-count e f u)) =
         let c = is_let met e in
         nothing_makes o (with_let c ∙ uneven_halts (clause-found p o t cell'.id f.finds) f.reads c.fields _ refl (λ q. u (q ∙ sym (held c))))
-    switches-makes met around (switched {row = row} (the_clause e f u) w) =
+    switches-makes met around (switched {p = clause} (the_clause e f u) w) =
         let c = is_let met e in
         let of = place_of l.cells in
         let tag = name_of cell'.id in
         let g = enters_with (clause-found p o t cell'.id f.finds) f.reads c.fields (s.enter cell'.number tag) refl of (u ∙ held c) in
-        let v : environment_of l.cells g.new ≡ renamed (ids_in bytes row) (slots_at store cell'.from cell'.len) = g.slots ∙ ap (renamed (ids_in bytes row)) (sym c.holds.are) in
+        let v : environment_of l.cells g.new ≡ renamed (ids_in bytes clause.row) (slots_at store cell'.from cell'.len) = g.slots ∙ ap (renamed (ids_in bytes clause.row)) (sym c.holds.are) in
         enters-makes o (Switch' cell'.number tag) g.what.1 g.new around (s.shown cell'.number tag g.what g.new (with_let c ∙ g.is))
         (g.next ∙ next_is_lem p o t cell'.number cell'.id) refl v w

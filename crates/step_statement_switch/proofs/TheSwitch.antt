@@ -4,6 +4,7 @@ use mathlib.Core.Path.{◌≡◌, refl, sym, ap, ap₂, subst}
 use mathlib.Core.List.{List}
 use mathlib.Core.Option.{some}
 use native.Mathlib.Omega.{arith}
+use Rattle.std.specs.Prelude.{Option as Maybe}
 use Rattle.syntax.specs.declared.names.Identifier.{Identifier}
 use Rattle.syntax.specs.declared.types.Ty.{Ty}
 use Rattle.model.specs.Syntax.{Stmt, Switch, Clauses, Prog}
@@ -12,7 +13,6 @@ use Rattle.model.specs.Machine.{Switch', find_clause_lem}
 use Rattle.image_spec.specs.Records.{Record, switch}
 use Rattle.image_spec.specs.Kinds.{kind_of, clauses_of}
 use Rattle.image_spec.specs.Shape.{max_depth}
-use Rattle.image_fields.specs.declared.Found.{Found}
 use Rattle.image_places_spec.specs.Views.{clauses_in}
 use Rattle.image_places_spec.specs.Places.{StmtStands, ClausesStand}
 use Rattle.image_places_spec.proofs.PlaceLaws.{stmt-parts}
@@ -65,7 +65,7 @@ module _ {M : Machine} {P : Prog} {stepper : Stepper} {bytes store : List ℕ} {
         (subst (F (count_clauses cs) (records_in P)) (sym (viewed o).position) (stmt-parts s).clauses))
 
     -- what a search finds of them
-    pub clause-found : (tag : ℕ) {found : Found} → FindsClause stepper.frame bytes (clauses_of (record_at stepper.frame bytes h.position)) (h.position + 1) tag found
+    pub clause-found : (tag : ℕ) {found : Maybe ℕ} → FindsClause stepper.frame bytes (clauses_of (record_at stepper.frame bytes h.position)) (h.position + 1) tag found
         → Finds (λ c. c.0) (λ c. c.1) 11 (max_depth - 1) (image.records_in stepper.frame bytes) (clause_place (name_of tag) cs (h.position + 1)) (find_clause_lem (name_of tag) cs) found
     clause-found tag f = f.finds (max_depth - 1) cs clauses-stand
 

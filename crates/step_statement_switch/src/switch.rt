@@ -9,37 +9,36 @@ ghost use Rattle.step_write.specs.Writing.{head_bytes};
 ghost use Rattle.step_rule.specs.Rules.{Given, MakesAs};
 ghost use Rattle.step_statement_switch.specs.Switching.{ClauseFor, Switches};
 
-use image_directory::{Frame, long};
+use image_directory::Frame;
 use image_kinds::kinds::Kind;
 use image_read_nodes::first;
 use step_cells::{Cell, cell_of};
 use step_enter::{Parameters, clause_of, enter, fetch};
-use step_header::{Header, place};
+use step_header::Header;
 use step_lookup::slot_of;
 use step_rule::Stepper;
 use step_slots::{Slot, read};
-use step_write::{EventHead, Made};
+use step_write::{EventHead, Step, Stop};
 
 // The clause that is entered for this cell, by the Switch at this place.
-fn clause_for(image: &[u8], frame: Frame, ends: &[u32], position: u32, cell: Cell) -> Parameters
+fn clause_for(
+    image: &[u8],
+    frame: Frame,
+    ends: &[u32],
+    position: u32,
+    cell: Cell,
+) -> Option<Parameters>
     requires { At frame image.now position 5 × Ends (records_in frame image.now) ends.now }
     ensures { ClauseFor frame image.now position cell result }
 {
-    let sort = cell.sort;
-    if sort != 3 {
-        return Parameters::Absent;
+    if cell.sort != 3 {
+        return None;
     }
-    match clause_of(image, frame, ends, position, cell.id) {
-        Parameters::Absent => Parameters::Absent,
-        Parameters::Listed { row, body } => {
-            let len = row.len;
-            let held = cell.len;
-            if len != held {
-                return Parameters::Absent;
-            }
-            Parameters::Listed { row, body }
-        }
+    let clause = clause_of(image, frame, ends, position, cell.id)?;
+    if clause.row.len != cell.len {
+        return None;
     }
+    Some(clause)
 }
 
 // The number of the cell and its tag are shown.
@@ -68,31 +67,28 @@ fn switch(
     value: Slot,
     front: usize,
     back: usize,
-) -> Made
+) -> Result<Step, Stop>
     requires { Given stepper image.now store.old events.old scratch.old header at 5 × (Ends (records_in stepper.frame image.now) ends.now × (front + back ≤ header.entries)) }
     ensures { Switches stepper.frame image.now store.old events.old header at value front back store.new events.new result }
 {
     let frame = stepper.frame;
     let cell = cell_of(store, header, value);
-    match clause_for(image, frame, ends, header.position, cell) {
-        Parameters::Absent => Made::Nothing,
-        Parameters::Listed { row, body } => {
-            fetch(store, cell.from, row.len, scratch);
-            enter(
-                image,
-                row,
-                store,
-                events,
-                scratch,
-                header,
-                at,
-                event(cell),
-                body,
-                front,
-                back,
-            )
-        }
-    }
+    let clause = clause_for(image, frame, ends, header.position, cell).ok_or(Stop::NoStep)?;
+    let row = clause.row;
+    fetch(store, cell.from, row.len, scratch);
+    enter(
+        image,
+        row,
+        store,
+        events,
+        scratch,
+        header,
+        at,
+        event(cell),
+        clause.body,
+        front,
+        back,
+    )
 }
 
 // The source machine's: the new variables come before all others, var among them.
@@ -105,15 +101,14 @@ pub fn source(
     scratch: &mut [u8],
     header: Header,
     at: usize,
-) -> Made
+) -> Result<Step, Stop>
     requires { Given stepper image.now store.old events.old scratch.old header at 5 × Ends (records_in stepper.frame image.now) ends.now }
     ensures { MakesAs source_machine stepper image.now store.old events.old header at store.new events.new result }
 {
-    let frame = stepper.frame;
-    let var = first(image, frame, long(header.position), Kind::SWITCH);
-    let id = var.id;
-    let value = slot_of(store, header, id.0);
-    let back = place(header.entries);
+    let i = header.position as usize;
+    let var = first(image, stepper.frame, i, Kind::SWITCH);
+    let value = slot_of(store, header, var.id.0);
+    let back = header.entries as usize;
     switch(
         image, stepper, ends, store, events, scratch, header, at, value, 0, back,
     )
@@ -129,14 +124,14 @@ pub fn linear(
     scratch: &mut [u8],
     header: Header,
     at: usize,
-) -> Made
+) -> Result<Step, Stop>
     requires { Given stepper image.now store.old events.old scratch.old header at 5 × Ends (records_in stepper.frame image.now) ends.now }
     ensures { MakesAs linear_machine stepper image.now store.old events.old header at store.new events.new result }
 {
-    let heap = place(header.heap);
-    let entries = place(header.entries);
+    let heap = header.heap as usize;
+    let entries = header.entries as usize;
     if entries == 0 {
-        return Made::Nothing;
+        return Err(Stop::NoStep);
     }
     let front = entries - 1;
     let value = read(store, 64 + 16 * (heap + front));

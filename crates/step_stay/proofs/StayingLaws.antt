@@ -1,6 +1,8 @@
 -- A step that leaves cells and environment as they are, to another statement or to the end of the run. Assumes nothing.
+use Rattle.std.specs.Prelude.{Result}
 use Prim.Native.Nat.{ℕ, ◌+◌, ◌*◌}
 use mathlib.Core.Path.{◌≡◌, refl, sym, ap, ◌∙◌, subst}
+use mathlib.Core.Bool.{Bool, true, false}
 use mathlib.Core.List.{List, [], map, append-nil}
 use mathlib.Core.Option.{some}
 use native.Mathlib.Omega.{arith}
@@ -15,7 +17,8 @@ use Rattle.step_spec.specs.Located.{Machine, Located, cell_in, project, next_pla
 use Rattle.step_spec.specs.Events.{event_bytes}
 use Rattle.step_header.specs.declared.Header.{Header}
 use Rattle.step_header.specs.Headers.{entries_in}
-use Rattle.step_write.specs.declared.Made.{Made}
+use Rattle.step_write.specs.declared.Step.{Step}
+use Rattle.step_write.specs.declared.Stop.{Stop}
 use Rattle.step_write.specs.Writing.{size, Finishes}
 use Rattle.step_rule.specs.Rules.{Stored, resting, Makes}
 use Rattle.step_rule.proofs.Views.{viewed}
@@ -24,13 +27,13 @@ use Rattle.step_rule.proofs.Ways.{lead_same, lead_ended}
 use Rattle.step_stay.specs.Staying.{stayed, Stays}
 
 -- what was finished, from the end of the slots as the code computed it
-pub stays_as : {store events store' events' shown : List ℕ} {h : Header} {at' p e from : ℕ} {m : Made} → from ≡ size h → Finishes store events at' (stayed h p e) shown from [] store' events' m
+pub stays_as : {store events store' events' shown : List ℕ} {h : Header} {at' p : ℕ} {e : Bool} {from : ℕ} {m : Result Step Stop} → from ≡ size h → Finishes store events at' (stayed h p e) shown from [] store' events' m
     → Stays store events h at' p e shown store' events' m
 stays_as {store} {events} {store'} {events'} {shown} {h} {at'} {p} {e} {from} {m} q f =
     record { finishes = subst (λ (i : ℕ). Finishes store events at' (stayed h p e) shown i [] store' events' m) q f }
 
-module _ {M : Machine} {P : Prog} {store : List ℕ} {h : Header} {l : Located} (o : Stored M P store h l) {events store' events' : List ℕ} {at' p : ℕ} {m : Made} where
-  leads : {e : ℕ} {shown : List ℕ} → Leads M P l store h shown (stayed h p e) [] (entries_in store h) → Stays store events h at' p e shown store' events' m
+module _ {M : Machine} {P : Prog} {store : List ℕ} {h : Header} {l : Located} (o : Stored M P store h l) {events store' events' : List ℕ} {at' p : ℕ} {m : Result Step Stop} where
+  leads : {e : Bool} {shown : List ℕ} → Leads M P l store h shown (stayed h p e) [] (entries_in store h) → Stays store events h at' p e shown store' events' m
       → Makes store events at' (resting (located_step M P l)) store' events' m
   leads w s =
       let E = entries_in store h in
@@ -40,12 +43,12 @@ module _ {M : Machine} {P : Prog} {store : List ℕ} {h : Header} {l : Located} 
   module _ (e : Event) {bytes : List ℕ} (b : bytes ≡ event_bytes e) (t : Stmt) where
     -- to a statement
     pub stays-makes : M.step P (project P l) ≡ shows e (at t l.environment (map (cell_in P) l.cells)) → p ≡ next_place_lem P l (some e)
-        → Stays store events h at' p 0 bytes store' events' m → Makes store events at' (resting (located_step M P l)) store' events' m
+        → Stays store events h at' p false bytes store' events' m → Makes store events at' (resting (located_step M P l)) store' events' m
     stays-makes s q w =
         leads (lead_same o t l.environment e s q (sym (slots-count store (64 + 16 * h.heap) h.entries)) (sym (viewed o).entries))
-        (subst (λ (x : List ℕ). Stays store events h at' p 0 x store' events' m) b w)
+        (subst (λ (x : List ℕ). Stays store events h at' p false x store' events' m) b w)
 
     -- to the end
     pub stays-ended : M.step P (project P l) ≡ shows e (ended t l.environment (map (cell_in P) l.cells)) → p ≡ next_place_lem P l (some e)
-        → Stays store events h at' p 1 bytes store' events' m → Makes store events at' (resting (located_step M P l)) store' events' m
-    stays-ended s q w = leads (lead_ended o t e s q (sym (viewed o).entries)) (subst (λ (x : List ℕ). Stays store events h at' p 1 x store' events' m) b w)
+        → Stays store events h at' p true bytes store' events' m → Makes store events at' (resting (located_step M P l)) store' events' m
+    stays-ended s q w = leads (lead_ended o t e s q (sym (viewed o).entries)) (subst (λ (x : List ℕ). Stays store events h at' p true x store' events' m) b w)

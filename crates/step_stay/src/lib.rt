@@ -6,8 +6,8 @@ ghost use Rattle.step_header.specs.Headers.{Holds};
 ghost use Rattle.step_write.specs.Writing.{head_bytes};
 ghost use Rattle.step_stay.specs.Staying.{Stays};
 
-use step_header::{Header, place};
-use step_write::{EventHead, Made, finish};
+use step_header::Header;
+use step_write::{EventHead, Step, Stop, finish};
 
 pub fn stay(
     store: &mut [u8],
@@ -16,22 +16,18 @@ pub fn stay(
     header: Header,
     at: usize,
     position: u32,
-    ended: u8,
+    ended: bool,
     event: EventHead,
-) -> Made
+) -> Result<Step, Stop>
     requires { Holds store.old header × (at ≤ length events.old) }
     ensures { Stays store.old events.old header at position ended (head_bytes event) store.new events.new result }
 {
-    let heap = place(header.heap);
-    let entries = place(header.entries);
     let next = Header {
         position,
         ended,
-        stopped: 0,
-        cells: header.cells,
-        heap: header.heap,
-        entries: header.entries,
+        stopped: false,
+        ..header
     };
-    let end = 64 + 16 * (heap + entries);
+    let end = 64 + 16 * (header.heap as usize + header.entries as usize);
     finish(store, events, at, event, next, end, 0, scratch, 0)
 }

@@ -15,9 +15,10 @@ fn tag_at(kind: u8, w: usize) -> usize
     ensures { result ≡ tag_at w kind }
 {
     if kind == Kind::LET {
-        return 6 + (w + w);
+        6 + (w + w)
+    } else {
+        3 + w
     }
-    3 + w
 }
 
 // The tag of the Let or Invoke at index i.
@@ -25,6 +26,5 @@ pub fn tag_of(image: &[u8], frame: Frame, i: usize, kind: u8) -> Identifier
     requires { At frame image.now i kind × (has_tag kind ≡ true) }
     ensures { result ≡ tag_in (record_at frame image.now i) }
 {
-    let w = frame.id;
-    identifier(image, frame, i, tag_at(kind, w))
+    identifier(image, frame, i, tag_at(kind, frame.id))
 }

@@ -1,4 +1,5 @@
 -- A state that has ended or stopped makes no step; from any other a rule is asked, and what it made is the step. Assumes nothing.
+use Rattle.std.specs.Prelude.{Result, Ok, Err}
 use Prim.Native.Nat.{ℕ, ◌<◌}
 use mathlib.Core.Path.{◌≡◌, refl, sym, ap, ◌∙◌, subst}
 use mathlib.Core.Bool.{Bool, true, false, cond}
@@ -15,39 +16,22 @@ use Rattle.step_spec.proofs.Sound.{Lawful, source_lawful, linear_lawful}
 use Rattle.image_directory.specs.Slots.{Ready}
 use Rattle.step_header.specs.declared.Header.{Header}
 use Rattle.step_header.specs.Headers.{Holds}
-use Rattle.step_write.specs.declared.Made.{Made}
-use Rattle.step_write.specs.declared.Made.TheVariants.{Nothing, Full, Step}
+use Rattle.step_write.specs.declared.Step.{Step}
+use Rattle.step_write.specs.declared.Stop.{Stop}
+use Rattle.step_write.specs.declared.Stop.TheVariants.{NoStep}
 use Rattle.step_rule.specs.declared.Stepper.{Stepper}
 use Rattle.step_rule.specs.Rules.{machine_in, Reads, Stored, resting, Makes, no_step, MakesAs}
+use Rattle.step_rule.proofs.Views.{views}
 use Rattle.step_settle.specs.Settling.{Settles}
 use Rattle.step_settle.proofs.Reading.{reads-holds, reads-inside}
 use Rattle.step_turn.specs.Turning.{Living, Lives, Advances}
-use Rattle.step_turn.proofs.Turns.{rests-nothing, rests-full}
+use Rattle.step_turn.proofs.Turns.{rests-stopped}
 use Rattle.step_turn.proofs.TurnLaws.{goes_on, made-rests, turned}
 
 -- what is proved of every machine holds of both
 pub lawful_in : (b : Bool) → Lawful (cond b linear_machine source_machine)
 lawful_in true = linear_lawful
 lawful_in false = source_lawful
-
--- a flag that is 1 is set
-pub bit-set : (b : Bool) → bit b ≡ 1 → b ≡ true
-bit-set true e = refl
-bit-set false e = absurd (omega (arith, e))
-
--- one that is not 1 is clear
-pub bit_clear : (b : Bool) → (bit b ≡ 1 → ⊥) → b ≡ false
-bit_clear true e = absurd (e refl)
-bit_clear false e = refl
-
-module _ {P : Prog} {store : List ℕ} {h : Header} {l : Located} (o : Reads P store h l) where
-  pub ended-bit : h.ended ≡ bit l.has_ended
-  unfolding raw_of
-  ended-bit = ap (λ x. x.1.0) o.heads
-
-  pub stopped-bit : h.stopped ≡ bit l.has_stopped
-  unfolding raw_of
-  stopped-bit = ap (λ x. x.1.1.0) o.heads
 
 -- neither machine makes a step after the end
 pub ended-step : (b : Bool) (P : Prog) (l : Located) → l.has_ended ≡ true → located_step (cond b linear_machine source_machine) P l ≡ none
@@ -62,43 +46,37 @@ ended-step b P l e = go b l.has_stopped l.has_ended e
     go b s false e = let z : ◌≡◌ {A = ℕ} (bit false) (bit true) = ap bit e in absurd (omega (arith, z))
 
 module _ {stepper : Stepper} {bytes store events : List ℕ} {h : Header} {at : ℕ} where
-  pub ended-rests : h.ended ≡ 1 → Advances (machine_in stepper) stepper bytes store events h at store events Nothing
-  ended-rests e = record {
-    advances = λ P l v.
-        rw (ended-step stepper.linear P l (bit-set l.has_ended (sym (ended-bit v.reads) ∙ e))) no_step;
-  }
+  pub ended-rests : h.ended ≡ true → Advances (machine_in stepper) stepper bytes store events h at store events (Err NoStep)
+  ended-rests e = record { advances = λ P l v. rw (ended-step stepper.linear P l (sym (views v.reads).ended ∙ e)) no_step }
 
-  pub stopped-rests : h.stopped ≡ 1 → Advances (machine_in stepper) stepper bytes store events h at store events Nothing
+  pub stopped-rests : h.stopped ≡ true → Advances (machine_in stepper) stepper bytes store events h at store events (Err NoStep)
   stopped-rests e = record {
-    advances = λ P l v.
-        rw (stopped-step (machine_in stepper) (lawful_in stepper.linear).followed P v.readable.shallow l (bit-set l.has_stopped (sym (stopped-bit v.reads) ∙ e))) no_step;
+    advances = λ P l v. rw (stopped-step (machine_in stepper) (lawful_in stepper.linear).followed P v.readable.shallow l (sym (views v.reads).stopped ∙ e)) no_step;
   }
 
 -- ── a rule that was asked ──
 
-module _ {stepper : Stepper} {bytes store : List ℕ} {h : Header} (ended : h.ended ≡ 1 → ⊥) (stopped : h.stopped ≡ 1 → ⊥) where
+module _ {stepper : Stepper} {bytes store : List ℕ} {h : Header} (ended : h.ended ≡ false) (stopped : h.stopped ≡ false) where
   -- a rule may be asked where neither flag is set
   goes : (P : Prog) (l : Located) → Living (machine_in stepper) P stepper bytes store h l → Stored (machine_in stepper) P store h l
-  goes P l v = goes_on (lawful_in stepper.linear) v (bit_clear l.has_ended (λ f. ended (ended-bit v.reads ∙ f))) (bit_clear l.has_stopped (λ f. stopped (stopped-bit v.reads ∙ f)))
+  goes P l v = goes_on (lawful_in stepper.linear) v (sym (views v.reads).ended ∙ ended) (sym (views v.reads).stopped ∙ stopped)
 
-  module _ {events : List ℕ} {at : ℕ} {store₁ events₁ : List ℕ} {m : Made} (a : MakesAs (machine_in stepper) stepper bytes store events h at store₁ events₁ m) where
-    pub made_as : (k : Made) → m ≡ k → (P : Prog) (l : Located) → Living (machine_in stepper) P stepper bytes store h l → Makes store events at (resting (located_step (machine_in stepper) P l)) store₁ events₁ k
+  module _ {events : List ℕ} {at : ℕ} {store₁ events₁ : List ℕ} {m : Result Step Stop} (a : MakesAs (machine_in stepper) stepper bytes store events h at store₁ events₁ m) where
+    pub made_as : (k : Result Step Stop) → m ≡ k → (P : Prog) (l : Located) → Living (machine_in stepper) P stepper bytes store h l → Makes store events at (resting (located_step (machine_in stepper) P l)) store₁ events₁ k
     made_as k e P l v = subst (Makes store events at (resting (located_step (machine_in stepper) P l)) store₁ events₁) e (a.makes P l v.program (goes P l v))
 
-    pub asked-nothing : m ≡ Nothing → Advances (machine_in stepper) stepper bytes store events h at store₁ events₁ Nothing
-    asked-nothing e = record { advances = λ P l v. rests-nothing (made_as Nothing e P l v) }
+    pub asked-stopped : {e : Stop} → m ≡ Err e → Advances (machine_in stepper) stepper bytes store events h at store₁ events₁ (Err e)
+    asked-stopped {e} q = record { advances = λ P l v. rests-stopped e (made_as (Err e) q P l v) }
 
-    pub asked-full : m ≡ Full → Advances (machine_in stepper) stepper bytes store events h at store₁ events₁ Full
-    asked-full e = record { advances = λ P l v. rests-full (made_as Full e P l v) }
-
-    module _ {h₁ : Header} {n : ℕ} (e : m ≡ Step h₁ n) where
+    module _ {step : Step} (e : m ≡ Ok step) where
       -- what was written is a state: whether the machine stops there may be asked
-      pub asked-holds : Ready stepper.frame bytes → Lives (machine_in stepper) stepper bytes store h → (h₁.position < stepper.frame.count) × Holds store₁ h₁
+      pub asked-holds : Ready stepper.frame bytes → Lives (machine_in stepper) stepper bytes store h → (step.header.position < stepper.frame.count) × Holds store₁ step.header
       asked-holds y w =
           let v = w.living in
-          let r = (made-rests (lawful_in stepper.linear) v (made_as (Step h₁ n) e w.program w.state v)).reads in
+          let r = (made-rests (lawful_in stepper.linear) v (made_as (Ok step) e w.program w.state v)).reads in
           (reads-inside r y v.program, reads-holds r)
 
       -- .. and then the step is made
-      pub asked-step : {store₂ : List ℕ} {h₂ : Header} → Settles (machine_in stepper) stepper bytes store₁ h₁ store₂ h₂ → Advances (machine_in stepper) stepper bytes store events h at store₂ events₁ (Step h₂ n)
-      asked-step w = record { advances = λ P l v. turned (lawful_in stepper.linear) v (goes P l v).going w (made_as (Step h₁ n) e P l v) }
+      pub asked-step : {store₂ : List ℕ} {h₂ : Header} → Settles (machine_in stepper) stepper bytes store₁ step.header store₂ h₂
+          → Advances (machine_in stepper) stepper bytes store events h at store₂ events₁ (Ok (record { header = h₂; at = step.at }))
+      asked-step w = record { advances = λ P l v. turned (lawful_in stepper.linear) v (goes P l v).going w (made_as (Ok step) e P l v) }

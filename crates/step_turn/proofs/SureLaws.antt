@@ -1,7 +1,8 @@
 -- Of what the linear stepper is sure before a step, it is sure after it: a step keeps the IDs of its list distinct. Assumes nothing.
+use Rattle.std.specs.Prelude.{Result, Ok}
 use Prim.Native.Nat.{ℕ}
 use mathlib.Core.Path.{◌≡◌, refl, sym, ap, ◌∙◌}
-use mathlib.Core.Bool.{Bool, cond}
+use mathlib.Core.Bool.{Bool, false, cond}
 use mathlib.Core.List.{List}
 use mathlib.Core.Option.{some}
 use Rattle.syntax.specs.Sets.{distinct}
@@ -10,8 +11,8 @@ use Rattle.model.specs.Machine.{keys}
 use Rattle.step_spec.specs.Located.{source_machine, linear_machine, Located, Stepped, located_step}
 use Rattle.step_spec.proofs.StaysDistinct.{located-stays-distinct}
 use Rattle.step_header.specs.declared.Header.{Header}
-use Rattle.step_write.specs.declared.Made.{Made}
-use Rattle.step_write.specs.declared.Made.TheVariants.{Step}
+use Rattle.step_write.specs.declared.Step.{Step}
+use Rattle.step_write.specs.declared.Stop.{Stop}
 use Rattle.step_rule.specs.declared.Stepper.{Stepper}
 use Rattle.step_rule.specs.Rules.{machine_in, Reads, MakesAs}
 use Rattle.step_rule.proofs.Views.{views}
@@ -30,17 +31,17 @@ sure_next stepper {P} {l = l} {r = r} o e o' q f linear t =
 
 module _ {stepper : Stepper} {bytes store : List ℕ} {h : Header} where
   -- a rule's step
-  pub asked_sure : {events store₁ events₁ : List ℕ} {at n : ℕ} {h₁ : Header} {m : Made} {sure : Bool} → (h.ended ≡ 1 → ⊥) → (h.stopped ≡ 1 → ⊥)
-      → MakesAs (machine_in stepper) stepper bytes store events h at store₁ events₁ m → m ≡ Step h₁ n → Lives (machine_in stepper) stepper bytes store h → SureIn stepper sure store h
-      → SureIn stepper sure store₁ h₁
-  asked_sure {n = n} {h₁ = h₁} ended stopped a e w f =
+  pub asked_sure : {events store₁ events₁ : List ℕ} {at : ℕ} {step : Step} {m : Result Step Stop} {sure : Bool} → h.ended ≡ false → h.stopped ≡ false
+      → MakesAs (machine_in stepper) stepper bytes store events h at store₁ events₁ m → m ≡ Ok step → Lives (machine_in stepper) stepper bytes store h → SureIn stepper sure store h
+      → SureIn stepper sure store₁ step.header
+  asked_sure {step = step} ended stopped a e w f =
       let v = w.living in
-      let r = made-rests (lawful_in stepper.linear) v (made_as ended stopped a (Step h₁ n) e w.program w.state v) in
+      let r = made-rests (lawful_in stepper.linear) v (made_as ended stopped a (Ok step) e w.program w.state v) in
       sure_next stepper v.reads r.is r.reads refl f
 
   -- a turn's
-  pub advance_sure : {events store' events' : List ℕ} {at n : ℕ} {h' : Header} {sure : Bool} → Advances (machine_in stepper) stepper bytes store events h at store' events' (Step h' n)
-      → Lives (machine_in stepper) stepper bytes store h → SureIn stepper sure store h → SureIn stepper sure store' h'
+  pub advance_sure : {events store' events' : List ℕ} {at : ℕ} {step : Step} {sure : Bool} → Advances (machine_in stepper) stepper bytes store events h at store' events' (Ok step)
+      → Lives (machine_in stepper) stepper bytes store h → SureIn stepper sure store h → SureIn stepper sure store' step.header
   advance_sure a w f =
       let v = w.living in
       let x = made-living (lawful_in stepper.linear) v (a.advances w.program w.state v) in

@@ -1,4 +1,5 @@
 -- One turn: a rule's step, and then the stopped flag of the state that it leads to. Assumes nothing.
+use Rattle.std.specs.Prelude.{Ok}
 use Prim.Native.Nat.{ℕ, ◌+◌, ◌-◌, ◌^◌, ◌≤◌, ◌<◌}
 use mathlib.Core.Path.{◌≡◌, refl, sym, ap, ap₂, ◌∙◌, subst}
 use mathlib.Core.Bool.{Bool, true, false, ◌&&◌, false≢true}
@@ -27,8 +28,7 @@ use Rattle.step_spec.proofs.Stepping.{Readable}
 use Rattle.step_spec.proofs.AnyStore.{fits-sound}
 use Rattle.step_header.specs.declared.Header.{Header}
 use Rattle.step_header.specs.Headers.{tuple_of}
-use Rattle.step_write.specs.declared.Made.{Made}
-use Rattle.step_write.specs.declared.Made.TheVariants.{Step}
+use Rattle.step_write.specs.declared.Step.{Step}
 use Rattle.step_rule.specs.declared.Stepper.{Stepper}
 use Rattle.step_rule.specs.Rules.{ProgramOf, Reads, Stored, going', resting, Makes, no_step, no_room, one-step}
 use Rattle.step_rule.proofs.Views.{views}
@@ -66,8 +66,8 @@ module _ {M : Machine} (lawful : Lawful M) {P : Prog} {stepper : Stepper} {bytes
       written o.w o.narrow M lawful P o.shallow o.defs o.few no_start (going' r.1) (next-sound r e) store k v.short
 
   -- .. with the header that it answered
-  made_reads : {events store₁ events₁ : List ℕ} {at n : ℕ} {h₁ : Header} (r : Stepped) → located_step M P l ≡ some r → MadeStep store events at (some (r.0, going' r.1)) store₁ events₁ h₁ n
-      → Reads P store₁ h₁ (going' r.1)
+  made_reads : {events store₁ events₁ : List ℕ} {at : ℕ} {step : Step} (r : Stepped) → located_step M P l ≡ some r → MadeStep store events at (some (r.0, going' r.1)) store₁ events₁ step
+      → Reads P store₁ step.header (going' r.1)
   made_reads {events} {store₁} {events₁} {at} r e m =
       let l₁ = going' r.1 in
       let q : m.what ≡ (r.0, l₁) = cc m.is in
@@ -82,15 +82,15 @@ module _ {M : Machine} (lawful : Lawful M) {P : Prog} {stepper : Stepper} {bytes
     pub is : located_step M P l ≡ some step
     pub reads : Reads P store₁ h₁ (going' step.1)
 
-  pub made-rests : {events store₁ events₁ : List ℕ} {at n : ℕ} {h₁ : Header} → Makes store events at (resting (located_step M P l)) store₁ events₁ (Step h₁ n) → Rests store₁ h₁
-  made-rests {events} {store₁} {events₁} {at} {n} {h₁} m = go (located_step M P l) refl (made-step m)
+  pub made-rests : {events store₁ events₁ : List ℕ} {at : ℕ} {step : Step} → Makes store events at (resting (located_step M P l)) store₁ events₁ (Ok step) → Rests store₁ step.header
+  made-rests {events} {store₁} {events₁} {at} {step} m = go (located_step M P l) refl (made-step m)
     where
-      go : (o : Option Stepped) → located_step M P l ≡ o → MadeStep store events at (resting o) store₁ events₁ h₁ n → Rests store₁ h₁
+      go : (o : Option Stepped) → located_step M P l ≡ o → MadeStep store events at (resting o) store₁ events₁ step → Rests store₁ step.header
       go none e k = let z : ◌≡◌ {A = ℕ} 0 1 = cc k.is in absurd (omega arith)
       go (some r) e k = record { step = r; is = e; reads = made_reads r e k }
 
-  module _ (s : l.has_stopped ≡ false) {events store₁ store₂ events₁ : List ℕ} {at n : ℕ} {h₁ h₂ : Header} (w : Settles M stepper bytes store₁ h₁ store₂ h₂) where
-    settled : (r : Stepped) → located_step M P l ≡ some r → MadeStep store events at (some (r.0, going' r.1)) store₁ events₁ h₁ n → Makes store events at (located_step M P l) store₂ events₁ (Step h₂ n)
+  module _ (s : l.has_stopped ≡ false) {events store₁ store₂ events₁ : List ℕ} {at : ℕ} {step : Step} {h₂ : Header} (w : Settles M stepper bytes store₁ step.header store₂ h₂) where
+    settled : (r : Stepped) → located_step M P l ≡ some r → MadeStep store events at (some (r.0, going' r.1)) store₁ events₁ step → Makes store events at (located_step M P l) store₂ events₁ (Ok (record { header = h₂; at = step.at }))
     unfolding project
     settled r e m =
         let l₁ = going' r.1 in
@@ -98,12 +98,12 @@ module _ {M : Machine} (lawful : Lawful M) {P : Prog} {stepper : Stepper} {bytes
         let k : has_room_lem (r.0, l₁) store (length events - at) ≡ true = ap (λ (z : Stepped). has_room_lem z store (length events - at)) (sym q) ∙ m.room in
         let room : length (store_bytes l₁) ≤ length store = leb-true _ _ (and_left (leb (length (store_bytes l₁)) (length store)) (leb (length (shown_bytes r.0)) (length events - at)) k) in
         let wrote : store₁ ≡ sets store 0 (store_bytes l₁) = m.wrote ∙ ap (λ (z : Stepped). sets store 0 (store_bytes z.1)) q in
-        let reads : Reads P store₁ h₁ l₁ = made_reads r e m in
+        let reads : Reads P store₁ step.header l₁ = made_reads r e m in
         let f = w.settles P l₁ v.program reads refl in
         let b = is_stop (M.step P (project P l₁)) in
         let same : flagged b l₁ ≡ r.1 = flag_back r e in
         let size : length (store_bytes l₁) ≡ length (store_bytes r.1) = flag_length false r.1 in
-        subst (λ (o : Option Stepped). Makes store events at o store₂ events₁ (Step h₂ n)) (sym e) (one-step
+        subst (λ (o : Option Stepped). Makes store events at o store₂ events₁ (Ok (record { header = h₂; at = step.at }))) (sym e) (one-step
         (ap (λ (i : ℕ). leb i (length store) && leb (length (shown_bytes r.0)) (length events - at)) (sym size) ∙ k)
         (f.0 ∙ (ap₂ {C = List ℕ} (λ (z : List ℕ) (y : Located). sets z 0 (store_bytes y)) wrote same ∙ hidden store 0 (store_bytes l₁) (store_bytes r.1) (omega (arith, size)) (omega (arith, room, size))))
         (m.showed ∙ ap (λ (z : Stepped). sets events at (shown_bytes z.0)) q)
@@ -114,10 +114,10 @@ module _ {M : Machine} (lawful : Lawful M) {P : Prog} {stepper : Stepper} {bytes
         flag_back r e = λ i. record { position = r.1.position; environment = r.1.environment; cells = r.1.cells; has_ended = r.1.has_ended; has_stopped = sym (flag_is s r e) i }
 
     -- a rule's step, and the flag
-    pub turned : Makes store events at (resting (located_step M P l)) store₁ events₁ (Step h₁ n) → Makes store events at (located_step M P l) store₂ events₁ (Step h₂ n)
+    pub turned : Makes store events at (resting (located_step M P l)) store₁ events₁ (Ok step) → Makes store events at (located_step M P l) store₂ events₁ (Ok (record { header = h₂; at = step.at }))
     turned m = go (located_step M P l) refl (made-step m)
       where
-        go : (o : Option Stepped) → located_step M P l ≡ o → MadeStep store events at (resting o) store₁ events₁ h₁ n → Makes store events at (located_step M P l) store₂ events₁ (Step h₂ n)
+        go : (o : Option Stepped) → located_step M P l ≡ o → MadeStep store events at (resting o) store₁ events₁ step → Makes store events at (located_step M P l) store₂ events₁ (Ok (record { header = h₂; at = step.at }))
         go none e k = let z : ◌≡◌ {A = ℕ} 0 1 = cc k.is in absurd (omega arith)
         go (some r) e k = settled r e k
 
@@ -144,8 +144,8 @@ module _ {M : Machine} (lawful : Lawful M) {P : Prog} {stepper : Stepper} {bytes
       }
 
   -- .. by a turn
-  pub made-living : {events store' events' : List ℕ} {at n : ℕ} {h' : Header} → Makes store events at (located_step M P l) store' events' (Step h' n)
-      → (m : MadeStep store events at (located_step M P l) store' events' h' n) × Living M P stepper bytes store' h' m.what.1
+  pub made-living : {events store' events' : List ℕ} {at : ℕ} {step : Step} → Makes store events at (located_step M P l) store' events' (Ok step)
+      → (m : MadeStep store events at (located_step M P l) store' events' step) × Living M P stepper bytes store' step.header m.what.1
   made-living {events} {at = at} k =
       let m = made-step k in
       let b = shown_bytes m.what.0 in

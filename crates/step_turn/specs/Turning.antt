@@ -1,12 +1,13 @@
 -- One turn of a stepper: a state in a store whose stopped flag is right, and its step.
-use Rattle.std.specs.Prelude.{ℕ, ◌^◌, ◌≤◌, ◌<◌, ◌≡◌, Bool, false, List, length}
+use Rattle.std.specs.Prelude.{ℕ, ◌^◌, ◌≤◌, ◌<◌, ◌≡◌, Bool, false, List, length, Result}
 use Rattle.model.specs.Syntax.{Prog}
 use Rattle.image_directory.specs.Slots.{Ready, records_in}
 use Rattle.step_spec.specs.Located.{Machine, Located, project, is_stop, located_step}
 use Rattle.step_spec.proofs.Stepping.{Readable}
 use Rattle.step_header.specs.declared.Header.{Header}
 use Rattle.step_places.specs.Ends.{Ends}
-use Rattle.step_write.specs.declared.Made.{Made}
+use Rattle.step_write.specs.declared.Step.{Step}
+use Rattle.step_write.specs.declared.Stop.{Stop}
 use Rattle.step_rule.specs.declared.Stepper.{Stepper}
 use Rattle.step_rule.specs.Rules.{ProgramOf, Reads, Makes}
 
@@ -32,5 +33,5 @@ pub record Workplace (stepper : Stepper) (bytes ends events scratch : List ℕ) 
   pub room : 2080 ≤ length scratch
 
 -- what is done is the stepper's step
-pub record Advances (M : Machine) (stepper : Stepper) (bytes store events : List ℕ) (h : Header) (at : ℕ) (store' events' : List ℕ) (m : Made) : Type 0 where
+pub record Advances (M : Machine) (stepper : Stepper) (bytes store events : List ℕ) (h : Header) (at : ℕ) (store' events' : List ℕ) (m : Result Step Stop) : Type 0 where
   pub advances : (P : Prog) (l : Located) → Living M P stepper bytes store h l → Makes store events at (located_step M P l) store' events' m

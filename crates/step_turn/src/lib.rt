@@ -5,13 +5,12 @@ ghost use Rattle.step_rule.specs.Rules.{machine_in};
 ghost use Rattle.step_order.specs.Sure.{SureIn};
 ghost use Rattle.step_turn.specs.Turning.{Lives, Workplace, Advances};
 
-use image_directory::long;
 use image_read_nodes::parts_of;
 use step_dispatch::statement;
 use step_header::Header;
 use step_rule::Stepper;
 use step_settle::settle;
-use step_write::Made;
+use step_write::{Step, Stop};
 
 // The stepper's step from the state in the store, if it has one and there is room for it.
 pub fn advance(
@@ -24,21 +23,15 @@ pub fn advance(
     header: Header,
     at: usize,
     sure: bool,
-) -> Made
+) -> Result<Step, Stop>
     requires { Workplace stepper image.now ends.now events.old scratch.old at × (Lives (machine_in stepper) stepper image.now store.old header × SureIn stepper sure store.old header) }
     ensures { Advances (machine_in stepper) stepper image.now store.old events.old header at store.new events.new result }
 {
-    let ended = header.ended;
-    let stopped = header.stopped;
-    if ended == 1 {
-        return Made::Nothing;
+    if header.ended || header.stopped {
+        return Err(Stop::NoStep);
     }
-    if stopped == 1 {
-        return Made::Nothing;
-    }
-    let frame = stepper.frame;
-    let follows = parts_of(image, frame, long(header.position));
-    match statement(
+    let follows = parts_of(image, stepper.frame, header.position as usize);
+    let step = statement(
         image,
         stepper,
         ends,
@@ -48,15 +41,9 @@ pub fn advance(
         header,
         at,
         follows.kind,
-    ) {
-        Made::Nothing => Made::Nothing,
-        Made::Full => Made::Full,
-        Made::Step {
-            header: next,
-            at: end,
-        } => Made::Step {
-            header: settle(image, stepper, ends, store, next, sure),
-            at: end,
-        },
-    }
+    )?;
+    Ok(Step {
+        header: settle(image, stepper, ends, store, step.header, sure),
+        at: step.at,
+    })
 }

@@ -11,31 +11,15 @@ use step_slots::{Slot, read};
 fn given_ok(value: Slot) -> bool
     ensures { result ≡ given_ok_lem value }
 {
-    let id = value.id;
-    let sort = value.sort;
-    let payload = value.payload;
-    if id != 0 {
-        return false;
-    }
-    if sort == 0 {
-        return true;
-    }
-    if sort == 2 {
-        return payload < 256;
-    }
-    false
+    value.id == 0 && (value.sort == 0 || (value.sort == 2 && value.payload < 256))
 }
 
 fn every_given(values: &[u8], n: usize) -> bool
     requires { 16 * n ≤ length values.now }
     ensures { result ≡ every_slot given_ok_lem (slots_at values.now 0 n) }
 {
-    let mut i: usize = 0;
-    while i < n {
-        let value = read(values, 16 * i);
-        if given_ok(value) {
-            i += 1;
-        } else {
+    for i in 0..n {
+        if !given_ok(read(values, 16 * i)) {
             return false;
         }
     }
@@ -46,12 +30,5 @@ fn every_given(values: &[u8], n: usize) -> bool
 pub fn are_given(values: &[u8], n: usize) -> bool
     ensures { result ≡ are_given_lem n values.now }
 {
-    let len = values.len();
-    if len % 16 != 0 {
-        return false;
-    }
-    if len / 16 != n {
-        return false;
-    }
-    every_given(values, n)
+    values.len() % 16 == 0 && values.len() / 16 == n && every_given(values, n)
 }

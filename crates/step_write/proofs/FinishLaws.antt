@@ -5,12 +5,13 @@ use mathlib.Core.Bool.{Bool, true, false, ◌&&◌}
 use mathlib.Core.List.{List}
 use native.Mathlib.Omega.{arith}
 use borrow.Author.Tests.{leb-true}
+use Rattle.std.specs.Prelude.{Ok}
 use lib.Dec.{leb}
 use lib.ListN.{length}
 use lib.Seq.{sets}
 use Rattle.image_spec.proofs.DirectoryLaws.{and_left, and_right}
 use Rattle.step_header.specs.declared.Header.{Header}
-use Rattle.step_write.specs.declared.Made.{Made}
+use Rattle.step_write.specs.declared.Step.{Step}
 use Rattle.step_write.specs.Writing.{size, Ending, Sealed, Finishes, finished}
 
 -- there is room for the state with this header, and for n bytes behind `at`
@@ -28,8 +29,8 @@ roomy {store} {events} {at} {header} n r o e f =
     }
 
 -- event and header are written over the slots that were written before
-pub finishes : {store store₁ events store' events' : List ℕ} {at : ℕ} {header : Header} {shown : List ℕ} {from : ℕ} {bytes : List ℕ} {m : Made} (r : Bool)
-    → r ≡ leb (size header) (length store) && leb (length shown) (length events - at) → r ≡ true → store₁ ≡ sets store from bytes → Sealed store₁ events at shown header store' events' m
-    → Finishes store events at header shown from bytes store' events' m
-finishes {events = events} {store' = store'} {events' = events'} {at = at} {header = header} {shown = shown} {m = m} r e f w s =
-    finished (sym e ∙ f) (subst (λ (z : List ℕ). Sealed z events at shown header store' events' m) w s)
+pub finishes : {store store₁ events store' events' : List ℕ} {at : ℕ} {header : Header} {shown : List ℕ} {from : ℕ} {bytes : List ℕ} {step : Step} (r : Bool)
+    → r ≡ leb (size header) (length store) && leb (length shown) (length events - at) → r ≡ true → store₁ ≡ sets store from bytes → Sealed store₁ events at shown header store' events' step
+    → Finishes store events at header shown from bytes store' events' (Ok step)
+finishes {events = events} {store' = store'} {events' = events'} {at = at} {header = header} {shown = shown} {step = step} r e f w s =
+    finished (sym e ∙ f) (subst (λ (z : List ℕ). Sealed z events at shown header store' events' step) w s)

@@ -12,12 +12,18 @@ use image_write_parts::{put_byte, store_pair};
 use step_header::{Header, place, put_header};
 use step_slots::{Slot, put_four, put_long, put_slot};
 
-// What became of a step: there is none; it has no room; or the header of the state after it, and the place behind its event.
+// What a step leaves: the header of the state after it, and the place behind its event.
 #[derive(Clone, Copy)]
-pub enum Made {
-    Nothing,
-    Full,
-    Step { header: Header, at: usize },
+pub struct Step {
+    pub header: Header,
+    pub at: usize,
+}
+
+// Why there is no step: the machine makes none, or there is no room for it.
+#[derive(Clone, Copy, Debug, PartialEq, Eq)]
+pub enum Stop {
+    NoStep,
+    NoRoom,
 }
 
 // The sixteen bytes that an event begins with.
@@ -36,10 +42,7 @@ pub fn has_room(store: usize, header: Header, events: usize, at: usize, bytes: u
     ensures { result ≡ leb (size header) store && leb bytes (events - at) }
 {
     let slots = place(header.heap) + place(header.entries);
-    if (store - 64) / 16 < slots {
-        return false;
-    }
-    bytes <= events - at
+    slots <= (store - 64) / 16 && bytes <= events - at
 }
 
 pub fn put_event(events: &mut [u8], at: usize, event: EventHead) -> usize
@@ -63,13 +66,13 @@ fn insert(store: &mut [u8], at: usize, n: usize, slots: &[u8], k: usize)
 }
 
 // The event and the header of a step whose slots are written.
-fn seal(store: &mut [u8], events: &mut [u8], at: usize, event: EventHead, header: Header) -> Made
+fn seal(store: &mut [u8], events: &mut [u8], at: usize, event: EventHead, header: Header) -> Step
     requires { (64 ≤ length store.old) × (at + 16 ≤ length events.old) }
     ensures { Sealed store.old events.old at (head_bytes event) header store.new events.new result }
 {
     let next = put_event(events, at, event);
     put_header(store, header);
-    Made::Step { header, at: next }
+    Step { header, at: next }
 }
 
 // A step to a state with this header: from byte `from` on the first k of `slots`, then the n slots that stand there.
@@ -83,15 +86,15 @@ pub fn finish(
     n: usize,
     slots: &[u8],
     k: usize,
-) -> Made
+) -> Result<Step, Stop>
     requires { Ending store.old events.old at header × ((from + 16 * (k + n) ≤ size header) × (16 * k ≤ length slots.now)) }
     ensures { Finishes store.old events.old at header (head_bytes event) from (take (16 * k) slots.now ++ take (16 * n) (drop from store.old)) store.new events.new result }
 {
-    if has_room(store.len(), header, events.len(), at, 16) {
-        insert(store, from, n, slots, k);
-        return seal(store, events, at, event, header);
+    if !has_room(store.len(), header, events.len(), at, 16) {
+        return Err(Stop::NoRoom);
     }
-    Made::Full
+    insert(store, from, n, slots, k);
+    Ok(seal(store, events, at, event, header))
 }
 
 // The same, with the slot `last` behind those n.
@@ -106,16 +109,16 @@ pub fn finish_before(
     last: Slot,
     slots: &[u8],
     k: usize,
-) -> Made
+) -> Result<Step, Stop>
     requires { Ending store.old events.old at header × ((from + 16 * (k + n + 1) ≤ size header) × (16 * k ≤ length slots.now)) }
     ensures { Finishes store.old events.old at header (head_bytes event) from (take (16 * k) slots.now ++ (take (16 * n) (drop from store.old) ++ slot_bytes last)) store.new events.new result }
 {
-    if has_room(store.len(), header, events.len(), at, 16) {
-        insert(store, from, n, slots, k);
-        put_slot(store, from + 16 * (k + n), last);
-        return seal(store, events, at, event, header);
+    if !has_room(store.len(), header, events.len(), at, 16) {
+        return Err(Stop::NoRoom);
     }
-    Made::Full
+    insert(store, from, n, slots, k);
+    put_slot(store, from + 16 * (k + n), last);
+    Ok(seal(store, events, at, event, header))
 }
 
 // A step to a state with this header: from byte `from` on the first k of `slots`, then the n slots that stand at `entries`, before them.
@@ -130,17 +133,17 @@ pub fn finish_entering(
     k: usize,
     entries: usize,
     n: usize,
-) -> Made
+) -> Result<Step, Stop>
     requires { Ending store.old events.old at header × ((from + 16 * (k + n) ≤ size header) × ((entries + 16 * n ≤ from) × (16 * k ≤ length slots.now))) }
     ensures { Finishes store.old events.old at header (head_bytes event) from (take (16 * k) slots.now ++ take (16 * n) (drop entries store.old)) store.new events.new result }
 {
-    if has_room(store.len(), header, events.len(), at, 16) {
-        let to = from + 16 * k;
-        move_up(store, entries, 16 * n, to - entries);
-        copy(slots, 0, 16 * k, store, from);
-        return seal(store, events, at, event, header);
+    if !has_room(store.len(), header, events.len(), at, 16) {
+        return Err(Stop::NoRoom);
     }
-    Made::Full
+    let to = from + 16 * k;
+    move_up(store, entries, 16 * n, to - entries);
+    copy(slots, 0, 16 * k, store, from);
+    Ok(seal(store, events, at, event, header))
 }
 
 // Moves the n slots from at up to leave a cell before them that holds them too, and a variable.
@@ -165,15 +168,15 @@ pub fn finish_holding(
     n: usize,
     head: Slot,
     var: Slot,
-) -> Made
+) -> Result<Step, Stop>
     requires { Ending store.old events.old at header × (from + 16 * (n + n + 2) ≤ size header) }
     ensures { Finishes store.old events.old at header (head_bytes event) from (slot_bytes head ++ (take (16 * n) (drop from store.old) ++ (slot_bytes var ++ take (16 * n) (drop from store.old)))) store.new events.new result }
 {
-    if has_room(store.len(), header, events.len(), at, 16) {
-        put_closure(store, from, n, head, var);
-        return seal(store, events, at, event, header);
+    if !has_room(store.len(), header, events.len(), at, 16) {
+        return Err(Stop::NoRoom);
     }
-    Made::Full
+    put_closure(store, from, n, head, var);
+    Ok(seal(store, events, at, event, header))
 }
 
 // A step without an event.
@@ -185,14 +188,14 @@ pub fn finish_silent(
     from: usize,
     slots: &[u8],
     k: usize,
-) -> Made
+) -> Result<Step, Stop>
     requires { Ending store.old events.old at header × ((from + 16 * k ≤ size header) × (16 * k ≤ length slots.now)) }
     ensures { Finishes store.old events.old at header [] from (take (16 * k) slots.now) store.new events.new result }
 {
-    if has_room(store.len(), header, events.len(), at, 0) {
-        copy(slots, 0, 16 * k, store, from);
-        put_header(store, header);
-        return Made::Step { header, at };
+    if !has_room(store.len(), header, events.len(), at, 0) {
+        return Err(Stop::NoRoom);
     }
-    Made::Full
+    copy(slots, 0, 16 * k, store, from);
+    put_header(store, header);
+    Ok(Step { header, at })
 }

@@ -1,17 +1,10 @@
-use borrow.Author.Rules.{rules}
-use mathlib.Core.List.{◌∷◌, []}
-use mathlib.Core.Path.{ap, sym}
 use native.Mathlib.Omega.{arith}
-use Rattle.image_spec.specs.Fields.{chirality_code_lem, identifier_bytes, binding_bytes}
+use mathlib.Core.List.{◌∷◌, []}
+use Rattle.image_spec.specs.Fields.{chirality_code_lem, identifier_bytes}
 use Rattle.image_spec.proofs.FieldLaws.{identifier-length}
-use Rattle.image_write_parts.proofs.Putting.{puts_as, puts_then}
+use Rattle.image_write_parts.proofs.Codes.{chirality-number}
+use Rattle.image_write_parts.proofs.Putting.{puts_then}
 use Rattle.image_write_parts.proofs.put_binding.Goals as goal
-
-pub store_binding-requires : goal.store_binding-requires
-store_binding-requires c = (c.short.ensures c.if-short.true).1
-
-pub returns-then-short : goal.returns-then-short
-returns-then-short c = puts_as (ap (λ w. binding_bytes w c.args.b) (sym (c.short.ensures c.if-short.true).0)) c.store_binding.ensures
 
 pub put_byte-after-requires : goal.put_byte-after-requires
 put_byte-after-requires c =
@@ -24,6 +17,6 @@ put_type-requires c =
 pub returns : goal.returns
 returns c =
     let a = c.args in
-    let chi = rw c.chirality_code.ensures at c.put_byte-after.ensures in
+    let chi = rw chirality-number at c.put_byte-after.ensures in
     puts_then {xs = identifier_bytes a.w a.b.var} c.put_identifier-next.ensures
     (puts_then {xs = chirality_code_lem a.b.chi ∷ []} chi c.put_type.ensures)

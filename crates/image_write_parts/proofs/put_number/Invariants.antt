@@ -1,17 +1,10 @@
-use borrow.Author.Rules.{rules}
-use Prim.Native.Nat.{◌+◌}
-use mathlib.Core.Path.{◌≡◌, refl, sym, ap, ◌∙◌}
-use native.Mathlib.Omega.{arith}
-use lib.ListN.{length}
+use Prim.Native.Nat.{◌+◌, ◌-◌}
+use mathlib.Core.Path.{◌≡◌}
 use lib.Seq.{sets}
 use Rattle.image_spec.specs.Parse.{field}
-use Rattle.image_spec.proofs.FieldLaws.{field-length}
-use Rattle.image_write_parts.proofs.Putting.{put_step}
 use Rattle.image_write_parts.proofs.put_number.Given as goal
 
-abbrev pub invariant-loop-left : goal.invariant-loop-left
-invariant-loop-left l =
-    (l.here + l.left ≡ l.at + l.w) × ((length l.out ≡ length l.initial.out) × (sets l.initial.out l.initial.here (field l.initial.left l.initial.rest) ≡ sets l.out l.here (field l.left l.rest)))
-
-abbrev pub decreases-loop-left : goal.decreases-loop-left
-decreases-loop-left l = l.left
+-- what is left of the number goes from `here` on
+abbrev pub invariant-loop : goal.invariant-loop
+invariant-loop l =
+    (l.here ≡ l.at + l.counter) × (sets l.initial.out l.at (field l.w l.n) ≡ sets l.out l.here (field (l.w - l.counter) l.rest))

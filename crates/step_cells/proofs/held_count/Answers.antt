@@ -1,8 +1,5 @@
-use Prim.Native.Nat.{◌-◌}
 use native.Mathlib.Omega.{arith}
 use Rattle.step_cells.proofs.HeldLaws.{Counted, counted_none, counted-cell, counted_next, counted-all}
-use Rattle.step_cells.proofs.held_count.Reads as reads
-use Rattle.step_cells.proofs.held_count.Lts as lts
 use Rattle.step_cells.proofs.held_count.Goals as goal
 
 pub loop-j-init : goal.loop-j-init
@@ -21,4 +18,4 @@ loop-j-preserved c =
     counted_next a.store.now a.heap a.place l.j (omega arith) l.invariant c.if-sort-ge3.false
 
 pub returns : goal.returns
-returns c = let a = c.args in counted-all a.store.now a.heap a.place c.loop-j.j (omega arith) c.loop-j.invariant
+returns c = let a = c.args in omega (arith, counted-all a.store.now a.heap a.place c.loop-j.j (omega arith) c.loop-j.invariant, c.loop-j.invariant.within)

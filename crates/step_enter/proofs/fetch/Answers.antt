@@ -1,6 +1,5 @@
 -- `fetch` meets its contract. Assumes nothing.
 use Rattle.step_enter.proofs.EnterLaws.{fetched}
-use borrow.Author.Rules.{rules}
 use Rattle.step_enter.proofs.fetch.Goals as goal
 
 pub returns : goal.returns

@@ -20,6 +20,3 @@ use Rattle.step_gather.proofs.gather.Given as goal
 abbrev pub invariant-loop-j : goal.invariant-loop-j
 invariant-loop-j l =
     Passed l.row.len (λ k. all_found_lem (slots_at l.store l.at l.n) (drop k (ids_in l.image l.row))) l.j × Filled (found_slots (slots_at l.store l.at l.n) (ids_in l.image l.row)) l.initial.out l.to l.out l.j
-
-abbrev pub decreases-loop-j : goal.decreases-loop-j
-decreases-loop-j l = l.row.len - l.j

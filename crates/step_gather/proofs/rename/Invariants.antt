@@ -1,5 +1,4 @@
 -- `rename` meets its contract. Assumes nothing.
-use Prim.Native.Nat.{◌-◌}
 use mathlib.Core.Path.{◌≡◌, sym, ◌∙◌}
 use native.Mathlib.Omega.{arith}
 use lib.ListN.{length}
@@ -14,6 +13,3 @@ use Rattle.step_gather.proofs.rename.Given as goal
 
 abbrev pub invariant-loop-j : goal.invariant-loop-j
 invariant-loop-j l = Filled (renamed (ids_in l.image l.row) (slots_at l.initial.slots l.at l.row.len)) l.initial.slots l.at l.slots l.j
-
-abbrev pub decreases-loop-j : goal.decreases-loop-j
-decreases-loop-j l = l.row.len - l.j

@@ -1,26 +1,34 @@
 use mathlib.Core.Path.{◌≡◌, refl, sym, ap, ◌∙◌}
 use mathlib.Core.Bool.{Bool, true, false, ◌&&◌, and-false}
+use Prim.Native.Nat.{ℕ}
+use Rattle.step_spec.specs.Store.{statement_at, every_slot, entry_ok}
 use Rattle.step_scan.proofs.PassLaws.{statement-of}
-use Rattle.step_spec.specs.Store.{statement_at}
-use Rattle.step_open.proofs.OpeningLaws.{cells-answer, entries-answer}
-use borrow.Author.Rules.{rules}
+use Rattle.step_header.specs.Headers.{heap_in, entries_in}
 use Rattle.step_open.proofs.is_formed.Goals as goal
-use Rattle.step_open.proofs.is_formed.Goals.{After-place-entries}
+use Rattle.step_open.proofs.is_formed.Goals.{then-is_statement, else-is_statement}
 
 pub returns-then-cells_ok : goal.returns-then-cells_ok
 returns-then-cells_ok c = λ P o.
+    let q = statement-of c.args.header.position o in
+    elim c.if-is_statement.branch [
+      | then-is_statement w ↦
+          let i = sym q ∙ (sym c.is_statement.ensures ∙ w.if-is_statement.true) in
+          let f = sym (w.cells_ok.ensures P o) ∙ (sym w.value-is ∙ c.if-cells_ok.true) in
+          c.entries_ok.ensures P ∙ rw (i, f) refl
+      | else-is_statement w ↦ let z : true ≡ false = sym c.if-cells_ok.true ∙ (w.value-is ∙ w.if-is_statement.false) in cc
+    ]
+
+pub returns-else-cells_ok : goal.returns-else-cells_ok
+returns-else-cells_ok c = λ P o.
+    let q = statement-of c.args.header.position o in
     let s = c.args.store.now in
-    let i = sym (statement-of c.args.header.position o) ∙ (sym c.is_statement.ensures ∙ c.if-is_statement.true) in
-    let f = cells-answer P s c.args.header true _ c.place-heap.ensures (c.cells_ok.ensures P o) c.if-cells_ok.true in
-    let g = entries-answer P s c.args.header _ _ c.place-heap.ensures c.place-entries.ensures (c.entries_ok.ensures P) refl in
-    rw (i, f) (sym g)
-
-pub returns-then-is_statement : goal.returns-then-is_statement
-returns-then-is_statement c = λ P o.
-    let f = cells-answer P c.args.store.now c.args.header false _ c.place-heap.ensures (c.cells_ok.ensures P o) c.if-cells_ok.false in
-    rw f (sym (and-false (statement_at P c.args.header.position)))
-
-pub returns : goal.returns
-returns c = λ P o.
-    let i = sym (statement-of c.args.header.position o) ∙ (sym c.is_statement.ensures ∙ c.if-is_statement.false) in
-    rw i refl
+    let h = c.args.header in
+    let n = every_slot (entry_ok P (heap_in s h)) (entries_in s h) in
+    c.if-cells_ok.false ∙ elim c.if-is_statement.branch [
+      | then-is_statement w ↦
+          let f = sym (w.cells_ok.ensures P o) ∙ (sym w.value-is ∙ c.if-cells_ok.false) in
+          rw f (sym (and-false (statement_at P h.position)))
+      | else-is_statement w ↦
+          let i = sym q ∙ (sym c.is_statement.ensures ∙ w.if-is_statement.false) in
+          rw i refl
+    ]

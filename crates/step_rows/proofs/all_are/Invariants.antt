@@ -13,6 +13,3 @@ use Rattle.step_rows.proofs.all_are.Given as goal
 
 abbrev pub invariant-loop-j : goal.invariant-loop-j
 invariant-loop-j l = Passed l.row.len (λ k. all_are_lem l.wanted (drop k (ids_in l.bytes l.row)) (ids_in l.others l.other_row)) l.j
-
-abbrev pub decreases-loop-j : goal.decreases-loop-j
-decreases-loop-j l = l.row.len - l.j

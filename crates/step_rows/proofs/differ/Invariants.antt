@@ -15,6 +15,3 @@ use Rattle.step_rows.proofs.differ.Given as goal
 
 abbrev pub invariant-loop-j : goal.invariant-loop-j
 invariant-loop-j l = Passed l.row.len (λ k. distinct (drop k (ids_in l.bytes l.row))) l.j
-
-abbrev pub decreases-loop-j : goal.decreases-loop-j
-decreases-loop-j l = l.row.len - l.j

@@ -12,15 +12,6 @@ use Rattle.step_rows.proofs.id_at.Goals.{Start}
 inside : (c : Start) → c.args.row.from + c.args.row.stride * c.args.j + c.args.row.offset + c.args.width ≤ length c.args.bytes.now
 inside c = omega (arith, inside-at c.args.bytes.now c.args.row c.args.j c.requires.0 c.requires.2, c.requires.1)
 
-pub overflow_mul-stride : goal.overflow_mul-stride
-overflow_mul-stride c = omega (arith, inside (goal.at.overflow_mul-stride c).Start)
-
-pub overflow_add-from : goal.overflow_add-from
-overflow_add-from c = omega (arith, inside (goal.at.overflow_add-from c).Start)
-
-pub overflow_add-from-2 : goal.overflow_add-from-2
-overflow_add-from-2 c = omega (arith, inside (goal.at.overflow_add-from-2 c).Start)
-
 pub number-requires : goal.number-requires
 number-requires c = (inside (goal.at.number-requires c).Start, omega (arith, c.requires.0.width, c.requires.1))
 

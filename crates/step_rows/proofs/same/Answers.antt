@@ -17,13 +17,13 @@ turns : (c : At-loop-j) →
     let a = c.args in
     Turns a.row.len (λ k. same_ids (drop k (ids_in a.bytes.now a.row)) (drop k (ids_in a.others.now a.other_row)))
     (λ k. same_var_id (id_at a.bytes.now a.row k) (id_at a.others.now a.other_row k))
-turns c = same_turns c.args.bytes.now c.args.row c.args.others.now c.args.other_row c.if-len-other_len.false
+turns c = same_turns c.args.bytes.now c.args.row c.args.others.now c.args.other_row c.if-row-other_len.false
 
-pub returns-then-len-other_len : goal.returns-then-len-other_len
-returns-then-len-other_len c =
+pub returns-then-row-other_len : goal.returns-then-row-other_len
+returns-then-row-other_len c =
     let s = c.args.bytes.now in
     let t = c.args.others.now in
-    same-lengths (ids_in s c.args.row) (ids_in t c.args.other_row) (λ e. c.if-len-other_len.true (sym (ids-length s c.args.row) ∙ (e ∙ ids-length t c.args.other_row)))
+    same-lengths (ids_in s c.args.row) (ids_in t c.args.other_row) (λ e. c.if-row-other_len.true (sym (ids-length s c.args.row) ∙ (e ∙ ids-length t c.args.other_row)))
 
 pub loop-j-init : goal.loop-j-init
 loop-j-init c = passed_none
@@ -32,7 +32,7 @@ pub id_of-id-requires : goal.id_of-id-requires
 id_of-id-requires c = (c.requires.0, c.loop-j-test.true)
 
 pub id_of-other-requires : goal.id_of-other-requires
-id_of-other-requires c = (c.requires.1, omega (arith, c.loop-j-test.true, c.if-len-other_len.false))
+id_of-other-requires c = (c.requires.1, omega (arith, c.loop-j-test.true, c.if-row-other_len.false))
 
 pub returns-then-id-other : goal.returns-then-id-other
 returns-then-id-other c =

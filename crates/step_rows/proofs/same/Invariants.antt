@@ -1,5 +1,4 @@
 -- `same` meets its contract. Assumes nothing.
-use Prim.Native.Nat.{◌-◌}
 use mathlib.Core.Path.{sym, ◌∙◌}
 use native.Mathlib.Omega.{arith}
 use borrow.Author.Tests.{eq-eqb, ne_eqb}
@@ -13,6 +12,3 @@ use Rattle.step_rows.proofs.same.Given as goal
 
 abbrev pub invariant-loop-j : goal.invariant-loop-j
 invariant-loop-j l = Passed l.row.len (λ k. same_ids (drop k (ids_in l.bytes l.row)) (drop k (ids_in l.others l.other_row))) l.j
-
-abbrev pub decreases-loop-j : goal.decreases-loop-j
-decreases-loop-j l = l.row.len - l.j

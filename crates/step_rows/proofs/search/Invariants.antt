@@ -1,5 +1,4 @@
 -- `search` meets its contract. Assumes nothing.
-use Prim.Native.Nat.{◌-◌}
 use mathlib.Core.Path.{sym, ap, ◌∙◌}
 use mathlib.Core.Bool.{not}
 use native.Mathlib.Omega.{arith}
@@ -12,6 +11,3 @@ use Rattle.step_rows.proofs.search.Given as goal
 
 abbrev pub invariant-loop-j : goal.invariant-loop-j
 invariant-loop-j l = Passed l.row.len (λ k. not (elem (identified l.id) (drop k (ids_in l.bytes l.row)))) l.j
-
-abbrev pub decreases-loop-j : goal.decreases-loop-j
-decreases-loop-j l = l.row.len - l.j

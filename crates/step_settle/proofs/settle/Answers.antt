@@ -1,32 +1,33 @@
-use mathlib.Core.Path.{sym, ◌∙◌}
+use mathlib.Core.Path.{◌≡◌, refl, sym, ◌∙◌}
+use mathlib.Core.Bool.{Bool, true, false, not, false≢true}
 use Rattle.step_spec.specs.Located.{project}
 use Rattle.step_spec.proofs.NeverStops.{source-never-stops}
-use Rattle.step_settle.proofs.SettleLaws.{settles_as, settles-same, settles-stopped, ended-goes, not_ended}
-use borrow.Author.Rules.{rules}
-use Rattle.step_settle.proofs.settle.Reads as reads
-use Rattle.step_settle.proofs.settle.Lts as lts
-use Rattle.step_order.proofs.stops.Reads as stops-reads
-use Rattle.step_settle.proofs.stop.Reads as stop-reads
+use Rattle.step_rule.proofs.Views.{views}
+use Rattle.step_settle.proofs.SettleLaws.{settles_as, settles-same, settles-stopped, ended-goes}
 use Rattle.step_settle.proofs.settle.Goals as goal
+use Rattle.step_settle.proofs.settle.Goals.{else-not-header-via-then-not-header+then-stepper+else-stops, else-not-header-via-then-not-header+else-stepper, else-not-header-via-else-not-header}
 
-pub returns-then-ended-eq1 : goal.returns-then-ended-eq1
-returns-then-ended-eq1 c = let a = c.args in settles-same (λ P l p o s. ended-goes a.stepper.linear o c.if-ended-eq1.true)
+clear : (b : Bool) → not b ≡ true → b ≡ false
+clear false e = refl
+clear true e = absurd (false≢true e)
 
-pub stops-requires : goal.stops-requires
-stops-requires c =
-    let p = c.requires in
-    (p.0, (p.1.0, (p.1.1.0, (p.1.1.1.0, p.1.1.1.1 c.if-stepper.true))))
+set : (b : Bool) → not b ≡ false → b ≡ true
+set true e = refl
+set false e = absurd (false≢true (sym e))
 
 pub returns-then-stops : goal.returns-then-stops
 returns-then-stops c =
     settles_as c.if-stepper.true
-    (settles-stopped (λ P l p o s. sym (c.stops.ensures.is P l p o (not_ended o c.if-ended-eq1.false) s) ∙ c.if-stops.true) c.stop.ensures.0 c.stop.ensures.1)
-
-pub returns-then-stepper : goal.returns-then-stepper
-returns-then-stepper c =
-    settles_as c.if-stepper.true
-    (settles-same (λ P l p o s. sym (c.stops.ensures.is P l p o (not_ended o c.if-ended-eq1.false) s) ∙ c.if-stops.false))
+    (settles-stopped (λ P l p o s. sym (c.stops.ensures.is P l p o (sym (views o).ended ∙ clear _ c.if-not-header.true) s) ∙ c.if-stops.true) c.stop.ensures.0 c.stop.ensures.1)
 
 pub returns : goal.returns
 returns c =
-    settles_as c.if-stepper.false (settles-same (λ P l p o s. source-never-stops P (project P l)))
+    let a = c.args in
+    elim c.else-not-header.branch [
+      else-not-header-via-then-not-header+then-stepper+else-stops w ↦
+        settles_as w.if-stepper.true
+        (settles-same (λ P l p o s. sym (w.stops.ensures.is P l p o (sym (views o).ended ∙ clear _ w.if-not-header.true) s) ∙ w.if-stops.false))
+    | else-not-header-via-then-not-header+else-stepper w ↦
+        settles_as w.if-stepper.false (settles-same (λ P l p o s. source-never-stops P (project P l)))
+    | else-not-header-via-else-not-header w ↦ settles-same (λ P l p o s. ended-goes a.stepper.linear o (set _ w.if-not-header.false))
+    ]

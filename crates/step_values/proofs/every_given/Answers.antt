@@ -1,11 +1,5 @@
-use Prim.Native.Nat.{◌-◌}
 use native.Mathlib.Omega.{arith}
 use Rattle.step_values.proofs.ValueLaws.{Tested, tested_none, tested-next, tested-no, tested-all}
-use borrow.Author.Rules.{rules}
-use Rattle.step_values.proofs.every_given.Reads as reads
-use Rattle.step_values.proofs.every_given.Lts as lts
-use Rattle.step_values.proofs.given_ok.Reads as given-ok-reads
-use Rattle.step_slots.proofs.read.Reads as read-reads
 use Rattle.step_values.proofs.every_given.Goals as goal
 
 pub loop-i-init : goal.loop-i-init
@@ -15,13 +9,13 @@ pub loop-i-preserved : goal.loop-i-preserved
 loop-i-preserved c =
     let o = c.loop-i in
     let a = c.args in
-    tested-next a.values.now a.n o.i (omega arith) o.invariant c.read-value.result c.read-value.ensures c.given_ok.result c.given_ok.ensures c.if-given_ok.true
+    tested-next a.values.now a.n o.i (omega arith) o.invariant c.read.result c.read.ensures c.given_ok.result c.given_ok.ensures c.if-not-given_ok.false
 
-pub returns-else-given_ok : goal.returns-else-given_ok
-returns-else-given_ok c =
+pub returns-then-not-given_ok : goal.returns-then-not-given_ok
+returns-then-not-given_ok c =
     let o = c.loop-i in
     let a = c.args in
-    tested-no a.values.now a.n o.i (omega arith) o.invariant c.read-value.result c.read-value.ensures c.given_ok.result c.given_ok.ensures c.if-given_ok.false
+    tested-no a.values.now a.n o.i (omega arith) o.invariant c.read.result c.read.ensures c.given_ok.result c.given_ok.ensures c.if-not-given_ok.true
 
 pub returns : goal.returns
 returns c = let a = c.args in tested-all a.values.now a.n c.loop-i.i (omega arith) c.loop-i.invariant

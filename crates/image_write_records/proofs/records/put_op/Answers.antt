@@ -4,6 +4,7 @@ use native.Mathlib.Omega.{arith}
 use Rattle.image_spec.specs.Fields.{identifier_bytes, operator_code_lem}
 use Rattle.image_spec.specs.Records.{record_bytes}
 use Rattle.image_spec.proofs.FieldLaws.{identifier-length}
+use Rattle.image_write_parts.proofs.Codes.{operator-number}
 use Rattle.image_write_parts.proofs.Putting.{puts_then}
 use borrow.Author.Rules.{rules}
 use Rattle.image_write_records.proofs.records.put_op.Goals as goal
@@ -24,6 +25,6 @@ pub returns : goal.returns
 unfolding record_bytes
 returns c =
     let a = c.args in
-    let code = rw c.operator_code.ensures at c.put_byte-after.ensures in
+    let code = rw operator-number at c.put_byte-after.ensures in
     puts_then {xs = 9 ∷ identifier_bytes a.w a.fst} c.put_named-next.ensures
     (puts_then {xs = operator_code_lem a.operator ∷ []} code (puts_then {xs = identifier_bytes a.w a.snd} c.put_identifier-last.ensures c.put_identifier.ensures))

@@ -1,7 +1,6 @@
 use Rattle.std.proofs.Common.{◌≡◌, true, false, refl, ap, rules}
 use mathlib.Core.Option.{some}
 use Rattle.model.specs.Integers.{divisible, eval_op}
-use Rattle.step_arithmetic.specs.Results.{value_of}
 use Rattle.step_arithmetic.proofs.Quotients.{answered, passes, quot_is}
 use Rattle.step_arithmetic.proofs.division.quotient.Goals as goal
 use Rattle.step_arithmetic.proofs.division.quotient.Goals.{Then-has_quotient}
@@ -14,11 +13,11 @@ pub nonzero_div-result : goal.nonzero_div-result
 nonzero_div-result c = passes c.args.a c.args.b c.ranges.a c.ranges.b (defined (goal.at.nonzero_div-result c).Then-has_quotient)
 
 pub returns-then-has_quotient : goal.returns-then-has_quotient
-unfolding value_of eval_op
+unfolding eval_op
 returns-then-has_quotient c = rw (defined (goal.at.returns-then-has_quotient c).Then-has_quotient) (ap some (quot_is c.args.a c.args.b c.ranges.a c.ranges.b (defined (goal.at.returns-then-has_quotient c).Then-has_quotient)))
 
 pub returns : goal.returns
-unfolding value_of eval_op
+unfolding eval_op
 returns c =
     let h = c.has_quotient in
     rw (answered c.args.a c.args.b c.ranges.a c.ranges.b h.result false h.ensures c.if-has_quotient.false) refl

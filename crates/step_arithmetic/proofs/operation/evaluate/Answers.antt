@@ -2,7 +2,6 @@ use Rattle.std.proofs.Common.{sym, ◌∙◌, rules}
 use Rattle.syntax.specs.declared.op.BinOp.TheVariants.{Div, Prod, Rem, Sum, Sub}
 use Rattle.model.specs.Integers.{eval_op}
 use Rattle.image_integers.proofs.Signs.{back}
-use Rattle.step_arithmetic.specs.Results.{value_of}
 use Rattle.step_arithmetic.proofs.Operations.{asked}
 use Rattle.step_arithmetic.proofs.operation.evaluate.Goals as goal
 
@@ -11,7 +10,6 @@ returns-in-Div c =
     rw c.in-Div.is (c.quotient.ensures ∙ asked c.args.a c.args.b c.ranges.a c.ranges.b (eval_op Div))
 
 pub returns-in-Prod : goal.returns-in-Prod
-unfolding value_of
 returns-in-Prod c =
     rw (c.in-Prod.is, back c.product.result (record { sfits = c.product.type_inv })) (sym c.product.ensures ∙ asked c.args.a c.args.b c.ranges.a c.ranges.b (eval_op Prod))
 
@@ -20,11 +18,9 @@ returns-in-Rem c =
     rw c.in-Rem.is (c.remainder.ensures ∙ asked c.args.a c.args.b c.ranges.a c.ranges.b (eval_op Rem))
 
 pub returns-in-Sum : goal.returns-in-Sum
-unfolding value_of
 returns-in-Sum c =
     rw (c.in-Sum.is, back c.sum.result (record { sfits = c.sum.type_inv })) (sym c.sum.ensures ∙ asked c.args.a c.args.b c.ranges.a c.ranges.b (eval_op Sum))
 
 pub returns-in-Sub : goal.returns-in-Sub
-unfolding value_of
 returns-in-Sub c =
     rw (c.in-Sub.is, back c.difference.result (record { sfits = c.difference.type_inv })) (sym c.difference.ensures ∙ asked c.args.a c.args.b c.ranges.a c.ranges.b (eval_op Sub))

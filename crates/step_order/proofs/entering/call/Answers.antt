@@ -34,20 +34,20 @@ same_count : (c : Else-count-place) {M : Machine} {P : Prog} {store : List ℕ} 
     Stored M P store a.header l → Enters a.stepper.frame a.image.now c.find_label.result (values l.environment) (λ new. new) (is_stop (work_at P l)) → b ≡ not (distinct (ids_in a.image.now c.list_row-parameters.result)) → b ≡ is_stop (work_at P l)
 same_count c o e t =
     let a = c.args in
-    as_many e c.in-At.is c.list_row-parameters.ensures (c.if-count-place.false ∙ (c.place.ensures ∙ sym (values-count o)))
+    as_many e c.in-Some.is c.list_row-parameters.ensures (c.if-count-place.false ∙ (c.place.ensures ∙ sym (values-count o)))
     (ids_in a.image.now c.list_row-parameters.result) (λ new k. k) t
 
 pub first-label-requires : goal.first-label-requires
 first-label-requires c = (subst (λ (i : ℕ). At c.args.stepper.frame c.args.image.now i 3) (sym c.long.ensures) c.requires.0, λ e. omega (arith, e))
 
 pub list_row-parameters-requires : goal.list_row-parameters-requires
-list_row-parameters-requires c = (c.find_label.ensures.at _ c.in-At.is, refl)
+list_row-parameters-requires c = (c.find_label.ensures.at _ c.in-Some.is, refl)
 
 pub returns-then-count-place : goal.returns-then-count-place
 returns-then-count-place c = λ store. record {
   is = λ P l p o e g.
       let w = reads-stored o e g in
-      fewer (enters (goal.at.returns-then-count-place c).After-find_label p w) c.in-At.is c.list_row-parameters.ensures (λ n. c.if-count-place.true (n ∙ (values-count w ∙ sym c.place.ensures)));
+      fewer (enters (goal.at.returns-then-count-place c).After-find_label p w) c.in-Some.is c.list_row-parameters.ensures (λ n. c.if-count-place.true (n ∙ (values-count w ∙ sym c.place.ensures)));
 }
 
 pub returns-then-distinct : goal.returns-then-distinct
@@ -64,5 +64,5 @@ returns-else-distinct c = λ store. record {
       same_count (goal.at.returns-else-distinct c).Else-count-place w (enters (goal.at.returns-else-distinct c).After-find_label p w) (ap not (sym c.if-distinct.false ∙ c.distinct.ensures));
 }
 
-pub returns-in-Nothing : goal.returns-in-Nothing
-returns-in-Nothing c = λ store. record { is = λ P l p o e g. missing (enters (goal.at.returns-in-Nothing c).After-find_label p (reads-stored o e g)) c.in-Nothing.is }
+pub returns-in-None : goal.returns-in-None
+returns-in-None c = λ store. record { is = λ P l p o e g. missing (enters (goal.at.returns-in-None c).After-find_label p (reads-stored o e g)) c.in-None.is }

@@ -52,13 +52,13 @@ pub tag-requires : goal.tag-requires
 tag-requires c = subst (λ (i : ℕ). At c.args.stepper.frame c.args.image.now i 7) (sym c.long.ensures) c.requires.0
 
 pub list_row-parameters-requires : goal.list_row-parameters-requires
-list_row-parameters-requires c = (c.clause_of.ensures.at _ c.in-At.is, refl)
+list_row-parameters-requires c = (c.clause_of.ensures.at _ c.in-Some.is, refl)
 
 pub returns-then-count-less : goal.returns-then-count-less
 returns-then-count-less c = record {
   is = λ P l p o e g.
       let w = reads-stored o e g in
-      fewer (enters (goal.at.returns-then-count-less c).After-clause_of p w) c.in-At.is c.list_row-parameters.ensures (λ m. c.if-count-less.true (m ∙ counted (goal.at.returns-then-count-less c).After-less w));
+      fewer (enters (goal.at.returns-then-count-less c).After-clause_of p w) c.in-Some.is c.list_row-parameters.ensures (λ m. c.if-count-less.true (m ∙ counted (goal.at.returns-then-count-less c).After-less w));
 }
 
 pub repeats-requires : goal.repeats-requires
@@ -73,9 +73,9 @@ returns-else-count-less c = record {
       let xs = ids_in a.image.now c.list_row-parameters.result in
       let ys = ids_in a.store.now c.slot_row-held.result in
       let m = the_create (goal.at.returns-else-count-less c).After-clause_of w in
-      as_many (enters (goal.at.returns-else-count-less c).After-clause_of p w) c.in-At.is c.list_row-parameters.ensures (c.if-count-less.false ∙ sym (counted (goal.at.returns-else-count-less c).After-less w)) (xs ++ ys)
+      as_many (enters (goal.at.returns-else-count-less c).After-clause_of p w) c.in-Some.is c.list_row-parameters.ensures (c.if-count-less.false ∙ sym (counted (goal.at.returns-else-count-less c).After-less w)) (xs ++ ys)
       (λ new q. map-append _ new m.entries ∙ ap₂ {C = List VarId} (λ (a b : List VarId). a ++ b) q (sym (held-keys w m c.slot_row-held.ensures))) c.repeats.ensures;
 }
 
-pub returns-in-Nothing : goal.returns-in-Nothing
-returns-in-Nothing c = record { is = λ P l p o e g. missing (enters (goal.at.returns-in-Nothing c).After-clause_of p (reads-stored o e g)) c.in-Nothing.is }
+pub returns-in-None : goal.returns-in-None
+returns-in-None c = record { is = λ P l p o e g. missing (enters (goal.at.returns-in-None c).After-clause_of p (reads-stored o e g)) c.in-None.is }

@@ -39,13 +39,13 @@ returns-then-sort-ne3 c = record {
 }
 
 pub list_row-parameters-requires : goal.list_row-parameters-requires
-list_row-parameters-requires c = (c.clause_of.ensures.at _ c.in-At.is, refl)
+list_row-parameters-requires c = (c.clause_of.ensures.at _ c.in-Some.is, refl)
 
 pub returns-then-count-cell : goal.returns-then-count-cell
 returns-then-count-cell c = record {
   is = λ P l p o e g.
       let w = reads-stored o e g in
-      fewer (enters (goal.at.returns-then-count-cell c).After-clause_of p w) c.in-At.is c.list_row-parameters.ensures (λ n. c.if-count-cell.true (n ∙ fields-count (the_let (goal.at.returns-then-count-cell c).After-clause_of w)));
+      fewer (enters (goal.at.returns-then-count-cell c).After-clause_of p w) c.in-Some.is c.list_row-parameters.ensures (λ n. c.if-count-cell.true (n ∙ fields-count (the_let (goal.at.returns-then-count-cell c).After-clause_of w)));
 }
 
 pub entries_row-requires : goal.entries_row-requires
@@ -68,9 +68,9 @@ returns-else-count-cell c = record {
       let xs = ids_in a.store.now c.front-others.result in
       let ys = ids_in a.image.now c.list_row-parameters.result in
       let q = front-keys w c.entries_row.ensures c.front-others.ensures in
-      as_many (enters (goal.at.returns-else-count-cell c).After-clause_of p w) c.in-At.is c.list_row-parameters.ensures (c.if-count-cell.false ∙ sym (fields-count (the_let (goal.at.returns-else-count-cell c).After-clause_of w))) (xs ++ ys)
+      as_many (enters (goal.at.returns-else-count-cell c).After-clause_of p w) c.in-Some.is c.list_row-parameters.ensures (c.if-count-cell.false ∙ sym (fields-count (the_let (goal.at.returns-else-count-cell c).After-clause_of w))) (xs ++ ys)
       (λ new m. map-append _ (before_last 1 l.environment) new ∙ ap₂ {C = List VarId} (λ (a b : List VarId). a ++ b) (sym q) m) c.repeats.ensures;
 }
 
-pub returns-in-Nothing : goal.returns-in-Nothing
-returns-in-Nothing c = record { is = λ P l p o e g. missing (enters (goal.at.returns-in-Nothing c).After-clause_of p (reads-stored o e g)) c.in-Nothing.is }
+pub returns-in-None : goal.returns-in-None
+returns-in-None c = record { is = λ P l p o e g. missing (enters (goal.at.returns-in-None c).After-clause_of p (reads-stored o e g)) c.in-None.is }

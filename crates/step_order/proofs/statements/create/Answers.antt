@@ -7,25 +7,25 @@ use Rattle.step_rows.proofs.RecordRowLaws.{Entered, environment_none, environmen
 use Rattle.step_order.proofs.OrderlyLaws.{create_none, create_is}
 use borrow.Author.Rules.{rules}
 use Rattle.step_order.proofs.statements.create.Goals as goal
-use Rattle.step_order.proofs.statements.create.Goals.{In-Listed}
+use Rattle.step_order.proofs.statements.create.Goals.{In-Some}
 
 -- the environment that was found
-entered : (c : In-Listed) →
+entered : (c : In-Some) →
     let a = c.args in
-    Entered a.image.now c.in-Listed.listed (environment_of (record_at a.frame a.image.now a.i))
-entered c = environment_some c.environment_row.ensures c.in-Listed.is
+    Entered a.image.now c.in-Some.listed (environment_of (record_at a.frame a.image.now a.i))
+entered c = environment_some c.environment_row.ensures c.in-Some.is
 
 pub replaces-requires : goal.replaces-requires
-replaces-requires c = ((entered (goal.at.replaces-requires c).In-Listed).holds.inside, c.requires.1)
+replaces-requires c = ((entered (goal.at.replaces-requires c).In-Some).holds.inside, c.requires.1)
 
-pub returns-in-Absent : goal.returns-in-Absent
-returns-in-Absent c =
+pub returns-in-None : goal.returns-in-None
+returns-in-None c =
     let a = c.args in
-    sym (create_none (record_at a.frame a.image.now a.i) (ids_in a.store.now a.row) c.requires.0.kind (environment_none c.environment_row.ensures c.in-Absent.is))
+    sym (create_none (record_at a.frame a.image.now a.i) (ids_in a.store.now a.row) c.requires.0.kind (environment_none c.environment_row.ensures c.in-None.is))
 
-pub returns-in-Listed : goal.returns-in-Listed
-returns-in-Listed c =
+pub returns-in-Some : goal.returns-in-Some
+returns-in-Some c =
     let a = c.args in
-    let n = entered (goal.at.returns-in-Listed c).In-Listed in
+    let n = entered (goal.at.returns-in-Some c).In-Some in
     c.replaces.ensures
     ∙ sym (create_is (record_at a.frame a.image.now a.i) (ids_in a.store.now a.row) n.context c.requires.0.kind n.is n.holds.ids c.first-var.ensures)

@@ -1,5 +1,6 @@
 -- `fill_ends` meets its contract: the places from i on are filled. Assumes nothing.
 use Prim.Native.Nat.{◌≤◌}
+use mathlib.Core.Path.{refl}
 use borrow.Author.Rules.{rules}
 use native.Mathlib.Omega.{arith}
 use Rattle.image_directory.specs.Slots.{records_in}
@@ -24,8 +25,8 @@ parts_of-follows-requires c = (c.requires.0, omega (arith, (few (goal.at.parts_o
 pub overflow_add-i : goal.overflow_add-i
 overflow_add-i c = omega (arith, (few (goal.at.overflow_add-i c).At-loop-i).1)
 
-pub narrow-requires : goal.narrow-requires
-narrow-requires c = c.hop-end.ensures.small (c.hop-bodies.ensures.small (omega (arith, (few (goal.at.narrow-requires c).At-loop-i).1)))
+pub overflow_cast-ends : goal.overflow_cast-ends
+overflow_cast-ends c = record { fits = c.hop-end.ensures.small (c.hop-bodies.ensures.small (omega (arith, (few (goal.at.overflow_cast-ends c).At-loop-i).1))) }
 
 pub offset_bounds-ends-i : goal.offset_bounds-ends-i
 offset_bounds-ends-i c = omega (arith, (few (goal.at.offset_bounds-ends-i c).At-loop-i).1)
@@ -37,7 +38,7 @@ bounds-ends-i c =
 pub loop-i-preserved : goal.loop-i-preserved
 loop-i-preserved c =
     let p = c.parts_of-follows.ensures in
-    filled_more c.loop-i.i _ _ _ _ _ c.loop-i-test.true p.clauses p.bodies c.hop-bodies.ensures c.hop-end.ensures c.narrow.ensures c.loop-i.invariant
+    filled_more c.loop-i.i _ _ _ _ _ c.loop-i-test.true p.clauses p.bodies c.hop-bodies.ensures c.hop-end.ensures refl c.loop-i.invariant
 
 pub shape_of-ends : goal.shape_of-ends
 shape_of-ends c = c.loop-i.invariant.same

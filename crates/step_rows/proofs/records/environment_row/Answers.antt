@@ -22,9 +22,9 @@ returns-then-image-at-eq0 c = absent-row c.args.frame.id (there (goal.at.returns
 pub overflow_add-at : goal.overflow_add-at
 overflow_add-at c = omega (arith, environment-inside c.args.frame.id (there (goal.at.overflow_add-at c).After-tail_at-at))
 
-pub counted_row-row-requires : goal.counted_row-row-requires
-counted_row-row-requires c = listed-room c.args.frame.id (there (goal.at.counted_row-row-requires c).After-tail_at-at) c.if-image-at-eq0.false
+pub counted_row-requires : goal.counted_row-requires
+counted_row-requires c = listed-room c.args.frame.id (there (goal.at.counted_row-requires c).After-tail_at-at) c.if-image-at-eq0.false
 
 pub returns : goal.returns
 returns c =
-    listed-row c.args.frame.id (there (goal.at.returns c).After-tail_at-at) c.if-image-at-eq0.false c.requires.ready.id.1 c.counted_row-row.ensures
+    listed-row c.args.frame.id (there (goal.at.returns c).After-tail_at-at) c.if-image-at-eq0.false c.requires.ready.id.1 c.counted_row.ensures

@@ -7,11 +7,6 @@ use lib.ListN.{length, take, drop, length-append}
 use Rattle.image_write_parts.proofs.Putting.{puts_then}
 use Rattle.step_slots.specs.Slots.{slot_bytes}
 use Rattle.step_write.proofs.Regions.{taken-length, taken-put}
-use borrow.Author.Rules.{rules}
-use Rattle.step_statement_create.proofs.create.pack.Reads as reads
-use Rattle.step_statement_create.proofs.create.pack.Lts as lts
-use Rattle.image_write_bytes.proofs.bytes.copy.Reads as copy-reads
-use Rattle.step_slots.proofs.put_slot.Reads as put-slot-reads
 use Rattle.step_statement_create.proofs.create.pack.Goals as goal
 
 pub returns : goal.returns

@@ -1,14 +1,12 @@
--- `payload_of` meets its contract. Assumes nothing.
 use mathlib.Core.Path.{◌∙◌}
 use Rattle.step_header.specs.Headers.{heap_in}
 use Rattle.step_statement_exit.proofs.ExitLaws.{shows-cell, shows-itself}
-use borrow.Author.Rules.{rules}
 use Rattle.step_statement_exit.proofs.exit.payload_of.Goals as goal
 
-pub returns-then-sort-eq1 : goal.returns-then-sort-eq1
-returns-then-sort-eq1 c =
+pub returns-then-value-eq1 : goal.returns-then-value-eq1
+returns-then-value-eq1 c =
     let a = c.args in
-    c.number_of.ensures ∙ shows-cell (heap_in a.store.now a.header) a.value c.if-sort-eq1.true
+    c.number_of.ensures ∙ shows-cell (heap_in a.store.now a.header) a.value c.if-value-eq1.true
 
 pub returns : goal.returns
-returns c = let a = c.args in shows-itself (heap_in a.store.now a.header) a.value c.if-sort-eq1.false
+returns c = let a = c.args in shows-itself (heap_in a.store.now a.header) a.value c.if-value-eq1.false

@@ -1,38 +1,20 @@
 -- `entrance_of` meets its contract. Assumes nothing.
-use Prim.Native.Nat.{◌≤◌}
-use mathlib.Core.Path.{◌≡◌, subst}
-use native.Mathlib.Omega.{arith}
-use Rattle.step_enter.specs.declared.Parameters.{Parameters}
-use Rattle.step_enter.specs.Entering.{ClauseOf}
 use Rattle.step_statement_invoke.specs.Invoking.{no-closure, no_record, no-clause, other-count, a-clause}
-use borrow.Author.Rules.{rules}
 use Rattle.step_statement_invoke.proofs.invoke.entrance_of.Goals as goal
-use Rattle.step_statement_invoke.proofs.invoke.entrance_of.Goals.{After-clause_of}
+use Rattle.step_statement_invoke.proofs.invoke.entrance_of.Goals.{then-cell-ne4-via-then-cell-ne4, then-cell-ne4-via-else-cell-ne4+then-frame-cell}
 
--- what the search says
-searched : (c : After-clause_of) {r : Parameters} → c.clause_of.result ≡ r → let a = c.args in ClauseOf a.frame a.image.now a.cell.id a.tag r
-searched c e = let a = c.args in subst (ClauseOf a.frame a.image.now a.cell.id a.tag) e c.clause_of.ensures
+pub returns-then-cell-ne4 : goal.returns-then-cell-ne4
+returns-then-cell-ne4 c =
+    elim c.then-cell-ne4.branch [
+      then-cell-ne4-via-then-cell-ne4 w ↦ no-closure w.if-cell-ne4.true
+    | then-cell-ne4-via-else-cell-ne4+then-frame-cell w ↦ no_record w.if-cell-ne4.false w.if-frame-cell.true
+    ]
 
-pub returns-then-sort-ne4 : goal.returns-then-sort-ne4
-returns-then-sort-ne4 c = no-closure c.if-sort-ne4.true
+pub returns-in_err-clause : goal.returns-in_err-clause
+returns-in_err-clause c = rw c.from_residual.ensures (no-clause c.if-cell-ne4.false c.in_err-clause.ensures)
 
-pub returns-then-count-made : goal.returns-then-count-made
-returns-then-count-made c =
-    let a = c.args in
-    let k : a.frame.count ≤ a.cell.id = omega (arith, c.if-count-made.true, c.long-made.ensures) in
-    no_record c.if-sort-ne4.false k
+pub returns-then-clause-k : goal.returns-then-clause-k
+returns-then-clause-k c = other-count c.if-cell-ne4.false c.in_ok-clause.ensures c.if-clause-k.true
 
-pub clause_of-requires : goal.clause_of-requires
-clause_of-requires c =
-    (c.requires.0, (omega (arith, c.if-count-made.false, c.long-made.ensures), c.requires.1))
-
-pub returns-then-len-k : goal.returns-then-len-k
-returns-then-len-k c =
-    other-count c.if-sort-ne4.false (searched (goal.at.returns-then-len-k c).After-clause_of c.in-Listed.is) c.if-len-k.true
-
-pub returns-in-Absent : goal.returns-in-Absent
-returns-in-Absent c = no-clause c.if-sort-ne4.false (searched (goal.at.returns-in-Absent c).After-clause_of c.in-Absent.is)
-
-pub returns-else-len-k : goal.returns-else-len-k
-returns-else-len-k c =
-    a-clause c.if-sort-ne4.false (searched (goal.at.returns-else-len-k c).After-clause_of c.in-Listed.is) c.if-len-k.false
+pub returns : goal.returns
+returns c = a-clause c.if-cell-ne4.false c.in_ok-clause.ensures c.if-clause-k.false

@@ -1,7 +1,6 @@
 -- `linear` meets its contract. Assumes nothing.
 use native.Mathlib.Omega.{arith}
 use Rattle.step_statement_substitute.proofs.SubstituteLaws.{same_count, linear-halts, linear-makes}
-use borrow.Author.Rules.{rules}
 use Rattle.step_statement_substitute.proofs.substitute.linear.Goals as goal
 
 pub pack-requires : goal.pack-requires
@@ -9,14 +8,14 @@ pack-requires c =
     let q = c.read_parts-parts.ensures in
     (q.targets'.inside, (q.sources'.inside, (same_count q, (c.requires.holds, omega (arith, q.few, c.requires.scratch')))))
 
-pub returns-then-pack : goal.returns-then-pack
-returns-then-pack c = record {
+pub returns-then-not-pack : goal.returns-then-not-pack
+returns-then-not-pack c = record {
   makes = λ P l p o.
-      linear-makes p o c.requires.record' c.read_parts-parts.ensures c.pack.ensures c.if-pack.true c.replace.ensures;
+      linear-halts p o c.requires.record' c.read_parts-parts.ensures c.pack.ensures c.if-not-pack.true;
 }
 
 pub returns : goal.returns
 returns c = record {
   makes = λ P l p o.
-      linear-halts p o c.requires.record' c.read_parts-parts.ensures c.pack.ensures c.if-pack.false;
+      linear-makes p o c.requires.record' c.read_parts-parts.ensures c.pack.ensures c.if-not-pack.false c.replace.ensures;
 }

@@ -1,20 +1,14 @@
 -- `linear` meets its contract. Assumes nothing.
+use mathlib.Core.Path.{refl}
 use native.Mathlib.Omega.{arith}
 use Rattle.step_statement_switch.proofs.LinearLaws.{empty-makes, linear-makes}
-use borrow.Author.Rules.{rules}
 use Rattle.step_statement_switch.proofs.switch.linear.Goals as goal
 
 pub returns-then-entries-eq0 : goal.returns-then-entries-eq0
-returns-then-entries-eq0 c = record {
-  makes = λ P l p o.
-      empty-makes o p c.requires.0.record' c.place-entries.ensures c.if-entries-eq0.true;
-}
-
-pub switch-requires : goal.switch-requires
-switch-requires c = (c.requires.0, (c.requires.1, omega (arith, c.place-entries.ensures)))
+returns-then-entries-eq0 c = record { makes = λ P l p o. empty-makes o p c.requires.0.record' refl c.if-entries-eq0.true }
 
 pub returns : goal.returns
 returns c = record {
   makes = λ P l p o.
-      linear-makes o p c.requires.0.record' c.place-heap.ensures c.place-entries.ensures (omega (arith, c.if-entries-eq0.false)) c.read-value.ensures c.switch.ensures;
+      linear-makes o p c.requires.0.record' refl refl (omega (arith, c.if-entries-eq0.false)) c.read-value.ensures c.switch.ensures;
 }

@@ -1,2 +1,0 @@
--- A mark and an identifier as an optional identifier.
-pub mod Marks
