@@ -10,9 +10,9 @@ use Rattle.step_turn.proofs.advance.Goals.{then-header-via-then-header, then-hea
 
 pub returns-then-header : goal.returns-then-header
 returns-then-header c = elim c.then-header.branch [
-    then-header-via-then-header w ↦ ended-rests w.if-header.true
+  | then-header-via-then-header w ↦ ended-rests w.if-header.true
   | then-header-via-else-header+then-header-2 w ↦ stopped-rests w.if-header-2.true
-  ]
+]
 
 pub parts_of-follows-requires : goal.parts_of-follows-requires
 parts_of-follows-requires c =
