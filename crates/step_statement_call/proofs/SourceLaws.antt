@@ -1,6 +1,6 @@
 -- Call: the source machine's. Assumes nothing.
 use Prim.Native.Nat.{ℕ, ◌+◌, ◌*◌, ◌≤◌}
-use mathlib.Core.Path.{◌≡◌, sym, ap, ◌∙◌, subst}
+use mathlib.Core.Path.{◌≡◌, sym, ap, ◌∙◌}
 use mathlib.Core.Bool.{Bool, true, false}
 use mathlib.Core.List.{List, map}
 use mathlib.Core.Option.{Option}
@@ -73,4 +73,3 @@ module _ {P : Prog} {store : List ℕ} {h : Header} {l : Located} (o : Stored so
           calls = record { count = n-is; enter = enter; works = looked v.looked; shown = λ d new s. s };
           laid = record { slots = λ ys. ap (renamed ys) stand };
         }
-

@@ -1,5 +1,4 @@
 -- `tag_of` meets its contract. Assumes nothing.
-use borrow.Author.Rules.{rules}
 use Rattle.image_read_nodes.proofs.NodeLaws.{identifier-room}
 use Rattle.step_tags.proofs.TagLaws.{tag-there}
 use Rattle.step_tags.proofs.tag_of.Goals as goal

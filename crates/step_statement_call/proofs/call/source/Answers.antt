@@ -1,18 +1,16 @@
 -- `source` meets its contract. Assumes nothing.
 use Rattle.std.specs.Prelude.{Some, None, Err}
-use Prim.Native.Nat.{ℕ, ◌+◌, ◌*◌, ◌≤◌}
+use Prim.Native.Nat.{ℕ, ◌≤◌}
 use mathlib.Core.Path.{◌≡◌, refl, sym, ap, ◌∙◌, subst}
 use mathlib.Core.Bool.{true}
 use native.Mathlib.Omega.{arith}
 use borrow.Author.Rules.{rules}
-use lib.ListN.{length}
 use Rattle.syntax.specs.Context.{ids}
 use Rattle.model.specs.Syntax.{Prog}
 use Rattle.image_spec.specs.Records.{Record}
 use Rattle.image_read_parts.specs.Parts.{list_of}
 use Rattle.step_slots.specs.Views.{slots_at, all_slots}
 use Rattle.step_spec.specs.Located.{source_machine, Located}
-use Rattle.step_rows.specs.Rows.{ids_in}
 use Rattle.step_rows.proofs.RowLaws.{ids-length}
 use Rattle.step_gather.proofs.GatheredSlots.{slots-ok, gathered-slots}
 use Rattle.step_write.specs.declared.Stop.TheVariants.{NoStep}
@@ -28,24 +26,15 @@ use Rattle.step_statement_call.proofs.call.source.Goals.{After-list_row-args, El
 few : (c : After-list_row-args) → c.list_row-args.result.len ≤ 128
 few c = list-short c.requires.0.record' refl c.list_row-args.ensures
 
--- the row is that of the statement's args
-args_are : (c : After-list_row-args)
-    → (P : Prog) (l : Located) (p : ProgramOf P c.args.stepper c.args.image.now) (o : Stored source_machine P c.args.store.now c.args.header l)
-    → ids_in c.args.image.now c.list_row-args.result ≡ ids (the_call p o c.requires.0.record').args
-args_are c P l p o = c.list_row-args.ensures.ids ∙ ap (λ (r : Record). ids (list_of r)) (the_call p o c.requires.0.record').holds
-
--- there is room for their values
-room : (c : After-list_row-args) → 16 * c.list_row-args.result.len ≤ length c.args.scratch.now
-room c = omega (arith, few c, c.requires.0.scratch')
-
--- the machine's step, where all are there
+-- the machine's step, where all args are there
 all : (c : Else-not-gather)
     → (P : Prog) (l : Located) (p : ProgramOf P c.args.stepper c.args.image.now) (o : Stored source_machine P c.args.store.now c.args.header l)
     → AllFound P l (the_call p o c.requires.0.record').label.name (slots_at c.gather.new.out 0 c.list_row-args.result.len) c.list_row-args.result.len
 all c P l p o =
     let t = the_call p o c.requires.0.record' in
-    let w : After-list_row-args = c.After-list_row-args in
-    all_found o t.label t.args t.is (args_are w P l p o) c.gather.ensures (ids-length c.args.image.now c.list_row-args.result) c.if-not-gather.false (room w)
+    let n : c.list_row-args.result.len ≤ 128 = list-short c.requires.0.record' refl c.list_row-args.ensures in
+    let are = c.list_row-args.ensures.ids ∙ ap (λ (r : Record). ids (list_of r)) t.holds in
+    all_found o t.label t.args t.is are c.gather.ensures (ids-length c.args.image.now c.list_row-args.result) c.if-not-gather.false (omega (arith, n, c.requires.0.scratch'))
 
 -- the definition is found
 found : (c : In_ok-called) → c.definition_of.result ≡ Some c.in_ok-called.called
@@ -54,13 +43,13 @@ found c = search rules
 pub gather-requires : goal.gather-requires
 gather-requires c =
     let g = c.requires.0 in
-    (c.list_row-args.ensures.inside, (g.holds.inside, (g.holds.entries, omega (arith, few (goal.at.gather-requires c).After-list_row-args, g.scratch'))))
+    (c.list_row-args.ensures.inside, (omega (arith, g.holds.inside), (g.holds.entries, omega (arith, few (goal.at.gather-requires c).After-list_row-args, g.scratch'))))
 
 pub returns-then-not-gather : goal.returns-then-not-gather
 returns-then-not-gather c = record {
   makes = λ P l p o.
       let t = the_call p o c.requires.0.record' in
-      missing-makes o t.label t.args t.is (args_are (goal.at.returns-then-not-gather c).After-list_row-args P l p o) c.gather.ensures c.if-not-gather.true;
+      missing-makes o t.label t.args t.is (c.list_row-args.ensures.ids ∙ ap (λ (r : Record). ids (list_of r)) t.holds) c.gather.ensures c.if-not-gather.true;
 }
 
 pub returns-in_err-called : goal.returns-in_err-called
@@ -82,12 +71,11 @@ returns-then-row-args c = record {
 pub jump-requires : goal.jump-requires
 jump-requires c =
     let g = c.requires.0 in
-    let w = (goal.at.jump-requires c).After-list_row-args in
     let f = fitting (found (goal.at.jump-requires c).In_ok-called) c.definition_of.ensures.reads in
     let k = ids-length c.args.image.now c.list_row-args.result in
     let stand : all_slots (slots_at c.gather.new.out 0 c.in_ok-called.called.row.len) ≡ true =
     ap (λ (i : ℕ). all_slots (slots_at c.gather.new.out 0 i)) (c.if-row-args.false ∙ sym k)
-    ∙ gathered-slots c.gather.ensures (slots-ok _ _ _ g.holds.entries) c.if-not-gather.false (omega (arith, k, room w)) in
+    ∙ gathered-slots c.gather.ensures (slots-ok _ _ _ g.holds.entries) c.if-not-gather.false (omega (arith, k, few (goal.at.jump-requires c).After-list_row-args, g.scratch')) in
     (f.inside, (g.holds, (g.place, (omega (arith, f.short, c.gather.auto.out, g.scratch'), stand))))
 
 pub returns : goal.returns

@@ -1,6 +1,6 @@
 -- `linear_enter` meets its contract. Assumes nothing.
 use Rattle.std.specs.Prelude.{Some, None, Err}
-use Prim.Native.Nat.{ℕ, ◌+◌, ◌*◌}
+use Prim.Native.Nat.{◌+◌, ◌*◌}
 use mathlib.Core.Path.{◌≡◌, refl, ap, ◌∙◌}
 use mathlib.Core.Bool.{true}
 use native.Mathlib.Omega.{arith}

@@ -1,5 +1,5 @@
 -- `switch` meets its contract. Assumes nothing.
-use Rattle.std.specs.Prelude.{Option as Maybe, Some, None, Err}
+use Rattle.std.specs.Prelude.{Some, None, Err}
 use Prim.Native.Nat.{ℕ}
 use mathlib.Core.Path.{◌≡◌, ap, ◌∙◌, subst}
 use mathlib.Core.Bool.{true}
@@ -9,7 +9,6 @@ use Rattle.step_slots.specs.Views.{slots_at, all_slots}
 use Rattle.step_cells.specs.declared.Cell.{Cell}
 use Rattle.step_cells.proofs.HeapLaws.{Held, cell_holds}
 use Rattle.step_write.specs.declared.Stop.TheVariants.{NoStep}
-use Rattle.step_enter.specs.declared.Parameters.{Parameters}
 use Rattle.step_statement_switch.specs.Switching.{ClauseFor, SwitchesOn, not_switched}
 use Rattle.step_statement_switch.proofs.SwitchLaws.{Enterable, enterable, switched_as}
 use Rattle.step_statement_switch.proofs.switch.switch.Goals as goal
