@@ -4,6 +4,7 @@ use crate::layout::{NAME, Part, layout};
 use crate::record::{Binding, Identifier, Ty};
 use crate::text::{Text, external};
 use std::alloc::{AllocError, AllocFailed, Global};
+use std::io::{self, ErrorKind};
 
 // Why a line is no image.
 #[derive(Clone, Copy, Debug, PartialEq, Eq)]
@@ -22,6 +23,18 @@ impl From<AllocError> for BuildError {
 impl<T: Drop> From<AllocFailed<T>> for BuildError {
     fn from(_: AllocFailed<T>) -> BuildError {
         BuildError::NoMemory
+    }
+}
+
+impl From<BuildError> for io::Error {
+    fn from(error: BuildError) -> io::Error {
+        match error {
+            BuildError::Notation => {
+                io::Error::new(ErrorKind::InvalidData, "a line is not in the notation")
+            }
+            BuildError::TooLarge => io::Error::new(ErrorKind::InvalidData, "a number is too large"),
+            BuildError::NoMemory => io::Error::from(ErrorKind::OutOfMemory),
+        }
     }
 }
 
