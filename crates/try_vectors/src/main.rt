@@ -30,7 +30,7 @@ fn image(
     }
     let image = input.take(n).ok_or(Trouble::Broken)?;
     let kept = Vec::from_slice(alloc, image)?;
-    let mut left = Left::new();
+    let mut left = Left::new(alloc)?;
     for _ in 0..input.byte().ok_or(Trouble::Broken)? {
         let call = Call::read(input).ok_or(Trouble::Broken)?;
         let seen = match call.function {

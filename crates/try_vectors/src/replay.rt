@@ -22,10 +22,7 @@ pub struct Outcome {
 
 impl Outcome {
     pub fn agrees(self, call: Call<'_>) -> bool {
-        self.answer == call.expected
-            && self.buffer.is_none()
-            && self.events.is_none()
-            && self.image
+        self.answer == call.expected && self.buffer.is_none() && self.events.is_none() && self.image
     }
 }
 

@@ -1,29 +1,26 @@
 // Making a call of a stepper again, and what it leaves.
 use crate::call::{Answer, Call, Function};
-use crate::replay::{GUARD, Outcome, differs};
+use crate::replay::{GUARD, LARGEST, Outcome, differs};
 use crate::trouble::Trouble;
-use std::alloc::Global;
+use std::alloc::{AllocError, Global};
 use try_building::reader::Reader;
 
-// No store has more than 65,536 bytes, and the array that it is the beginning of goes on for 64.
-const GUARDED: usize = 65600;
-
 // What the calls of steppers on an image are expected to leave in the array that their stores are the beginning of.
-#[derive(Clone, Copy)]
+#[derive(Drop)]
 pub struct Left {
-    array: [u8; GUARDED],
+    array: Vec<u8>,
 }
 
 // What a call of a stepper has beside the expected events: the length of the event buffer, and the values of a start.
 #[derive(Clone, Copy)]
 struct Lent<'a> {
-    events: usize,
+    events: u16,
     values: &'a [u8],
 }
 
 impl<'a> Lent<'a> {
     fn read(more: &mut Reader<'a>) -> Option<Lent<'a>> {
-        let events = usize::from(more.half()?);
+        let events = more.half()?;
         let n = usize::from(more.half()?);
         Some(Lent {
             events,
@@ -33,23 +30,13 @@ impl<'a> Lent<'a> {
 }
 
 // A start reports no events and no steps. Before a step made and length hold numbers that no answer has.
-fn ask(
-    call: Call<'_>,
-    image: &[u8],
-    values: &[u8],
-    store: &mut [u8],
-    events: &mut [u8],
-) -> Answer {
+fn ask(call: Call<'_>, image: &[u8], values: &[u8], store: &mut [u8], events: &mut [u8]) -> Answer {
     let index = call.index;
     let mut made: u64 = if call.function.starts() { 0 } else { 99999 };
     let mut length: usize = if call.function.starts() { 0 } else { 99999 };
     let number = match call.function {
-        Function::SourceStart => {
-            axcut::axcut_source_start(image, index as usize, values, store)
-        }
-        Function::LinearStart => {
-            axcut::axcut_linear_start(image, index as usize, values, store)
-        }
+        Function::SourceStart => { axcut::axcut_source_start(image, index as usize, values, store) }
+        Function::LinearStart => { axcut::axcut_linear_start(image, index as usize, values, store) }
         Function::SourceStep => {
             axcut::axcut_source_step(image, index, store, events, &mut made, &mut length)
         }
@@ -63,10 +50,10 @@ fn ask(
 }
 
 impl Left {
-    pub fn new() -> Left {
-        Left {
-            array: [0; GUARDED],
-        }
+    pub fn new(alloc: Global) -> Result<Left, AllocError> {
+        Ok(Left {
+            array: vec![in alloc; 0; LARGEST + GUARD]?,
+        })
     }
 
     // Changes the array: a count, and for each byte its distance from the place of the one before (the first from 0) and the byte.
@@ -91,14 +78,21 @@ impl Left {
         let mut more = call.more;
         let lent = Lent::read(&mut more).ok_or(Trouble::Broken)?;
         if call.function.starts() {
-            self.array = [call.old; GUARDED];
+            self.array.fill(call.old);
         }
         self.change(&mut more).ok_or(Trouble::Broken)?;
-        let mut array = self.array;
+        let mut array = Vec::from_slice(alloc, &self.array)?;
         self.change(&mut more).ok_or(Trouble::Broken)?;
-        let mut events = vec![in alloc; call.old; lent.events + GUARD]?;
-        let store = array.get_mut(..call.room).ok_or(Trouble::Broken)?;
-        let shown = events.as_mut_slice().get_mut(..lent.events).ok_or(Trouble::Broken)?;
+        let room = usize::from(lent.events);
+        let mut events = vec![in alloc; call.old; room + GUARD]?;
+        let store = array
+            .as_mut_slice()
+            .get_mut(..call.room)
+            .ok_or(Trouble::Broken)?;
+        let shown = events
+            .as_mut_slice()
+            .get_mut(..room)
+            .ok_or(Trouble::Broken)?;
         let answer = ask(call, image, lent.values, store, shown);
         let buffer = if array == self.array {
             None

@@ -27,7 +27,11 @@ fn mismatch(
     seen: Outcome,
 ) -> io::Result<()> {
     let function = call.function;
-    write!(out, "image {image} call {own}: {function} answers {}", seen.answer)?;
+    write!(
+        out,
+        "image {image} call {own}: {function} answers {}",
+        seen.answer
+    )?;
     write!(out, ", expected {}", call.expected)?;
     if let Some(place) = seen.buffer {
         write!(out, ", other bytes in the buffer from {place}")?;
@@ -61,9 +65,7 @@ impl Tally {
     // Where calls like this are counted.
     fn count(&mut self, call: Call<'_>) -> Option<&mut u32> {
         let number = call.expected.number as usize;
-        self.agree
-            .get_mut(call.function as usize)?
-            .get_mut(number)
+        self.agree.get_mut(call.function as usize)?.get_mut(number)
     }
 
     // With what the call at hand answered.
@@ -89,9 +91,7 @@ impl Tally {
         writeln!(
             out,
             "{} images, {} calls, {} mismatches",
-            self.images,
-            self.calls,
-            self.mismatches
+            self.images, self.calls, self.mismatches
         )
     }
 }
