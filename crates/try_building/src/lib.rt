@@ -21,12 +21,8 @@
 pub mod build;
 pub mod image;
 pub mod layout;
-pub mod letters;
-pub mod listing;
-pub mod lists;
-pub mod pieces;
-pub mod progress;
-pub mod saying;
-pub mod show;
+pub mod notation;
+pub mod reader;
+pub mod record;
 pub mod sum;
 pub mod text;
