@@ -1,0 +1,89 @@
+// What a command line asks for.
+use crate::values::Value;
+
+// Where bytes come from: a file, by its name, or standard input.
+#[derive(Clone, Copy, Debug)]
+pub enum Input<'a> {
+    Standard,
+    File(&'a [u8]),
+}
+
+impl<'a> Input<'a> {
+    // The file of this name; - is standard input.
+    pub fn of(name: &'a [u8]) -> Input<'a> {
+        match name {
+            b"-" => Input::Standard,
+            _ => Input::File(name),
+        }
+    }
+}
+
+// Where bytes go to: a file, by its name, or standard output, asked for or not.
+#[derive(Clone, Copy, Debug)]
+pub enum Target<'a> {
+    Standard { asked: bool },
+    File(&'a [u8]),
+}
+
+impl<'a> Target<'a> {
+    // The file of this name; - is standard output.
+    pub fn of(name: Option<&'a [u8]>) -> Target<'a> {
+        match name {
+            None => Target::Standard { asked: false },
+            Some(b"-") => Target::Standard { asked: true },
+            Some(name) => Target::File(name),
+        }
+    }
+}
+
+// What dump prints beside the statements.
+#[derive(Clone, Copy, Debug, Default, PartialEq, Eq)]
+pub struct View {
+    pub types: bool,
+    pub records: bool,
+    pub annotations: bool,
+}
+
+// What is asked of an image.
+#[derive(Debug, Drop)]
+pub enum Task<'a> {
+    Read,
+    Check,
+    Linearize {
+        target: Target<'a>,
+    },
+    Annotate {
+        record: usize,
+        raw: bool,
+        target: Target<'a>,
+    },
+    Dump {
+        view: View,
+        names: Option<Input<'a>>,
+        target: Target<'a>,
+    },
+    Start {
+        linear: bool,
+        definition: usize,
+        values: Vec<Value>,
+        store: &'a [u8],
+    },
+    Run {
+        linear: bool,
+        steps: usize,
+        names: Option<Input<'a>>,
+        store: &'a [u8],
+    },
+    Show {
+        linear: bool,
+        names: Option<Input<'a>>,
+        store: &'a [u8],
+    },
+}
+
+#[derive(Debug, Drop)]
+pub enum Request<'a> {
+    Help,
+    Version,
+    Of(Input<'a>, Task<'a>),
+}
