@@ -17,12 +17,9 @@
 #![tactic(auto)]
 
 pub mod annotation;
-pub mod blocks;
 pub mod book;
-pub mod fields;
 pub mod line;
-pub mod lists;
 pub mod names;
+pub mod output;
 pub mod page;
-pub mod parts;
 pub mod walk;

@@ -1,48 +1,62 @@
-// Identifiers, types and bindings.
-use crate::book::name;
-use crate::page::{Page, Room, choose, decimal, put, say};
-use try_building::build::plus;
-use try_building::text::{byte, half, wide};
+// Identifiers, types, bindings and lists of them.
+use crate::page::Page;
+use std::io::{self, Write};
+use try_building::record::{Binding, Bindings, Chirality, Identifier, Substitutions, Ty};
 
-// A variable: its name and its ID.
-pub fn variable(page: Page, room: &mut Room, book: &[u8], image: &[u8], at: usize) -> Page {
-    let named = name(page, room, book, half(image, at));
-    let id = half(image, plus(at, 2));
-    decimal(put(named, room, b'_'), room, id as u64)
-}
-
-// A label, a tag or the name of a type: its name, and its ID where that is not 0.
-pub fn label(page: Page, room: &mut Room, book: &[u8], image: &[u8], at: usize) -> Page {
-    if half(image, plus(at, 2)) == 0 {
-        return name(page, room, book, half(image, at));
+impl Page<'_> {
+    // A variable: its name and its ID.
+    pub fn variable(&mut self, variable: Identifier) -> io::Result<()> {
+        self.name(variable.name)?;
+        write!(self, "_{}", variable.id)
     }
-    variable(page, room, book, image, at)
-}
 
-pub fn ty(page: Page, room: &mut Room, book: &[u8], image: &[u8], at: usize) -> Page {
-    if byte(image, at) == 0 {
-        return say(page, room, b"i64");
+    // A label, a tag or the name of a type: its name, and its ID where that is not 0.
+    pub fn label(&mut self, label: Identifier) -> io::Result<()> {
+        if label.id == 0 {
+            self.name(label.name)
+        } else {
+            self.variable(label)
+        }
     }
-    label(page, room, book, image, plus(at, 1))
-}
 
-fn chirality(page: Page, room: &mut Room, code: u8) -> Page {
-    choose(page, room, b": prd \n: cns \n: ext ", wide(code))
-}
-
-// A binding: the variable alone, or with its chirality and its type.
-pub fn binding(
-    page: Page,
-    room: &mut Room,
-    book: &[u8],
-    image: &[u8],
-    at: usize,
-    whole: bool,
-) -> Page {
-    let named = variable(page, room, book, image, at);
-    if !whole {
-        return named;
+    pub fn ty(&mut self, ty: Ty) -> io::Result<()> {
+        match ty {
+            Ty::I64 => self.say("i64"),
+            Ty::Declared(name) => self.label(name),
+        }
     }
-    let told = chirality(named, room, byte(image, plus(at, 4)));
-    ty(told, room, book, image, plus(at, 5))
+
+    // A binding: the variable alone, or with its chirality and its type.
+    pub fn binding(&mut self, binding: Binding, whole: bool) -> io::Result<()> {
+        self.variable(binding.variable)?;
+        if !whole {
+            return Ok(());
+        }
+        self.say(match binding.chirality {
+            Chirality::Producer => ": prd ",
+            Chirality::Consumer => ": cns ",
+            Chirality::External => ": ext ",
+        })?;
+        self.ty(binding.ty)
+    }
+
+    pub fn list(&mut self, list: Bindings<'_>, whole: bool) -> io::Result<()> {
+        self.say("(")?;
+        for (j, binding) in list.enumerate() {
+            self.comma(j)?;
+            self.binding(binding, whole)?;
+        }
+        self.say(")")
+    }
+
+    // The pairs of a Substitute.
+    pub fn pairs(&mut self, pairs: Substitutions<'_>, whole: bool) -> io::Result<()> {
+        for (j, pair) in pairs.enumerate() {
+            self.comma(j)?;
+            self.binding(pair.target, whole)?;
+            self.say(" := ")?;
+            self.variable(pair.source)?;
+        }
+        Ok(())
+    }
 }

@@ -1,90 +1,91 @@
-// An image from a line of text.
-use crate::build::{body, header, low, plus, store};
-use crate::layout::ends;
-use crate::letters::record;
-use crate::lists::raw;
-use crate::progress::Progress;
-use crate::text::byte;
+// The parts of an image: a header, a pair for each record, and the records.
+use crate::reader::Reader;
+use crate::record::Record;
 
-// The most steps of a line.
-const STEPS: usize = 20000;
+// The bytes of the header, and of a pair.
+pub const HEADER: usize = 8;
 
-// [ begins a group.
-fn opened(w: Progress) -> Progress {
-    let mut next = w.past(1);
-    next.group = next.from;
-    next.turn = 0;
-    next
+pub const PAIR: usize = 4;
+
+// The header of an image, with layout number 1.
+pub fn header(definitions: u16, max_id: u16, records: u16) -> [u8; HEADER] {
+    let [d0, d1] = definitions.to_le_bytes();
+    let [m0, m1] = max_id.to_le_bytes();
+    let [r0, r1] = records.to_le_bytes();
+    [1, 0, d0, d1, m0, m1, r0, r1]
 }
 
-// ]5 ends a group that is there five times.
-fn closed(w: Progress, text: &[u8]) -> Progress {
-    let mut next = w.past(1).take(text);
-    let turn = plus(w.turn, 1);
-    if turn < next.value {
-        next.from = w.group;
-        next.turn = turn;
-        return next;
+// Where a record begins, and how many bytes it has.
+#[derive(Clone, Copy, PartialEq, Eq)]
+pub struct Pair {
+    pub offset: u16,
+    pub length: u16,
+}
+
+impl Pair {
+    pub fn bytes(self) -> [u8; PAIR] {
+        let [o0, o1] = self.offset.to_le_bytes();
+        let [l0, l1] = self.length.to_le_bytes();
+        [o0, o1, l0, l1]
     }
-    next.turn = 0;
-    next
-}
 
-// #9 gives labels, tags and types the ID 9.
-fn others(w: Progress, text: &[u8]) -> Progress {
-    let mut next = w.past(1).take(text);
-    next.other = next.value;
-    next
-}
-
-// !2 7 makes byte 2 of the image a 7.
-fn changed(w: Progress, text: &[u8], out: &mut [u8]) -> Progress {
-    let place = w.past(1).take(text);
-    let next = place.take(text);
-    store(out, place.value, low(next.value));
-    next
-}
-
-// %7 ends the image after 7 bytes.
-fn cut(w: Progress, text: &[u8]) -> Progress {
-    let mut next = w.past(1).take(text);
-    next.at = next.value;
-    next
-}
-
-fn step(w: Progress, text: &[u8], out: &mut [u8]) -> Progress {
-    let b = byte(text, w.from);
-    match b {
-        b'a'..=b'x' | b'z' => record(w, text, out, b),
-        b'y' => raw(w.past(1), text, out),
-        b'[' => opened(w),
-        b']' => closed(w, text),
-        b'#' => others(w, text),
-        b'!' => changed(w, text, out),
-        b'%' => cut(w, text),
-        _ => w.past(1),
+    // Where the next record begins.
+    pub fn end(self) -> usize {
+        usize::from(self.offset) + usize::from(self.length)
     }
 }
 
-fn steps(w: Progress, text: &[u8], out: &mut [u8]) -> Progress {
-    let mut next = w;
-    for _ in 0..STEPS {
-        if ends(byte(text, next.from)) {
-            return next;
+// Where the records of an image of n begin.
+pub fn body(n: u16) -> usize {
+    HEADER + PAIR * usize::from(n)
+}
+
+#[derive(Clone, Copy)]
+pub struct Image<'a> {
+    pub bytes: &'a [u8],
+}
+
+impl<'a> Image<'a> {
+    pub fn new(bytes: &'a [u8]) -> Image<'a> {
+        Image { bytes }
+    }
+
+    // A number of the header, 0 where the image ends before.
+    fn number(self, place: usize) -> u16 {
+        match Reader::at(self.bytes, place) {
+            Some(mut reader) => reader.half().unwrap_or(0),
+            None => 0,
         }
-        next = step(next, text, out);
     }
-    next
-}
 
-// The image of a line: max_id, and records. They are counted first, since the pairs come before them.
-pub fn image(text: &[u8], out: &mut [u8], from: usize) -> Progress {
-    let start = Progress::start(from, 8).past(2).take(text);
-    let counted = steps(start, text, out);
-    header(out, counted.definitions, start.value, counted.records);
-    steps(
-        Progress::start(start.from, body(counted.records)),
-        text,
-        out,
-    )
+    pub fn definitions(self) -> u16 {
+        self.number(2)
+    }
+
+    pub fn max_id(self) -> u16 {
+        self.number(4)
+    }
+
+    // How many records it has.
+    pub fn records(self) -> u16 {
+        self.number(6)
+    }
+
+    pub fn pair(self, k: u16) -> Option<Pair> {
+        let mut reader = Reader::at(self.bytes, body(k))?;
+        Some(Pair {
+            offset: reader.half()?,
+            length: reader.half()?,
+        })
+    }
+
+    // The bytes of record k.
+    pub fn record_bytes(self, k: u16) -> Option<&'a [u8]> {
+        let pair = self.pair(k)?;
+        Reader::at(self.bytes, usize::from(pair.offset))?.take(usize::from(pair.length))
+    }
+
+    pub fn record(self, k: u16) -> Option<Record<'a>> {
+        Record::of(self.record_bytes(k)?)
+    }
 }

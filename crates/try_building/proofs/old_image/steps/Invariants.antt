@@ -3,7 +3,7 @@ use Prim.Native.Nat.{◌-◌, ◌≤◌}
 use mathlib.Core.Path.{◌≡◌}
 use native.Mathlib.Omega.{arith}
 use lib.ListN.{length}
-use Rattle.try_building.proofs.image.steps.Given as goal
+use Rattle.try_building.proofs.old_image.steps.Given as goal
 
 abbrev pub invariant-loop : goal.invariant-loop
 invariant-loop l = (length l.out ≡ length l.initial.out) × (l.counter ≤ 20000)
