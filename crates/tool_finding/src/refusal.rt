@@ -47,7 +47,7 @@ impl Refusal {
 
     pub fn number(self) -> u32 {
         match self {
-            Refusal::State => Refusal::Start.number(),
+            Refusal::State => 14,
             _ => self as u32 + 1,
         }
     }
