@@ -1,25 +1,61 @@
 // What stands in a record, by its letter.
-use crate::build::plus;
-use crate::text::{byte, find, wide};
 
-// The most codes of a record.
-pub const CODES: usize = 12;
+// The name of a variable that is written with none, and of a declared type in a list.
+pub const NAME: u16 = 2;
 
-// Code i of the record of a letter, from 1 on; behind the last one a line ends. A hexadecimal digit is a byte, V a variable, N a count,
-// ( a list of bindings, < one of pairs. B, F and G are a label, a type and a tag, whose names are 1, 5 and 6. A space is printed before a
-// number and is no byte.
-pub fn code(letter: u8, i: usize) -> u8 {
-    let layouts =
-        b"d1B(\nu2<\nc3B(\nt4V1FG(\ns5V1F N\nn6V1F0 N\ne6V1F1(N\nv7VG1F(\nl870000000V\no9V3 V V\nia0V0\nja0V1 V\nkbG(\npc0V\nqc1V\nzdV\n";
-    byte(layouts, plus(find(layouts, 0, letter), i))
+pub const TYPE: u16 = 5;
+
+// The names of a label, of the declared type of a statement, and of a tag.
+const LABEL: Part = Part::Named(1);
+
+const SORT: Part = Part::Named(TYPE);
+
+const TAG: Part = Part::Named(6);
+
+#[derive(Clone, Copy, PartialEq, Eq)]
+pub enum Part {
+    Byte(u8),
+    Variable,
+    Count,
+    Bindings,
+    Pairs,
+    // A label, a tag or a declared type of this name.
+    Named(u16),
+    // Printed before a number, and no byte.
+    Space,
 }
 
-// The name that the code of a label, a type or a tag stands for.
-pub fn name(code: u8) -> usize {
-    if b'A' < code { wide(code - b'A') } else { 0 }
-}
-
-// Whether a line ends here, or the text.
-pub fn ends(b: u8) -> bool {
-    b == 0 || b == b'\n'
+// The parts of the record of a letter.
+pub fn layout(letter: u8) -> Option<&'static [Part]> {
+    use Part::{Bindings, Byte, Count, Pairs, Space, Variable};
+    match letter {
+        b'd' => Some(&[Byte(1), LABEL, Bindings]),
+        b'u' => Some(&[Byte(2), Pairs]),
+        b'c' => Some(&[Byte(3), LABEL, Bindings]),
+        b't' => Some(&[Byte(4), Variable, Byte(1), SORT, TAG, Bindings]),
+        b's' => Some(&[Byte(5), Variable, Byte(1), SORT, Space, Count]),
+        b'n' => Some(&[Byte(6), Variable, Byte(1), SORT, Byte(0), Space, Count]),
+        b'e' => Some(&[Byte(6), Variable, Byte(1), SORT, Byte(1), Bindings, Count]),
+        b'v' => Some(&[Byte(7), Variable, TAG, Byte(1), SORT, Bindings]),
+        b'l' => Some(&[
+            Byte(8),
+            Byte(7),
+            Byte(0),
+            Byte(0),
+            Byte(0),
+            Byte(0),
+            Byte(0),
+            Byte(0),
+            Byte(0),
+            Variable,
+        ]),
+        b'o' => Some(&[Byte(9), Variable, Byte(3), Space, Variable, Space, Variable]),
+        b'i' => Some(&[Byte(10), Byte(0), Variable, Byte(0)]),
+        b'j' => Some(&[Byte(10), Byte(0), Variable, Byte(1), Space, Variable]),
+        b'k' => Some(&[Byte(11), TAG, Bindings]),
+        b'p' => Some(&[Byte(12), Byte(0), Variable]),
+        b'q' => Some(&[Byte(12), Byte(1), Variable]),
+        b'z' => Some(&[Byte(13), Variable]),
+        _ => None,
+    }
 }

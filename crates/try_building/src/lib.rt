@@ -20,16 +20,9 @@
 
 pub mod build;
 pub mod image;
-pub mod old_image;
 pub mod layout;
-pub mod letters;
-pub mod listing;
-pub mod lists;
-pub mod pieces;
-pub mod progress;
+pub mod notation;
 pub mod reader;
 pub mod record;
-pub mod saying;
-pub mod show;
 pub mod sum;
 pub mod text;

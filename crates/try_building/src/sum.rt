@@ -1,30 +1,13 @@
 // Adler-32, a sum of bytes.
-use crate::build::plus;
-use crate::text::wide;
+const MODULUS: u32 = 65521;
 
-// The lower half, which is the sum of the bytes, and the upper half, which is the sum of those sums.
-#[derive(Clone, Copy)]
-pub struct Sums {
-    pub a: usize,
-    pub b: usize,
-}
-
-const MODULUS: usize = 65521;
-
-impl Sums {
-    fn with(self, byte: u8) -> Sums {
-        let a = plus(self.a, wide(byte)) % MODULUS;
-        Sums {
-            a,
-            b: plus(self.b, a) % MODULUS,
-        }
+// The lower half is the sum of the bytes, the upper half the sum of those sums.
+pub fn adler32(bytes: &[u8]) -> u32 {
+    let mut sum = 1u32;
+    let mut sums = 0u32;
+    for byte in bytes {
+        sum = sum.wrapping_add(u32::from(*byte)) % MODULUS;
+        sums = sums.wrapping_add(sum) % MODULUS;
     }
-}
-
-pub fn adler(s: &[u8]) -> Sums {
-    let mut sum = Sums { a: 1, b: 0 };
-    for i in 0..s.len() {
-        sum = sum.with(s[i]);
-    }
-    sum
+    sums << 16 | sum
 }

@@ -1,109 +1,182 @@
-// Bytes and numbers of a text or an image. Past its end it has zero bytes.
-ghost use Rattle.std.specs.Prelude.{◌<◌};
+// A line of text, read from the front.
+use crate::build::BuildError;
+use crate::layout::{NAME, TYPE};
+use crate::record::{Binding, Chirality, Identifier, Substitution, Ty};
 
-use crate::build::plus;
-
-pub fn byte(text: &[u8], at: usize) -> u8 {
-    if at < text.len() { text[at] } else { 0 }
-}
-
-pub fn wide(b: u8) -> usize
-    ensures { result < 256 }
-{
-    b as usize
-}
-
-// Two bytes, the lower first.
-pub fn half(image: &[u8], at: usize) -> usize
-    ensures { result < 65536 }
-{
-    wide(byte(image, at)) + 256 * wide(byte(image, plus(at, 1)))
-}
-
-// Four bytes, the lowest first.
-pub fn word(image: &[u8], at: usize) -> usize
-    ensures { result < 4294967296 }
-{
-    half(image, at) + 65536 * half(image, plus(at, 2))
-}
-
-// Eight bytes, the lowest first.
-pub fn double(image: &[u8], at: usize) -> usize {
-    word(image, at) + 4294967296 * word(image, plus(at, 4))
-}
-
-fn expected(first: &[u8], rest: u8, i: usize) -> u8 {
-    if i < first.len() { first[i] } else { rest }
-}
-
-// Whether a buffer begins with these bytes and has the other byte in all places behind them.
-pub fn holds(buffer: &[u8], first: &[u8], rest: u8) -> bool {
-    if buffer.len() < first.len() {
-        return false;
-    }
-    for i in 0..buffer.len() {
-        if buffer[i] != expected(first, rest, i) {
-            return false;
-        }
-    }
-    true
-}
-
-// The place of the first b from a place on, or the text's length.
-pub fn find(text: &[u8], from: usize, b: u8) -> usize {
-    for i in from..text.len() {
-        if text[i] == b {
-            return i;
-        }
-    }
-    text.len()
-}
-
-// The place past the line.
-pub fn next_line(text: &[u8], from: usize) -> usize {
-    plus(find(text, from, b'\n'), 1)
-}
-
-// The value of a hexadecimal digit, 16 for any other byte.
-pub fn hex(b: u8) -> usize {
-    match b {
-        48..=57 => wide(b - 48),
-        97..=102 => wide(b - 87),
-        _ => 16,
-    }
-}
-
-// The most digits of a number.
-const DIGITS: usize = 20;
-
-// A number, and the place past it.
 #[derive(Clone, Copy)]
-pub struct Numeral {
-    pub value: usize,
-    pub end: usize,
+pub struct Text<'a> {
+    rest: &'a [u8],
+    // Which turn of a group this is.
+    turn: u16,
 }
 
-impl Numeral {
-    // With a digit behind it; any other byte changes nothing.
-    fn with(self, b: u8) -> Numeral {
-        let digit = hex(b);
-        if digit < 10 {
-            if self.value < 1844674407370955161 {
-                return Numeral {
-                    value: self.value * 10 + digit,
-                    end: plus(self.end, 1),
-                };
+impl<'a> Text<'a> {
+    pub fn new(text: &'a [u8], turn: u16) -> Text<'a> {
+        Text { rest: text, turn }
+    }
+
+    // Another text in the same turn.
+    pub fn beside(self, text: &'a [u8]) -> Text<'a> {
+        Text::new(text, self.turn)
+    }
+
+    // How many bytes are not read yet.
+    pub fn len(self) -> usize {
+        self.rest.len()
+    }
+
+    pub fn next(&mut self) -> Option<u8> {
+        let (first, rest) = self.rest.split_first()?;
+        self.rest = rest;
+        Some(*first)
+    }
+
+    // Reads this byte, where it is the next one.
+    pub fn eat(&mut self, b: u8) -> bool {
+        match self.rest.split_first() {
+            Some((first, rest)) if *first == b => {
+                self.rest = rest;
+                true
             }
+            _ => false,
         }
-        self
+    }
+
+    // Reads up to the first such byte, and past it.
+    pub fn until(&mut self, b: u8) -> Result<&'a [u8], BuildError> {
+        let end = self.rest.iter().position(|other| *other == b);
+        let (front, rest) = self
+            .rest
+            .split_at_checked(end.ok_or(BuildError::Notation)?)
+            .ok_or(BuildError::Notation)?;
+        self.rest = rest;
+        self.next();
+        Ok(front)
+    }
+
+    // What stands in parentheses.
+    pub fn inside(&mut self) -> Result<&'a [u8], BuildError> {
+        if self.eat(b'(') {
+            self.until(b')')
+        } else {
+            Err(BuildError::Notation)
+        }
+    }
+
+    // The byte of the two hexadecimal digits at hand, where there are such.
+    pub fn hex_byte(&mut self) -> Option<u8> {
+        let (digits, rest) = self.rest.split_at_checked(2)?;
+        if !digits.iter().all(|b| b.is_ascii_hexdigit()) {
+            return None;
+        }
+        self.rest = rest;
+        u8::from_str_radix(str::from_utf8(digits).ok()?, 16).ok()
+    }
+
+    // Reads up to the first byte that is no digit.
+    fn digits(&mut self) -> Option<&'a str> {
+        let end = self.rest.iter().position(|b| !b.is_ascii_digit());
+        let (digits, rest) = self
+            .rest
+            .split_at_checked(end.unwrap_or(self.rest.len()))?;
+        self.rest = rest;
+        str::from_utf8(digits).ok()
+    }
+
+    // A decimal number, where there is one that fits.
+    fn decimal(&mut self) -> Result<u16, BuildError> {
+        let digits = self.digits().ok_or(BuildError::Notation)?;
+        digits.parse().map_err(|_| BuildError::Notation)
+    }
+
+    // A number; with a + behind it, it is the sum with the turn.
+    pub fn id(&mut self) -> Result<u16, BuildError> {
+        let n = self.decimal()?;
+        if self.eat(b'+') {
+            return n.checked_add(self.turn).ok_or(BuildError::TooLarge);
+        }
+        Ok(n)
+    }
+
+    // The same, with a space behind it.
+    pub fn number(&mut self) -> Result<u16, BuildError> {
+        let n = self.id()?;
+        self.eat(b' ');
+        Ok(n)
+    }
+
+    // The same, of one byte.
+    pub fn byte(&mut self) -> Result<u8, BuildError> {
+        u8::try_from(self.number()?).map_err(|_| BuildError::TooLarge)
+    }
+
+    // An ID; '3 behind it is its name.
+    fn identifier(&mut self) -> Result<Identifier, BuildError> {
+        let id = self.id()?;
+        let name = if self.eat(b'\'') {
+            self.decimal()?
+        } else {
+            NAME
+        };
+        Ok(Identifier { name, id })
+    }
+
+    // A variable, with a space behind it.
+    pub fn variable(&mut self) -> Result<Identifier, BuildError> {
+        let variable = self.identifier()?;
+        self.eat(b' ');
+        Ok(variable)
+    }
+
+    // A binding: of I64, or with a p or a c and the type's name behind it, of a declared type with this ID.
+    pub fn binding(&mut self, other: u16) -> Result<Binding, BuildError> {
+        let variable = self.identifier()?;
+        if self.eat(b'p') {
+            self.declared(variable, Chirality::Producer, other)
+        } else if self.eat(b'c') {
+            self.declared(variable, Chirality::Consumer, other)
+        } else {
+            Ok(external(variable))
+        }
+    }
+
+    fn declared(
+        &mut self,
+        variable: Identifier,
+        chirality: Chirality,
+        id: u16,
+    ) -> Result<Binding, BuildError> {
+        let digits = self.digits().ok_or(BuildError::Notation)?;
+        let name = if digits.is_empty() {
+            TYPE
+        } else {
+            digits.parse().map_err(|_| BuildError::Notation)?
+        };
+        Ok(Binding {
+            variable,
+            chirality,
+            ty: Ty::Declared(Identifier { name, id }),
+        })
+    }
+
+    // A pair as 1<2.
+    pub fn pair(&mut self, other: u16) -> Result<Substitution, BuildError> {
+        let target = self.binding(other)?;
+        if !self.eat(b'<') {
+            return Err(BuildError::Notation);
+        }
+        Ok(Substitution {
+            target,
+            source: self.identifier()?,
+        })
     }
 }
 
-// The decimal number at a place.
-pub fn number(text: &[u8], at: usize) -> Numeral {
-    let mut n = Numeral { value: 0, end: at };
-    for _ in 0..DIGITS {
-        n = n.with(byte(text, n.end));
+// A binding of I64.
+pub fn external(variable: Identifier) -> Binding {
+    Binding {
+        variable,
+        chirality: Chirality::External,
+        ty: Ty::I64,
     }
-    n
 }

@@ -5,20 +5,11 @@
 // of what was written what reading answers, and the image in the notation of the input.
 #![tactic(auto)]
 
-use try_building::build::plus;
-use try_building::image::image;
-use try_building::listing::listing;
-use try_building::show;
-use try_building::text::{byte, find, holds, next_line, number};
-
-// The descriptor of the standard input.
-const STDIN: i32 = 0;
-
-// The most lines.
-const LINES: usize = 1000;
-
-// No image has more bytes.
-const LARGEST: usize = 65536;
+use std::alloc::Global;
+use std::fmt;
+use std::io::{self, BufWriter, Error, ErrorKind, Write};
+use try_building::build::build;
+use try_building::notation::notation;
 
 // The bytes that are lent where the name says nothing.
 const LENT: usize = 65535;
@@ -31,218 +22,204 @@ const MARK: u8 = 0xaa;
 // The most bytes of an annotation that are printed.
 const SHOWN: usize = 64;
 
-// A call: read, check, annotate or linearize by its first letter, the record, and how many bytes are lent.
+#[derive(Clone, Copy, PartialEq, Eq)]
+enum Function {
+    Read,
+    Check,
+    Linearize,
+    Annotate { record: usize },
+}
+
 #[derive(Clone, Copy)]
 struct Call {
-    function: u8,
-    record: usize,
+    function: Function,
     lent: usize,
 }
 
-// The call that the name of a case asks for.
-fn asked(text: &[u8], from: usize, colon: usize, function: u8) -> Call {
-    let sign = find(text, from, b'@');
-    if colon <= sign {
-        return Call {
-            function,
-            record: 0,
-            lent: LENT,
-        };
+fn malformed(what: &'static str) -> Error {
+    Error::new(ErrorKind::InvalidData, what)
+}
+
+impl Function {
+    // The function that a line names behind its =.
+    fn named(name: &str) -> io::Result<Function> {
+        match name {
+            "read" => Ok(Function::Read),
+            "check" => Ok(Function::Check),
+            "linearize" => Ok(Function::Linearize),
+            _ => Err(malformed("no such function")),
+        }
     }
-    let first = number(text, plus(sign, 1));
-    if function == b'l' {
-        return Call {
-            function,
-            record: 0,
-            lent: first.value,
-        };
+}
+
+fn number(text: &str) -> io::Result<usize> {
+    text.parse().map_err(|_| malformed("a name has no number behind its @"))
+}
+
+impl Call {
+    // The call that the name of a case asks for, among the cases of a function.
+    fn of(name: &str, function: Function) -> io::Result<Call> {
+        match name.split_once('@') {
+            None => Ok(Call {
+                function,
+                lent: LENT,
+            }),
+            Some((_, asked)) => Call::with(asked, function),
+        }
     }
-    Call {
-        function: b'a',
-        record: first.value,
-        lent: number(text, plus(first.end, 1)).value,
+
+    // The call of what stands behind the @.
+    fn with(asked: &str, function: Function) -> io::Result<Call> {
+        match asked.split_once(' ') {
+            None => Ok(Call {
+                function,
+                lent: number(asked)?,
+            }),
+            Some((record, lent)) => Ok(Call {
+                function: Function::Annotate {
+                    record: number(record)?,
+                },
+                lent: number(lent)?,
+            }),
+        }
+    }
+
+    // Makes the call. Before it length and max_id hold numbers that no answer has.
+    fn make(self, image: &[u8], out: &mut [u8]) -> Answer {
+        let mut length: usize = 99;
+        let mut max_id: u32 = 99;
+        let number = match self.function {
+            Function::Read => axcut::axcut_read(image, &mut length, &mut max_id),
+            Function::Check => axcut::axcut_check(image, &mut length, &mut max_id),
+            Function::Linearize => axcut::axcut_linearize(image, out, &mut length, &mut max_id),
+            Function::Annotate { record } => {
+                axcut::axcut_annotate(image, record, out, &mut length, &mut max_id)
+            }
+        };
+        Answer {
+            number,
+            length,
+            max_id,
+        }
     }
 }
 
 // What a call answered.
 #[derive(Clone, Copy)]
-struct Given {
+struct Answer {
     number: u32,
     length: usize,
+    max_id: u32,
 }
 
-fn ask(
-    function: u8,
-    record: usize,
-    image: &[u8],
-    out: &mut [u8],
-    length: &mut usize,
-    max_id: &mut u32,
-) -> u32 {
-    match function {
-        b'r' => axcut::axcut_read(image, length, max_id),
-        b'c' => axcut::axcut_check(image, length, max_id),
-        b'a' => axcut::axcut_annotate(image, record, out, length, max_id),
-        _ => axcut::axcut_linearize(image, out, length, max_id),
+impl fmt::Display for Answer {
+    fn fmt<W: fmt::Write>(&self, f: &mut fmt::Formatter<W>) -> fmt::Result {
+        write!(f, "{} {} {}", self.number, self.length, self.max_id)
     }
 }
 
-// Makes a call, and prints what it answered.
-fn answer(function: u8, record: usize, image: &[u8], out: &mut [u8]) -> Given {
-    let mut length: usize = 99;
-    let mut max_id: u32 = 99;
-    let number = ask(function, record, image, out, &mut length, &mut max_id);
-    show::answer(b": ", number as usize, length, max_id as usize);
-    Given { number, length }
-}
-
-// Whether a buffer has only this byte from a place to another.
-fn only(buffer: &[u8], from: usize, end: usize, v: u8) -> bool {
-    if from <= end {
-        if end <= buffer.len() {
-            return holds(&buffer[from..end], b"", v);
-        }
+fn is_full(buffer: Option<&[u8]>, byte: u8) -> bool {
+    match buffer {
+        Some(buffer) => buffer.iter().all(|b| *b == byte),
+        None => false,
     }
-    false
 }
 
-fn tell(so: bool, yes: &[u8], no: &[u8]) {
-    if so {
-        show::say(yes);
+// Whether the bytes from a place on are as they were.
+fn rest(buffer: &[u8], from: usize) -> &'static str {
+    if is_full(buffer.get(from..), MARK) {
+        ", rest kept"
     } else {
-        show::say(no);
+        ", REST NOT KEPT"
     }
-}
-
-fn kept(buffer: &[u8], from: usize) {
-    tell(
-        only(buffer, from, buffer.len(), MARK),
-        b", rest kept",
-        b", REST NOT KEPT",
-    );
 }
 
 // After acceptance the bytes past the length stay; 11 and 12 set all that was lent to zero; after another number all stays.
-fn left(given: Given, buffer: &[u8], lent: usize) {
-    let number = given.number;
-    match number {
-        0 => kept(buffer, given.length),
-        11..=12 => {
-            tell(only(buffer, 0, lent, 0), b", zero", b", NOT ZERO");
-            kept(buffer, lent);
+fn left(out: &mut impl Write, answer: Answer, buffer: &[u8], lent: usize) -> io::Result<()> {
+    match answer.number {
+        0 => write!(out, "{}", rest(buffer, answer.length)),
+        11 | 12 => {
+            let zero = is_full(buffer.get(..lent), 0);
+            write!(out, "{}", if zero { ", zero" } else { ", NOT ZERO" })?;
+            write!(out, "{}", rest(buffer, lent))
         }
-        _ => tell(
-            only(buffer, 0, buffer.len(), MARK),
-            b", all kept",
-            b", NOT ALL KEPT",
-        ),
+        _ => {
+            let kept = is_full(Some(buffer), MARK);
+            write!(out, "{}", if kept { ", all kept" } else { ", NOT ALL KEPT" })
+        }
     }
 }
 
-// What reading answers for an image, and its records.
-fn read(image: &[u8]) {
-    let mut none = [0u8; 1];
-    show::say(b"; read");
-    answer(b'r', 0, image, &mut none);
-    show::say(b"; ");
-    listing(image);
-}
-
-fn written(buffer: &[u8], length: usize) {
-    if length <= buffer.len() {
-        read(&buffer[0..length]);
-    }
-}
-
-// What linearization left.
-fn linearized(given: Given, image: &[u8], before: &[u8], buffer: &[u8], lent: usize) {
-    left(given, buffer, lent);
-    tell(
-        holds(image, before, 0),
-        b", image kept",
-        b", IMAGE NOT KEPT",
-    );
-    if given.number == 0 {
-        written(buffer, given.length);
-    }
+// What reading answers for an image that was written, and its records.
+fn read(out: &mut impl Write, alloc: Global, image: &[u8]) -> io::Result<()> {
+    let call = Call {
+        function: Function::Read,
+        lent: 0,
+    };
+    write!(out, "; read: {}; ", call.make(image, &mut []))?;
+    out.write_all(notation(alloc, image)?.as_bytes())
 }
 
 // The first bytes of what an annotation left.
-fn annotated(out: &[u8]) {
-    show::say(b" :");
-    show::bytes(out, 0, SHOWN, b" ");
-}
-
-// Makes a call with the first bytes of a buffer lent, and prints what it left.
-fn make(call: Call, image: &[u8], before: &[u8], buffer: &mut [u8]) {
-    let lent = call.lent;
-    let function = call.function;
-    if lent <= buffer.len() {
-        let given = answer(function, call.record, image, &mut buffer[0..lent]);
-        match function {
-            b'a' => annotated(&buffer[0..lent]),
-            b'l' => linearized(given, image, before, buffer, lent),
-            _ => {}
-        }
+fn annotated(out: &mut impl Write, buffer: &[u8]) -> io::Result<()> {
+    write!(out, " :")?;
+    for byte in buffer.iter().take(SHOWN) {
+        write!(out, " {byte:02x}")?;
     }
+    Ok(())
 }
 
-fn lend(call: Call, image: &[u8], before: &[u8]) {
+// A case: its name, and a line of text. The image is compared after the call.
+fn case(
+    out: &mut impl Write,
+    alloc: Global,
+    function: Function,
+    name: &str,
+    line: &str,
+) -> io::Result<()> {
+    let call = Call::of(name, function)?;
+    let image = build(alloc, line.as_bytes())?;
+    let before = image.clone()?;
     let mut buffer = [MARK; BUFFER];
-    make(call, image, before, &mut buffer);
-}
-
-// A case, and the place past its line. The image is built twice, so that it can be compared after the call.
-fn case(text: &[u8], from: usize, function: u8) -> usize {
-    let mut first = [0u8; LARGEST];
-    let mut second = [0u8; LARGEST];
-    let colon = find(text, from, b':');
-    let built = image(text, &mut first, colon);
-    image(text, &mut second, colon);
-    let n = built.at;
-    show::name(text, from, colon);
-    if n <= LARGEST {
-        let call = asked(text, from, colon, function);
-        lend(call, &first[0..n], &second[0..n]);
-    }
-    show::line();
-    plus(built.from, 1)
-}
-
-// How far the input is read, and the function that the cases there ask for.
-#[derive(Clone, Copy)]
-struct Place {
-    at: usize,
-    function: u8,
-}
-
-// A line; one that begins with - is a remark.
-fn line(text: &[u8], place: Place) -> Place {
-    let sign = byte(text, place.at);
-    let mut next = place;
-    match sign {
-        b'-' => next.at = next_line(text, place.at),
-        b'=' => {
-            next.at = next_line(text, place.at);
-            next.function = byte(text, plus(place.at, 1));
+    let lent = buffer.get_mut(..call.lent).ok_or(malformed("too much is lent"))?;
+    let answer = call.make(&image, lent);
+    write!(out, "{name}: {answer}")?;
+    match call.function {
+        Function::Read | Function::Check => {}
+        Function::Annotate { .. } => annotated(out, lent)?,
+        Function::Linearize => {
+            left(out, answer, &buffer, call.lent)?;
+            let kept = image == before;
+            write!(out, "{}", if kept { ", image kept" } else { ", IMAGE NOT KEPT" })?;
+            if answer.number == 0 {
+                let written = buffer.get(..answer.length).unwrap_or(&[]);
+                read(out, alloc, written)?;
+            }
         }
-        _ => next.at = case(text, place.at, place.function),
     }
-    next
+    writeln!(out)
 }
 
-fn cases(text: &[u8]) {
-    let mut place = Place { at: 0, function: 0 };
-    for _ in 0..LINES {
-        if text.len() <= place.at {
-            return;
+// All cases. A line that begins with - is a remark.
+fn cases(out: &mut impl Write, alloc: Global, text: &str) -> io::Result<()> {
+    let mut function = Function::Read;
+    for line in text.lines() {
+        if line.starts_with('-') {
+            continue;
         }
-        place = line(text, place);
+        if let Some(name) = line.strip_prefix('=') {
+            function = Function::named(name)?;
+        } else {
+            let (name, rest) = line.split_once(": ").ok_or(malformed("a case has no colon"))?;
+            case(out, alloc, function, name, rest)?;
+        }
     }
+    Ok(())
 }
 
-fn main() {
-    let mut text = io::large_buffer();
-    let n = io::read_full(STDIN, &mut text);
-    cases(&text[..n]);
+fn main(rt: HostRuntime) -> io::Result<()> {
+    let text = io::read_to_string(rt.alloc(), rt.reader())?;
+    let mut out = BufWriter::new(rt.alloc(), rt.stdout())?;
+    cases(&mut out, rt.alloc(), text.as_str())?;
+    out.flush()
 }
