@@ -1,10 +1,11 @@
 // The command line, word by word.
 use crate::command::{Action, Command};
 use crate::fault::{Fault, Wrong};
-use crate::request::{Input, Request, Target, Task, View};
+use crate::request::{Input, Request, Target, Task};
 use crate::values::{Value, number};
 use crate::word::Word;
 use std::alloc::Global;
+use tool_listing::line::View;
 
 type Result<'a, T> = std::result::Result<T, Wrong<'a>>;
 
@@ -47,7 +48,11 @@ impl<'a> Parser<'a> {
             store: None,
             number: None,
             values: Vec::new(alloc),
-            view: View::default(),
+            view: View {
+                types: false,
+                records: false,
+                annotations: false,
+            },
             raw: false,
             linear: false,
         }

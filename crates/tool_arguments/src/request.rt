@@ -1,5 +1,6 @@
 // What a command line asks for.
 use crate::values::Value;
+use tool_listing::line::View;
 
 // Where bytes come from: a file, by its name, or standard input.
 #[derive(Clone, Copy, Debug)]
@@ -36,16 +37,8 @@ impl<'a> Target<'a> {
     }
 }
 
-// What dump prints beside the statements.
-#[derive(Clone, Copy, Debug, Default, PartialEq, Eq)]
-pub struct View {
-    pub types: bool,
-    pub records: bool,
-    pub annotations: bool,
-}
-
 // What is asked of an image.
-#[derive(Debug, Drop)]
+#[derive(Drop)]
 pub enum Task<'a> {
     Read,
     Check,
@@ -81,9 +74,10 @@ pub enum Task<'a> {
     },
 }
 
-#[derive(Debug, Drop)]
+#[derive(Drop)]
 pub enum Request<'a> {
     Help,
     Version,
+    // The image comes first.
     Of(Input<'a>, Task<'a>),
 }

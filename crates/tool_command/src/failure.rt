@@ -107,7 +107,7 @@ fn say_refused<W: Write>(
 }
 
 impl<'a> Failure<'a> {
-    pub fn status(self) -> ExitCode {
+    fn status(self) -> ExitCode {
         match self {
             Failure::Refused {
                 file: _,
@@ -150,8 +150,13 @@ impl<'a> Failure<'a> {
         }
     }
 
-    // Says what is wrong.
-    pub fn say<W: Write>(self, to: &mut W, alloc: Global) -> std::io::Result<()> {
+    // Says what is wrong, and answers the exit status.
+    pub fn tell(self, rt: &HostRuntime) -> ExitCode {
+        let _ = self.say(&mut rt.stderr(), rt.alloc());
+        self.status()
+    }
+
+    fn say<W: Write>(self, to: &mut W, alloc: Global) -> std::io::Result<()> {
         if matches!(self, Failure::Wrong(wrong) if wrong.fault == Fault::NoCommand) {
             return write!(to, "{USAGE}");
         }

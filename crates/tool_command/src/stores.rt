@@ -1,6 +1,6 @@
 // The file of a store. It is written under another name and then takes the place of the one before, so that it is whole at any time.
 use crate::failure::{Failure, Subject};
-use crate::files::{create, name};
+use crate::files::{create, name, remove};
 use std::alloc::{AllocError, Global};
 use std::fs;
 use std::fs::{File, OpenOptions};
@@ -44,7 +44,7 @@ fn replace(
 ) -> io::Result<()> {
     let done = write_and_rename(rt, file, new, path, bytes);
     if done.is_err() {
-        let _ = fs::remove_file(rt, name(new)?);
+        let _ = remove(rt, new);
     }
     done
 }

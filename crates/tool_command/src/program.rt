@@ -1,6 +1,7 @@
-// The image that the command is about, and what the library answers of it.
+// The program image that the command is about, and what the library answers of it.
 use crate::failure::Failure;
 use crate::files;
+use std::alloc::Global;
 use tool_arguments::request::Input;
 use tool_finding::finding::find;
 use tool_finding::refusal::Refusal;
@@ -9,24 +10,28 @@ use tool_finding::refusal::Refusal;
 const MOST: usize = 65536;
 
 #[derive(Drop)]
-pub struct Image<'a> {
+pub struct Program<'a> {
     file: Input<'a>,
     bytes: Vec<u8>,
 }
 
-impl<'a> Image<'a> {
-    pub fn take(rt: &HostRuntime, file: Input<'a>) -> Result<Image<'a>, Failure<'a>> {
+impl<'a> Program<'a> {
+    pub fn take(rt: &HostRuntime, file: Input<'a>) -> Result<Program<'a>, Failure<'a>> {
         let bytes = files::read(rt, file, MOST)?;
-        Ok(Image { file, bytes })
+        Ok(Program { file, bytes })
     }
 
     pub fn bytes(&self) -> &[u8] {
         self.bytes.as_slice()
     }
 
+    pub fn alloc(&self) -> Global {
+        *self.bytes.allocator()
+    }
+
     // A refusal of it, with its place; that of question 13 is the record that was asked for.
     pub fn refused(&self, refusal: Refusal, record: usize) -> Failure<'a> {
-        match find(self.bytes(), refusal, record, *self.bytes.allocator()) {
+        match find(self.bytes(), refusal, record, self.alloc()) {
             Ok(place) => Failure::Refused {
                 file: self.file,
                 refusal,
@@ -78,5 +83,18 @@ impl<'a> Image<'a> {
         let number = axcut::axcut_annotate(self.bytes(), record, out, &mut length, &mut max_id);
         self.accepted(number, record)?;
         Ok(&out[..length.min(out.len())])
+    }
+
+    // Questions 1 to 7: those of an annotation, but for question 13, which comes behind them.
+    pub fn ask_first_seven(&self) -> Result<(), Failure<'a>> {
+        let mut length = 0;
+        let mut max_id = 0;
+        let bytes = self.bytes();
+        let number =
+            axcut::axcut_annotate(bytes, usize::MAX, &mut io::buffer(), &mut length, &mut max_id);
+        match Refusal::check(number) {
+            Ok(()) | Err(Refusal::Place) => Ok(()),
+            Err(refusal) => Err(self.refused(refusal, 0)),
+        }
     }
 }
