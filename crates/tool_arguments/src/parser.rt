@@ -1,7 +1,7 @@
 // The command line, word by word.
 use crate::command::{Action, Command};
 use crate::fault::{Fault, Wrong};
-use crate::request::{Input, Request, Target, Task};
+use crate::request::{Input, Request, Step, Target, Task};
 use crate::values::{Value, number};
 use crate::word::Word;
 use std::alloc::Global;
@@ -175,26 +175,23 @@ impl<'a> Parser<'a> {
 
     fn step(self, action: Action) -> Result<'a, Task<'a>> {
         let linear = self.linear;
-        let names = self.names.map(Input::of);
         let store = self.store.ok_or(Wrong::from(Fault::NoStore))?;
-        Ok(match action {
-            Action::Start => Task::Start {
-                linear,
+        let names = self.names.map(Input::of);
+        let step = match action {
+            Action::Start => Step::Start {
                 definition: self.number.unwrap_or(0),
                 values: self.values,
-                store,
             },
-            Action::Run => Task::Run {
-                linear,
+            Action::Run => Step::Run {
                 steps: self.number.unwrap_or(1),
                 names,
-                store,
             },
-            Action::Show => Task::Show {
-                linear,
-                names,
-                store,
-            },
+            Action::Show => Step::Show { names },
+        };
+        Ok(Task::Step {
+            linear,
+            store,
+            step,
         })
     }
 

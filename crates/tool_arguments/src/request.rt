@@ -55,22 +55,26 @@ pub enum Task<'a> {
         names: Option<Input<'a>>,
         target: Target<'a>,
     },
-    Start {
+    Step {
         linear: bool,
+        store: &'a [u8],
+        step: Step<'a>,
+    },
+}
+
+// What is done with a store.
+#[derive(Drop)]
+pub enum Step<'a> {
+    Start {
         definition: usize,
         values: Vec<Value>,
-        store: &'a [u8],
     },
     Run {
-        linear: bool,
         steps: usize,
         names: Option<Input<'a>>,
-        store: &'a [u8],
     },
     Show {
-        linear: bool,
         names: Option<Input<'a>>,
-        store: &'a [u8],
     },
 }
 

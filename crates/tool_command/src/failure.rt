@@ -1,5 +1,5 @@
 // Why the command does not end with status 0, and what it says of that on standard error.
-use crate::words::USAGE;
+use crate::texts::USAGE;
 use std::alloc::{AllocError, Global};
 use std::io::{Error, Write};
 use std::process::ExitCode;
@@ -109,11 +109,7 @@ fn say_refused<W: Write>(
 impl<'a> Failure<'a> {
     fn status(self) -> ExitCode {
         match self {
-            Failure::Refused {
-                file: _,
-                refusal: _,
-                place: _,
-            } => ExitCode::from(1),
+            Failure::Refused { .. } => ExitCode::from(1),
             _ => ExitCode::from(2),
         }
     }
@@ -131,12 +127,16 @@ impl<'a> Failure<'a> {
                 to.write_all(b": ")?;
                 say_error(to, error, alloc)
             }
-            Failure::Terminal => write!(to,
+            Failure::Terminal => write!(
+                to,
                 "the output is an image: name a file with -o FILE, or -o - for this terminal"
             ),
             Failure::FaultyLine(names, line) => {
                 say_input(to, names)?;
-                write!(to, ": not a name number, a space and a spelling: line {line}")
+                write!(
+                    to,
+                    ": not a name number, a space and a spelling: line {line}"
+                )
             }
             Failure::LongSpellings(names) => {
                 say_input(to, names)?;

@@ -1,16 +1,17 @@
 // Files: reading one whole, and writing one of which nothing is left where that fails.
 use crate::failure::{Failure, Subject};
-use std::fs;
 use std::fs::{File, OpenOptions};
-use std::io;
 use std::io::{Error, ErrorKind, Read, Write};
+use std::{fs, io};
 use tool_arguments::request::{Input, Target};
 use tool_listing::output::Output;
 
 // The name of a file, which std takes as text.
 pub fn name(path: &[u8]) -> io::Result<&str> {
-    str::from_utf8(path)
-        .map_err(|_| Error::new(ErrorKind::InvalidInput, "the name of a file is not UTF-8"))
+    str::from_utf8(path).map_err(|_| Error::new(
+        ErrorKind::InvalidInput,
+        "the name of a file is not UTF-8",
+    ))
 }
 
 fn read_from<R: Read + Drop>(from: R, most: usize, bytes: &mut Vec<u8>) -> io::Result<()> {

@@ -27,12 +27,7 @@ fn annotation(
 }
 
 // Writes the listing of an image with this max_id.
-pub fn listing(
-    page: &mut Page<'_>,
-    program: &Program<'_>,
-    view: View,
-    max_id: u32,
-) -> Result<()> {
+pub fn listing(page: &mut Page<'_>, program: &Program<'_>, view: View, max_id: u32) -> Result<()> {
     writeln!(page, "max_id {max_id}")?;
     let image = Image::new(program.bytes());
     let mut walk = Walk::new(program.alloc());

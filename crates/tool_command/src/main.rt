@@ -5,9 +5,10 @@ mod failure;
 mod files;
 mod listing;
 mod program;
+mod spellings;
 mod step;
 mod stores;
-mod words;
+mod texts;
 
 use failure::{Failure, Subject};
 use files::Opened;
@@ -16,16 +17,15 @@ use program::Program;
 use std::io::Write;
 use std::process::ExitCode;
 use step::Stepping;
+use texts::{USAGE, VERSION};
 use tool_arguments::parser::parse;
 use tool_arguments::request::{Input, Request, Target, Task};
 use tool_arguments::word::{Word, words};
-use tool_finding::refusal::Refusal;
-use tool_listing::book::{Book, BookError};
+use tool_listing::book::Book;
 use tool_listing::line::View;
 use tool_listing::output::Output;
 use tool_listing::page::Page;
 use try_building::image::Image;
-use words::{USAGE, VERSION};
 
 // What read and check say of an image that is accepted.
 fn accept<'a>(rt: &HostRuntime, max_id: u32) -> Result<(), Failure<'a>> {
@@ -79,35 +79,6 @@ fn annotate<'a>(
     known.close(rt, write_annotation(rt, program, record, output, found))
 }
 
-// The text of the spellings, empty where no file has them.
-fn spellings<'a>(rt: &HostRuntime, names: Option<Input<'a>>) -> Result<Vec<u8>, Failure<'a>> {
-    let Some(names) = names else {
-        return Ok(Vec::new(rt.alloc()));
-    };
-    let text = files::read(rt, names, Book::MOST)?;
-    if text.len() < Book::MOST {
-        Ok(text)
-    } else {
-        Err(Failure::LongSpellings(names))
-    }
-}
-
-// The book of these spellings.
-fn book<'a, 't>(
-    rt: &HostRuntime,
-    names: Option<Input<'a>>,
-    text: &'t [u8],
-) -> Result<Book<'t>, Failure<'a>> {
-    match Book::of(rt.alloc(), text) {
-        Ok(book) => Ok(book),
-        Err(BookError::Line(line)) => Err(Failure::FaultyLine(
-            names.unwrap_or(Input::Standard),
-            line,
-        )),
-        Err(BookError::NoMemory) => Err(Failure::NoMemory),
-    }
-}
-
 fn write_listing(
     rt: &HostRuntime,
     program: &Program<'_>,
@@ -131,25 +102,10 @@ fn dump<'a>(
     if view.annotations {
         program.ask_first_seven()?;
     }
-    let text = spellings(rt, names)?;
-    let book = book(rt, names, text.as_slice())?;
+    let text = spellings::read(rt, names)?;
+    let book = spellings::book(rt, names, text.as_slice())?;
     let Opened { output, known } = files::open(rt, target)?;
     known.close(rt, write_listing(rt, program, view, max_id, output, &book))
-}
-
-// Runs from a store so many steps, or shows it where no number of them is given.
-fn step_from<'a>(
-    rt: &HostRuntime,
-    stepping: Stepping<'a, '_>,
-    names: Option<Input<'a>>,
-    steps: Option<usize>,
-) -> Result<(), Failure<'a>> {
-    let text = spellings(rt, names)?;
-    let book = book(rt, names, text.as_slice())?;
-    match steps {
-        Some(steps) => stepping.run(rt, &book, steps as u64),
-        None => stepping.show(rt, &book),
-    }
 }
 
 fn carry_out<'a>(
@@ -171,23 +127,11 @@ fn carry_out<'a>(
             names,
             target,
         } => dump(rt, program, view, names, target),
-        Task::Start {
+        Task::Step {
             linear,
-            definition,
-            values,
             store,
-        } => step::start(rt, program, linear, definition, values.as_slice(), store),
-        Task::Run {
-            linear,
-            steps,
-            names,
-            store,
-        } => step_from(rt, Stepping { program, linear, file: store }, names, Some(steps)),
-        Task::Show {
-            linear,
-            names,
-            store,
-        } => step_from(rt, Stepping { program, linear, file: store }, names, None),
+            step,
+        } => Stepping::new(program, linear, store).carry_out(rt, step),
     }
 }
 

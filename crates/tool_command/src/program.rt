@@ -73,11 +73,7 @@ impl<'a> Program<'a> {
     }
 
     // The annotation of a record, in this buffer.
-    pub fn annotate<'o>(
-        &self,
-        record: usize,
-        out: &'o mut [u8],
-    ) -> Result<&'o [u8], Failure<'a>> {
+    pub fn annotate<'o>(&self, record: usize, out: &'o mut [u8]) -> Result<&'o [u8], Failure<'a>> {
         let mut length = 0;
         let mut max_id = 0;
         let number = axcut::axcut_annotate(self.bytes(), record, out, &mut length, &mut max_id);
@@ -90,8 +86,13 @@ impl<'a> Program<'a> {
         let mut length = 0;
         let mut max_id = 0;
         let bytes = self.bytes();
-        let number =
-            axcut::axcut_annotate(bytes, usize::MAX, &mut io::buffer(), &mut length, &mut max_id);
+        let number = axcut::axcut_annotate(
+            bytes,
+            usize::MAX,
+            &mut io::buffer(),
+            &mut length,
+            &mut max_id,
+        );
         match Refusal::check(number) {
             Ok(()) | Err(Refusal::Place) => Ok(()),
             Err(refusal) => Err(self.refused(refusal, 0)),

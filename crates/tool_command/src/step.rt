@@ -1,9 +1,9 @@
 // `axcut step`: starts, runs and states, with the store in a file.
 use crate::failure::{Failure, Subject};
 use crate::program::Program;
-use crate::{files, stores};
+use crate::{files, spellings, stores};
 use std::io::Write;
-use tool_arguments::request::Input;
+use tool_arguments::request::{Input, Step};
 use tool_arguments::values::Value;
 use tool_finding::refusal::Refusal;
 use tool_listing::book::Book;
@@ -15,10 +15,6 @@ use tool_steps::standing::Standing;
 use tool_steps::state;
 use tool_steps::store::{BYTES, Store};
 
-fn machine(linear: bool) -> Machine {
-    if linear { Machine::Linear } else { Machine::Source }
-}
-
 // Writes the state that a store begins with to its file.
 fn keep<'a>(rt: &HostRuntime, file: &'a [u8], store: &[u8]) -> Result<(), Failure<'a>> {
     match Store::of(store) {
@@ -27,35 +23,67 @@ fn keep<'a>(rt: &HostRuntime, file: &'a [u8], store: &[u8]) -> Result<(), Failur
     }
 }
 
-// A start has at most 128 entries, 2,112 bytes.
-pub fn start<'a>(
-    rt: &HostRuntime,
-    program: &Program<'a>,
-    linear: bool,
-    definition: usize,
-    values: &[Value],
-    file: &'a [u8],
-) -> Result<(), Failure<'a>> {
-    let mut slots = Vec::new(rt.alloc());
-    for value in values {
-        slots.extend_from_slice(&value.slot())?;
-    }
-    let mut store = io::buffer();
-    machine(linear)
-        .start(program.bytes(), definition, slots.as_slice(), &mut store)
-        .map_err(|refusal| program.refused(refusal, 0))?;
-    keep(rt, file, &store)
-}
-
-// A store in its file, with the machine that goes on from it.
+// A store in its file, and the machine whose states it has.
 #[derive(Clone, Copy)]
 pub struct Stepping<'a, 'p> {
-    pub program: &'p Program<'a>,
-    pub linear: bool,
-    pub file: &'a [u8],
+    program: &'p Program<'a>,
+    machine: Machine,
+    file: &'a [u8],
 }
 
 impl<'a, 'p> Stepping<'a, 'p> {
+    pub fn new(program: &'p Program<'a>, linear: bool, file: &'a [u8]) -> Stepping<'a, 'p> {
+        let machine = if linear {
+            Machine::Linear
+        } else {
+            Machine::Source
+        };
+        Stepping {
+            program,
+            machine,
+            file,
+        }
+    }
+
+    pub fn carry_out(self, rt: &HostRuntime, step: Step<'a>) -> Result<(), Failure<'a>> {
+        match step {
+            Step::Start { definition, values } => self.start(rt, definition, values.as_slice()),
+            Step::Run { steps, names } => {
+                let text = spellings::read(rt, names)?;
+                let book = spellings::book(rt, names, text.as_slice())?;
+                self.run(rt, &book, steps as u64)
+            }
+            Step::Show { names } => {
+                let text = spellings::read(rt, names)?;
+                let book = spellings::book(rt, names, text.as_slice())?;
+                self.show(rt, &book)
+            }
+        }
+    }
+
+    // A start has at most 128 entries, 2,112 bytes.
+    fn start(
+        self,
+        rt: &HostRuntime,
+        definition: usize,
+        values: &[Value],
+    ) -> Result<(), Failure<'a>> {
+        let mut slots = Vec::new(rt.alloc());
+        for value in values {
+            slots.extend_from_slice(&value.slot())?;
+        }
+        let mut store = io::buffer();
+        self.machine
+            .start(
+                self.program.bytes(),
+                definition,
+                slots.as_slice(),
+                &mut store,
+            )
+            .map_err(|refusal| self.program.refused(refusal, 0))?;
+        keep(rt, self.file, &store)
+    }
+
     // A refusal of the store; any other than of a store or of a step is of the image.
     fn refused(self, refusal: Refusal) -> Failure<'a> {
         match refusal {
@@ -74,21 +102,20 @@ impl<'a, 'p> Stepping<'a, 'p> {
         if BYTES < store.len() {
             return Err(Failure::LargeStore(self.file));
         }
-        machine(self.linear)
+        self.machine
             .ask(self.program.bytes(), store.as_mut_slice())
             .map_err(|refusal| self.refused(refusal))?;
         Ok(store)
     }
 
-    pub fn show(self, rt: &HostRuntime, book: &Book<'_>) -> Result<(), Failure<'a>> {
+    fn show(self, rt: &HostRuntime, book: &Book<'_>) -> Result<(), Failure<'a>> {
         let store = self.take(rt)?;
-        let output = Output::Standard(rt.stdout());
-        show_state(rt, self.program, store.as_slice(), output, book)
+        self.write_state(rt, book, store.as_slice())
             .map_err(|e| Failure::Call(Subject::Output, e))
     }
 
     // Makes so many steps. The store is written once its events are, and only if a step was made; what the next step is refused for comes last.
-    pub fn run(self, rt: &HostRuntime, book: &Book<'_>, steps: u64) -> Result<(), Failure<'a>> {
+    fn run(self, rt: &HostRuntime, book: &Book<'_>, steps: u64) -> Result<(), Failure<'a>> {
         let mut store = self.take(rt)?;
         store.resize(BYTES, 0)?;
         let ran = self
@@ -113,29 +140,23 @@ impl<'a, 'p> Stepping<'a, 'p> {
         store: &mut [u8],
     ) -> std::io::Result<Ran> {
         let mut page = Page::new(rt.alloc(), Output::Standard(rt.stdout()), book)?;
-        let ran = run(&mut page, machine(self.linear), self.program.bytes(), steps, store)?;
+        let ran = run(&mut page, self.machine, self.program.bytes(), steps, store)?;
         page.flush()?;
         Ok(ran)
     }
 
     // The last line of a run.
     fn write_standing(self, rt: &HostRuntime, made: u64, store: &mut [u8]) -> std::io::Result<()> {
-        let standing = Standing::of(machine(self.linear), self.program.bytes(), store);
+        let standing = Standing::of(self.machine, self.program.bytes(), store);
         let unit = if made == 1 { "step" } else { "steps" };
         println!(rt; "{made} {unit}, {standing}")
     }
-}
 
-fn show_state(
-    rt: &HostRuntime,
-    program: &Program<'_>,
-    store: &[u8],
-    output: Output,
-    book: &Book<'_>,
-) -> std::io::Result<()> {
-    let mut page = Page::new(rt.alloc(), output, book)?;
-    if let Some(store) = Store::of(store) {
-        state::show(&mut page, program.bytes(), store)?;
+    fn write_state(self, rt: &HostRuntime, book: &Book<'_>, store: &[u8]) -> std::io::Result<()> {
+        let mut page = Page::new(rt.alloc(), Output::Standard(rt.stdout()), book)?;
+        if let Some(store) = Store::of(store) {
+            state::show(&mut page, self.program.bytes(), store)?;
+        }
+        page.flush()
     }
-    page.flush()
 }

@@ -2,10 +2,9 @@
 use crate::failure::{Failure, Subject};
 use crate::files::{create, name, remove};
 use std::alloc::{AllocError, Global};
-use std::fs;
 use std::fs::{File, OpenOptions};
-use std::io;
 use std::io::{ErrorKind, Seek, SeekFrom, Write};
+use std::{fs, io};
 
 // Can what is there be replaced? Only a file that may be written: no device, no directory.
 fn is_file(mut file: File) -> io::Result<()> {
@@ -14,7 +13,11 @@ fn is_file(mut file: File) -> io::Result<()> {
 }
 
 fn may_replace(rt: &HostRuntime, path: &[u8]) -> io::Result<()> {
-    match OpenOptions::new().read(true).write(true).open(rt, name(path)?) {
+    match OpenOptions::new()
+        .read(true)
+        .write(true)
+        .open(rt, name(path)?)
+    {
         Ok(file) => is_file(file),
         Err(e) if e.kind() == ErrorKind::NotFound => Ok(()),
         Err(e) => Err(e),
@@ -35,13 +38,7 @@ fn write_and_rename(
 }
 
 // As write_and_rename; where it fails, the new file goes.
-fn replace(
-    rt: &HostRuntime,
-    file: File,
-    new: &[u8],
-    path: &[u8],
-    bytes: &[u8],
-) -> io::Result<()> {
+fn replace(rt: &HostRuntime, file: File, new: &[u8], path: &[u8], bytes: &[u8]) -> io::Result<()> {
     let done = write_and_rename(rt, file, new, path, bytes);
     if done.is_err() {
         let _ = remove(rt, new);
@@ -61,6 +58,8 @@ pub fn save<'a>(rt: &HostRuntime, path: &'a [u8], bytes: &[u8]) -> Result<(), Fa
     may_replace(rt, path).map_err(|e| Failure::Call(Subject::File(path), e))?;
     let new = new_name(path, rt.alloc())?;
     let file = create(rt, new.as_slice()).map_err(|e| Failure::Call(Subject::New(path), e))?;
-    replace(rt, file, new.as_slice(), path, bytes)
-        .map_err(|e| Failure::Call(Subject::File(path), e))
+    replace(rt, file, new.as_slice(), path, bytes).map_err(|e| Failure::Call(
+        Subject::File(path),
+        e,
+    ))
 }

@@ -24,11 +24,8 @@ pub fn find(
         Refusal::RecordForm => scan::malformed(image, alloc),
         Refusal::Linearized => Ok(scan::linearized(image)),
         Refusal::Limits if SOURCE_RECORDS < image.records() => Ok(None),
-        Refusal::Shape
-        | Refusal::Limits
-        | Refusal::Binders
-        | Refusal::Scope
-        | Refusal::MaxId => walk::first(image, question, alloc),
+        Refusal::Shape | Refusal::Limits | Refusal::Binders | Refusal::Scope | Refusal::MaxId =>
+            walk::first(image, question, alloc),
         _ => Ok(None),
     }
 }

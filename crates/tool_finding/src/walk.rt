@@ -63,7 +63,11 @@ impl Walk {
     // Question 7: is it too deep, or has a count that is too great, or more binders than there is room for in scope?
     fn is_large(&self, due: Due, record: Record<'_>) -> bool {
         let bound = record.parameters().len();
-        let binders = if record.variable().is_some() { 1 } else { bound };
+        let binders = if record.variable().is_some() {
+            1
+        } else {
+            bound
+        };
         DEEP < due.depth()
             || COUNT < bound
             || COUNT < record.arguments().len()

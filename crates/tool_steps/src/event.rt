@@ -9,16 +9,35 @@ const SLOT: usize = 16;
 
 #[derive(Clone, Copy)]
 enum Event<'a> {
-    Call { label: u16 },
-    Let { cell: Value, tag: u16 },
-    Switch { cell: Value, tag: u16 },
-    Create { cell: Value },
+    Call {
+        label: u16,
+    },
+    Let {
+        cell: Value,
+        tag: u16,
+    },
+    Switch {
+        cell: Value,
+        tag: u16,
+    },
+    Create {
+        cell: Value,
+    },
     // The argument values of an outside number.
-    Invoke { target: Value, tag: u16, arguments: Reader<'a> },
+    Invoke {
+        target: Value,
+        tag: u16,
+        arguments: Reader<'a>,
+    },
     Literal(Value),
     Op(Value),
-    IfC { then: bool },
-    PrintI64 { newline: bool, value: Value },
+    IfC {
+        then: bool,
+    },
+    PrintI64 {
+        newline: bool,
+        value: Value,
+    },
     Exit(Value),
 }
 
@@ -102,7 +121,11 @@ fn line(page: &mut Page<'_>, event: Event<'_>) -> io::Result<()> {
         Event::Op(value) => write!(page, "<- {value}"),
         Event::IfC { then } => page.say(if then { "if then" } else { "if else" }),
         Event::PrintI64 { newline, value } => {
-            page.say(if newline { "println_i64(" } else { "print_i64(" })?;
+            page.say(if newline {
+                "println_i64("
+            } else {
+                "print_i64("
+            })?;
             write!(page, "{value})")
         }
         Event::Exit(value) => write!(page, "exit {value}"),

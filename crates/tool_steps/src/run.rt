@@ -25,7 +25,6 @@ pub fn run(
     let mut left = steps;
     while 0 < left {
         let made = match machine.step(image, left, store, &mut events) {
-            Ok(made) if made.steps == 0 => break,
             Ok(made) => made,
             Err(refusal) => {
                 return Ok(Ran {
@@ -34,6 +33,9 @@ pub fn run(
                 });
             }
         };
+        if made.steps == 0 {
+            break;
+        }
         lines(page, &events[..made.length.min(events.len())])?;
         left = left.saturating_sub(made.steps);
     }

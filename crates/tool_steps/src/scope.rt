@@ -40,7 +40,8 @@ fn binder(record: Record<'_>, id: u32) -> Option<Identifier> {
 }
 
 // The innermost binder around a record that has an ID.
-pub fn innermost(image: Image<'_>, position: u16, id: u32) -> Option<Identifier> {
+pub fn innermost(image: Image<'_>, position: u32, id: u32) -> Option<Identifier> {
+    let position = u16::try_from(position).ok()?;
     for k in (0..position).rev() {
         let found = image.record(k).and_then(|record| binder(record, id));
         if found.is_some() && is_around(image, k, position) {

@@ -21,7 +21,7 @@ impl Standing {
             _ => {}
         }
         match machine.step(image, 1, store, &mut io::large_buffer()) {
-            Ok(Made { steps: 0, length: _ }) => Standing::Stuck,
+            Ok(Made { steps: 0, .. }) => Standing::Stuck,
             Ok(_) => Standing::GoesOn,
             Err(_) => Standing::NoRoom,
         }

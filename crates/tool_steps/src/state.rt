@@ -24,18 +24,18 @@ impl State<'_, '_, '_> {
     }
 
     fn flags(&mut self) -> io::Result<()> {
-        self.page.say(match (self.store.has_ended, self.store.has_stopped) {
-            (false, false) => "flags: none\n",
-            (true, false) => "flags: ended\n",
-            (false, true) => "flags: stopped\n",
-            (true, true) => "flags: ended, stopped\n",
-        })
+        self.page
+            .say(match (self.store.has_ended, self.store.has_stopped) {
+                (false, false) => "flags: none\n",
+                (true, false) => "flags: ended\n",
+                (false, true) => "flags: stopped\n",
+                (true, true) => "flags: ended, stopped\n",
+            })
     }
 
     // The variable of an ID around a record, or the ID alone where none has it.
     fn named(&mut self, position: u32, id: u32) -> io::Result<()> {
-        let around = u16::try_from(position).ok();
-        match around.and_then(|k| innermost(self.image, k, id)) {
+        match innermost(self.image, position, id) {
             Some(variable) => self.page.variable(variable),
             None => write!(self.page, "_{id}"),
         }
