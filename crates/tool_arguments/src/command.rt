@@ -1,64 +1,53 @@
-// The commands, by number.
-use crate::lines::line_of;
+// The commands.
+use crate::fault::{Fault, Wrong};
 
-pub const NONE: usize = 0;
-
-pub const READ: usize = 1;
-
-pub const CHECK: usize = 2;
-
-pub const LINEARIZE: usize = 3;
-
-pub const ANNOTATE: usize = 4;
-
-pub const DUMP: usize = 5;
-
-pub const STEP: usize = 6;
-
-pub const HELP: usize = 7;
-
-pub const VERSION: usize = 8;
-
-// What step does, by the word behind it.
-pub const START: usize = 9;
-
-pub const RUN: usize = 10;
-
-pub const SHOW: usize = 11;
-
-// The command of a name. The names are in the order of the numbers; behind them are two more for help.
-pub fn of(word: &[u8]) -> usize {
-    let names = b"read\ncheck\nlinearize\nannotate\ndump\nstep\n--help\n--version\n-h\nhelp\n";
-    let n = line_of(names, word);
-    if VERSION < n {
-        return HELP;
-    }
-    n
+#[derive(Clone, Copy, Debug, PartialEq, Eq)]
+pub enum Command {
+    Read,
+    Check,
+    Linearize,
+    Annotate,
+    Dump,
+    // What it does is said by the word behind it.
+    Step(Option<Action>),
+    Help,
+    Version,
 }
 
-// What the word behind step asks for.
-pub fn action(word: &[u8]) -> usize {
-    let n = line_of(b"start\nrun\nshow\n", word);
-    match n {
-        1 => START,
-        2 => RUN,
-        3 => SHOW,
-        _ => NONE,
+#[derive(Clone, Copy, Debug, PartialEq, Eq)]
+pub enum Action {
+    Start,
+    Run,
+    Show,
+}
+
+impl<'a> TryFrom<&'a [u8]> for Command {
+    type Error = Wrong<'a>;
+
+    fn try_from(word: &'a [u8]) -> Result<Command, Wrong<'a>> {
+        match word {
+            b"read" => Ok(Command::Read),
+            b"check" => Ok(Command::Check),
+            b"linearize" => Ok(Command::Linearize),
+            b"annotate" => Ok(Command::Annotate),
+            b"dump" => Ok(Command::Dump),
+            b"step" => Ok(Command::Step(None)),
+            b"--help" | b"-h" | b"help" => Ok(Command::Help),
+            b"--version" => Ok(Command::Version),
+            _ => Err(Wrong::with(Fault::NotACommand, word)),
+        }
     }
 }
 
-// Is it one of step's?
-pub fn steps(command: usize) -> bool {
-    match command {
-        START..=SHOW => true,
-        _ => false,
-    }
-}
+impl<'a> TryFrom<&'a [u8]> for Action {
+    type Error = Wrong<'a>;
 
-// Does it write something that -o can name a file for?
-pub fn writes(command: usize) -> bool {
-    match command {
-        LINEARIZE..=DUMP => true,
-        _ => false,
+    fn try_from(word: &'a [u8]) -> Result<Action, Wrong<'a>> {
+        match word {
+            b"start" => Ok(Action::Start),
+            b"run" => Ok(Action::Run),
+            b"show" => Ok(Action::Show),
+            _ => Err(Wrong::with(Fault::NotAnAction, word)),
+        }
     }
 }

@@ -1,33 +1,80 @@
-// What is wrong with a command line, by number. `words::say_fault` has a line for each.
+// What is wrong with a command line.
+use std::alloc::{AllocError, AllocFailed};
+use std::fmt;
 
-pub const NONE: usize = 0;
+#[derive(Clone, Copy, Debug, PartialEq, Eq)]
+pub enum Fault {
+    NoCommand,
+    NotACommand,
+    NotAnOption,
+    NoFile,
+    TooMany,
+    NoRecord,
+    NotARecord,
+    TooLong,
+    NoNumber,
+    NotANumber,
+    NoAction,
+    NotAnAction,
+    NoStore,
+    NotAStore,
+    NotAValue,
+    NoMemory,
+}
 
-pub const NO_COMMAND: usize = 1;
+impl fmt::Display for Fault {
+    fn fmt<W: fmt::Write>(&self, f: &mut fmt::Formatter<W>) -> fmt::Result {
+        f.write_str(match self {
+            Fault::NoCommand => "a command is missing",
+            Fault::NotACommand => "no such command",
+            Fault::NotAnOption => "no option of this command",
+            Fault::NoFile => "a file name is missing",
+            Fault::TooMany => "one file too many",
+            Fault::NoRecord => "annotate: which record?",
+            Fault::NotARecord => "annotate: not a record's number",
+            Fault::TooLong => "an argument is too long",
+            Fault::NoNumber => "a number is missing",
+            Fault::NotANumber => "not a number",
+            Fault::NoAction => "step: start, run or show?",
+            Fault::NotAnAction => "step: not start, run or show",
+            Fault::NoStore => "step: which image, and which store?",
+            Fault::NotAStore => "step: a store is a file",
+            Fault::NotAValue => "step: not a value",
+            Fault::NoMemory => "no memory is left",
+        })
+    }
+}
 
-pub const COMMAND: usize = 2;
+// A fault, and the word that it is in, if it is in one.
+#[derive(Clone, Copy, Debug)]
+pub struct Wrong<'a> {
+    pub fault: Fault,
+    pub word: Option<&'a [u8]>,
+}
 
-pub const CHOICE: usize = 3;
+impl<'a> Wrong<'a> {
+    pub fn with(fault: Fault, word: &'a [u8]) -> Wrong<'a> {
+        Wrong {
+            fault,
+            word: Some(word),
+        }
+    }
+}
 
-pub const NO_VALUE: usize = 4;
+impl<'a> From<Fault> for Wrong<'a> {
+    fn from(fault: Fault) -> Wrong<'a> {
+        Wrong { fault, word: None }
+    }
+}
 
-pub const TOO_MANY: usize = 5;
+impl<'a> From<AllocError> for Wrong<'a> {
+    fn from(_error: AllocError) -> Wrong<'a> {
+        Wrong::from(Fault::NoMemory)
+    }
+}
 
-pub const NO_RECORD: usize = 6;
-
-pub const NOT_A_RECORD: usize = 7;
-
-pub const UNREADABLE: usize = 8;
-
-pub const NO_NUMBER: usize = 9;
-
-pub const NOT_A_NUMBER: usize = 10;
-
-pub const NO_ACTION: usize = 11;
-
-pub const ACTION: usize = 12;
-
-pub const NO_STORE: usize = 13;
-
-pub const NOT_A_STORE: usize = 14;
-
-pub const NOT_A_VALUE: usize = 15;
+impl<'a, T: Drop> From<AllocFailed<T>> for Wrong<'a> {
+    fn from(_error: AllocFailed<T>) -> Wrong<'a> {
+        Wrong::from(Fault::NoMemory)
+    }
+}

@@ -1,26 +1,20 @@
-// The words of the command line, by their places; the program's own name is word 0.
-ghost use Rattle.std.specs.Prelude.{◌≤◌, length};
-
+// The words of the command line.
+use std::alloc::AllocError;
 use std::env::{Env, FillError};
 
-// Puts word i at the start of the buffer and answers how many bytes it has; 0 where there is no such word, or it is longer than the buffer.
-pub fn word(env: &impl Env, i: usize, buf: &mut [u8]) -> usize
-    ensures { result ≤ length buf.new }
-{
-    match env.arg(i, buf) {
-        Ok(n) => n,
-        Err(_) => 0,
-    }
-}
+// A word; none where it is longer than 4,096 bytes.
+pub type Word = Option<Vec<u8>>;
 
-// How many words there are.
-pub fn count(env: &impl Env) -> usize {
-    let mut none = [0u8; 1];
-    for i in 0..usize::MAX {
-        match env.arg(i, &mut none) {
-            Err(FillError::NotPresent) => return i,
-            _ => {}
+// The words behind the program's own name.
+pub fn words<R: Env + AllocGlobal>(rt: &R) -> Result<Vec<Word>, AllocError> {
+    let mut text = io::buffer();
+    let mut words = Vec::new(rt.alloc());
+    for i in 1..usize::MAX {
+        match rt.arg(i, &mut text) {
+            Ok(n) => words.push(Some(text[..n].to_vec(rt.alloc())?))?,
+            Err(FillError::TooLong) => words.push(None)?,
+            Err(FillError::NotPresent) => break,
         }
     }
-    usize::MAX
+    Ok(words)
 }

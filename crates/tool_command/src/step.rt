@@ -1,170 +1,162 @@
 // `axcut step`: starts, runs and states, with the store in a file.
-use crate::files::{Known, Taken};
-use crate::stores::save;
-use crate::{ACCEPTED, REFUSED, TROUBLE, files, refuse, words, written};
-use std::io::Error;
-use tool_arguments::arguments::Arguments;
-use tool_arguments::{command, values};
-use tool_listing::page::Output;
+use crate::failure::{Failure, Subject};
+use crate::program::Program;
+use crate::{files, spellings, stores};
+use std::io::Write;
+use tool_arguments::request::{Input, Step};
+use tool_arguments::values::Value;
+use tool_finding::refusal::Refusal;
+use tool_listing::book::Book;
+use tool_listing::output::Output;
+use tool_listing::page::Page;
+use tool_steps::machine::Machine;
 use tool_steps::run::{Ran, run};
-use tool_steps::state::show;
-use tool_steps::{calls, slots, standing};
+use tool_steps::standing::Standing;
+use tool_steps::state;
+use tool_steps::store::{BYTES, Store};
 
-// The number of a start or a store that is refused.
-const NO_STATE: u32 = 14;
-
-// Writes the state that a store begins with to the file that argument i names.
-fn keep(rt: &HostRuntime, i: usize, store: &[u8]) -> bool {
-    let n = slots::size(store);
-    if n <= store.len() {
-        return save(rt, i, &store[0..n]);
-    }
-    false
-}
-
-// The number of a start whose values have n bytes.
-fn begin(got: Arguments, image: &[u8], values: &[u8], n: usize, store: &mut [u8]) -> u32 {
-    let linear = got.has(Arguments::LINEAR);
-    if n <= values.len() {
-        return calls::start(linear, image, got.number, &values[0..n], store);
-    }
-    NO_STATE
-}
-
-// A start has at most 128 entries, 2,112 bytes.
-pub fn start(rt: &HostRuntime, got: Arguments, image: &[u8]) -> u8 {
-    let mut given = io::buffer();
-    let n = values::take(rt, got.values, &mut given);
-    let mut store = io::buffer();
-    let number = begin(got, image, &given, n, &mut store);
-    if number != 0 {
-        return refuse(rt, got, image, number);
-    }
-    written(keep(rt, got.file(Arguments::STORE), &store))
-}
-
-// Was standard output written well? If not, that is told.
-fn is_told(rt: &HostRuntime, trouble: Option<Error>) -> bool {
-    files::close(rt, Known::standard(false), trouble)
-}
-
-// The store is written once its events are, and only if a step was made.
-fn is_kept(rt: &HostRuntime, i: usize, store: &[u8], ran: Ran) -> bool {
-    if !is_told(rt, ran.trouble) {
-        return false;
-    }
-    if ran.made == 0 {
-        return true;
-    }
-    keep(rt, i, store)
-}
-
-// What a run is refused for, if it is. Argument i names the store.
-fn ended(rt: &HostRuntime, i: usize, number: u32) -> u8 {
-    if number == 0 {
-        return ACCEPTED;
-    }
-    words::refused_store(rt, i, number);
-    REFUSED
-}
-
-// Makes so many steps. Argument i names the store.
-fn go_on(
-    rt: &HostRuntime,
-    linear: bool,
-    image: &[u8],
-    book: &[u8],
-    store: &mut [u8],
-    steps: usize,
-    i: usize,
-) -> u8 {
-    let output = Output::standard(rt.stdout());
-    let ran = run(output, linear, image, steps as u64, store, book);
-    if !is_kept(rt, i, store, ran) {
-        return TROUBLE;
-    }
-    let last = Output::standard(rt.stdout());
-    let trouble = standing::tell(last, linear, image, store, ran.made);
-    if !is_told(rt, trouble) {
-        return TROUBLE;
-    }
-    ended(rt, i, ran.number)
-}
-
-// In the first bytes of a store.
-fn go_on_in(
-    rt: &HostRuntime,
-    linear: bool,
-    image: &[u8],
-    book: &[u8],
-    store: &mut [u8],
-    most: usize,
-    steps: usize,
-    i: usize,
-) -> u8 {
-    if most <= store.len() {
-        return go_on(rt, linear, image, book, &mut store[0..most], steps, i);
-    }
-    TROUBLE
-}
-
-// A run may fill the store, but for the bytes by which a longer file is noticed.
-fn run_or_show(
-    rt: &HostRuntime,
-    got: Arguments,
-    image: &[u8],
-    book: &[u8],
-    store: &mut [u8],
-) -> u8 {
-    let linear = got.has(Arguments::LINEAR);
-    let i = got.file(Arguments::STORE);
-    let steps = got.number;
-    if got.command == command::SHOW {
-        let output = Output::standard(rt.stdout());
-        return written(is_told(rt, show(output, book, image, store)));
-    }
-    go_on_in(rt, linear, image, book, store, slots::BYTES, steps, i)
-}
-
-// The number of the store whose file has n bytes.
-fn ask(linear: bool, image: &[u8], store: &mut [u8], n: usize) -> u32 {
-    if n <= store.len() {
-        return calls::ask(linear, image, &mut store[0..n]);
-    }
-    NO_STATE
-}
-
-// With a store whose file has n bytes.
-fn with_store(
-    rt: &HostRuntime,
-    got: Arguments,
-    image: &[u8],
-    book: &[u8],
-    store: &mut [u8],
-    n: usize,
-) -> u8 {
-    let i = got.file(Arguments::STORE);
-    if slots::BYTES < n {
-        words::too_large(rt, i);
-        return TROUBLE;
-    }
-    let number = ask(got.has(Arguments::LINEAR), image, store, n);
-    match number {
-        0 => run_or_show(rt, got, image, book, store),
-        NO_STATE => ended(rt, i, number),
-        _ => refuse(rt, got, image, number),
+// Writes the state that a store begins with to its file.
+fn keep<'a>(rt: &HostRuntime, file: &'a [u8], store: &[u8]) -> Result<(), Failure<'a>> {
+    match Store::of(store) {
+        Some(state) => stores::save(rt, file, state.bytes),
+        None => Ok(()),
     }
 }
 
-fn take(rt: &HostRuntime, got: Arguments, image: &[u8], book: &[u8], store: &mut [u8]) -> u8 {
-    match files::take(rt, got.file(Arguments::STORE), store) {
-        Taken::Bytes(n) => with_store(rt, got, image, book, store, n),
-        Taken::Failed => TROUBLE,
-    }
+// A store in its file, and the machine whose states it has.
+#[derive(Clone, Copy)]
+pub struct Stepping<'a, 'p> {
+    program: &'p Program<'a>,
+    machine: Machine,
+    file: &'a [u8],
 }
 
-// Runs and states, with these spellings.
-pub fn on_store(rt: &HostRuntime, got: Arguments, image: &[u8], book: &[u8]) -> u8 {
-    let mut store = [0u8; slots::TAKEN];
-    take(rt, got, image, book, &mut store)
+impl<'a, 'p> Stepping<'a, 'p> {
+    pub fn new(program: &'p Program<'a>, linear: bool, file: &'a [u8]) -> Stepping<'a, 'p> {
+        let machine = if linear {
+            Machine::Linear
+        } else {
+            Machine::Source
+        };
+        Stepping {
+            program,
+            machine,
+            file,
+        }
+    }
+
+    pub fn carry_out(self, rt: &HostRuntime, step: Step<'a>) -> Result<(), Failure<'a>> {
+        match step {
+            Step::Start { definition, values } => self.start(rt, definition, values.as_slice()),
+            Step::Run { steps, names } => {
+                let text = spellings::read(rt, names)?;
+                let book = spellings::book(rt, names, text.as_slice())?;
+                self.run(rt, &book, steps as u64)
+            }
+            Step::Show { names } => {
+                let text = spellings::read(rt, names)?;
+                let book = spellings::book(rt, names, text.as_slice())?;
+                self.show(rt, &book)
+            }
+        }
+    }
+
+    // A start has at most 128 entries, 2,112 bytes.
+    fn start(
+        self,
+        rt: &HostRuntime,
+        definition: usize,
+        values: &[Value],
+    ) -> Result<(), Failure<'a>> {
+        let mut slots = Vec::new(rt.alloc());
+        for value in values {
+            slots.extend_from_slice(&value.slot())?;
+        }
+        let mut store = io::buffer();
+        self.machine
+            .start(
+                self.program.bytes(),
+                definition,
+                slots.as_slice(),
+                &mut store,
+            )
+            .map_err(|refusal| self.program.refused(refusal, 0))?;
+        keep(rt, self.file, &store)
+    }
+
+    // A refusal of the store; any other than of a store or of a step is of the image.
+    fn refused(self, refusal: Refusal) -> Failure<'a> {
+        match refusal {
+            Refusal::State | Refusal::StepRoom => Failure::Refused {
+                file: Input::File(self.file),
+                refusal,
+                place: None,
+            },
+            _ => self.program.refused(refusal, 0),
+        }
+    }
+
+    // The bytes of the store, if they are a state of the image.
+    fn take(self, rt: &HostRuntime) -> Result<Vec<u8>, Failure<'a>> {
+        let mut store = files::read(rt, Input::File(self.file), BYTES + 1)?;
+        if BYTES < store.len() {
+            return Err(Failure::LargeStore(self.file));
+        }
+        self.machine
+            .ask(self.program.bytes(), store.as_mut_slice())
+            .map_err(|refusal| self.refused(refusal))?;
+        Ok(store)
+    }
+
+    fn show(self, rt: &HostRuntime, book: &Book<'_>) -> Result<(), Failure<'a>> {
+        let store = self.take(rt)?;
+        self.write_state(rt, book, store.as_slice())
+            .map_err(|e| Failure::Call(Subject::Output, e))
+    }
+
+    // Makes so many steps. The store is written once its events are, and only if a step was made; what the next step is refused for comes last.
+    fn run(self, rt: &HostRuntime, book: &Book<'_>, steps: u64) -> Result<(), Failure<'a>> {
+        let mut store = self.take(rt)?;
+        store.resize(BYTES, 0)?;
+        let ran = self
+            .write_run(rt, book, steps, store.as_mut_slice())
+            .map_err(|e| Failure::Call(Subject::Output, e))?;
+        if 0 < ran.made {
+            keep(rt, self.file, store.as_slice())?;
+        }
+        self.write_standing(rt, ran.made, store.as_mut_slice())
+            .map_err(|e| Failure::Call(Subject::Output, e))?;
+        match ran.refusal {
+            Some(refusal) => Err(self.refused(refusal)),
+            None => Ok(()),
+        }
+    }
+
+    fn write_run(
+        self,
+        rt: &HostRuntime,
+        book: &Book<'_>,
+        steps: u64,
+        store: &mut [u8],
+    ) -> std::io::Result<Ran> {
+        let mut page = Page::new(rt.alloc(), Output::Standard(rt.stdout()), book)?;
+        let ran = run(&mut page, self.machine, self.program.bytes(), steps, store)?;
+        page.flush()?;
+        Ok(ran)
+    }
+
+    // The last line of a run.
+    fn write_standing(self, rt: &HostRuntime, made: u64, store: &mut [u8]) -> std::io::Result<()> {
+        let standing = Standing::of(self.machine, self.program.bytes(), store);
+        let unit = if made == 1 { "step" } else { "steps" };
+        println!(rt; "{made} {unit}, {standing}")
+    }
+
+    fn write_state(self, rt: &HostRuntime, book: &Book<'_>, store: &[u8]) -> std::io::Result<()> {
+        let mut page = Page::new(rt.alloc(), Output::Standard(rt.stdout()), book)?;
+        if let Some(store) = Store::of(store) {
+            state::show(&mut page, self.program.bytes(), store)?;
+        }
+        page.flush()
+    }
 }

@@ -1,112 +1,65 @@
 // The file of a store. It is written under another name and then takes the place of the one before, so that it is whole at any time.
-ghost use Rattle.std.specs.Prelude.{◌≤◌, length};
-
-use crate::files::{create, name, unlink};
-use crate::words::failed;
-use std::fs;
+use crate::failure::{Failure, Subject};
+use crate::files::{create, name, remove};
+use std::alloc::{AllocError, Global};
 use std::fs::{File, OpenOptions};
 use std::io::{ErrorKind, Seek, SeekFrom, Write};
-use tool_arguments::word::word;
-use try_building::build::{plus, store};
+use std::{fs, io};
 
 // Can what is there be replaced? Only a file that may be written: no device, no directory.
-fn is_file(file: &mut File) -> std::io::Result<()> {
+fn is_file(mut file: File) -> io::Result<()> {
     let end = file.seek(SeekFrom::End(0))?;
     file.set_len(end)
 }
 
-fn open_update(rt: &HostRuntime, path: &[u8]) -> std::io::Result<File> {
-    OpenOptions::new()
+fn may_replace(rt: &HostRuntime, path: &[u8]) -> io::Result<()> {
+    match OpenOptions::new()
         .read(true)
         .write(true)
         .open(rt, name(path)?)
-}
-
-fn may_replace(rt: &HostRuntime, path: &[u8]) -> std::io::Result<()> {
-    match open_update(rt, path) {
-        Ok(file) => {
-            let mut there = file;
-            is_file(&mut there)
-        }
-        Err(e) => {
-            if e.kind() == ErrorKind::NotFound {
-                return Ok(());
-            }
-            Err(e)
-        }
+    {
+        Ok(file) => is_file(file),
+        Err(e) if e.kind() == ErrorKind::NotFound => Ok(()),
+        Err(e) => Err(e),
     }
 }
 
-// Writes all of the bytes, and closes the file.
-fn write(file: File, bytes: &[u8]) -> std::io::Result<()> {
-    let mut to = file;
-    to.write_all(bytes)
-}
-
-fn rename(
+// Writes all of the bytes, closes the file and puts it in the place of the other one.
+fn write_and_rename(
     rt: &HostRuntime,
-    path: &[u8],
+    mut file: File,
     new: &[u8],
-    written: std::io::Result<()>,
-) -> std::io::Result<()> {
-    written?;
+    path: &[u8],
+    bytes: &[u8],
+) -> io::Result<()> {
+    file.write_all(bytes)?;
+    drop(file);
     fs::rename(rt, name(new)?, name(path)?)
 }
 
-// Puts the new file in the place of the other one.
-fn replace(rt: &HostRuntime, path: &[u8], new: &[u8], written: std::io::Result<()>) -> bool {
-    match rename(rt, path, new, written) {
-        Ok(()) => true,
-        Err(e) => {
-            failed(rt, path, e);
-            let _ = unlink(rt, new);
-            false
-        }
+// As write_and_rename; where it fails, the new file goes.
+fn replace(rt: &HostRuntime, file: File, new: &[u8], path: &[u8], bytes: &[u8]) -> io::Result<()> {
+    let done = write_and_rename(rt, file, new, path, bytes);
+    if done.is_err() {
+        let _ = remove(rt, new);
     }
+    done
 }
 
-fn save_new(rt: &HostRuntime, path: &[u8], new: &[u8], bytes: &[u8]) -> bool {
-    match create(rt, new) {
-        Ok(file) => replace(rt, path, new, write(file, bytes)),
-        Err(e) => {
-            failed(rt, new, e);
-            false
-        }
-    }
+// The name that a file has until it is whole.
+fn new_name(path: &[u8], alloc: Global) -> Result<Vec<u8>, AllocError> {
+    let mut new = path.to_vec(alloc)?;
+    new.extend_from_slice(b".new")?;
+    Ok(new)
 }
 
-fn save_as(rt: &HostRuntime, path: &[u8], new: &[u8], bytes: &[u8]) -> bool {
-    match may_replace(rt, path) {
-        Ok(()) => save_new(rt, path, new, bytes),
-        Err(e) => {
-            failed(rt, path, e);
-            false
-        }
-    }
-}
-
-// Puts .new behind the first n bytes.
-fn behind(path: &mut [u8], n: usize) -> usize {
-    store(path, n, b'.');
-    store(path, plus(n, 1), b'n');
-    store(path, plus(n, 2), b'e');
-    store(path, plus(n, 3), b'w');
-    plus(n, 4)
-}
-
-fn save_beside(rt: &HostRuntime, path: &[u8], new: &[u8], n: usize, bytes: &[u8]) -> bool {
-    if n <= new.len() {
-        return save_as(rt, path, &new[0..n], bytes);
-    }
-    false
-}
-
-// Writes the bytes of a store to the file that argument i names. Answers whether they are there; if not, what was there is as it was.
-pub fn save(rt: &HostRuntime, i: usize, bytes: &[u8]) -> bool {
-    let mut path = io::buffer();
-    let n = word(rt, i, &mut path);
-    let mut new = io::buffer();
-    let m = word(rt, i, &mut new);
-    let end = behind(&mut new, m);
-    save_beside(rt, &path[..n], &new, end, bytes)
+// Writes the bytes of a store to its file. Where that fails, what was there is as it was.
+pub fn save<'a>(rt: &HostRuntime, path: &'a [u8], bytes: &[u8]) -> Result<(), Failure<'a>> {
+    may_replace(rt, path).map_err(|e| Failure::Call(Subject::File(path), e))?;
+    let new = new_name(path, rt.alloc())?;
+    let file = create(rt, new.as_slice()).map_err(|e| Failure::Call(Subject::New(path), e))?;
+    replace(rt, file, new.as_slice(), path, bytes).map_err(|e| Failure::Call(
+        Subject::File(path),
+        e,
+    ))
 }

@@ -1,46 +1,24 @@
-// What a refusal is about: a record, and the ID of a variable there, or nothing of both.
+// What a refusal is about: a record, and the ID of a variable there where it is about one.
+use std::fmt;
 
-#[derive(Clone, Copy)]
+#[derive(Clone, Copy, Debug, PartialEq, Eq)]
 pub struct Place {
     pub record: usize,
-    pub has_record: bool,
-    pub id: usize,
-    pub has_id: bool,
+    pub id: Option<usize>,
 }
 
-impl Place {
-    pub fn nowhere() -> Place {
-        Place {
-            record: 0,
-            has_record: false,
-            id: 0,
-            has_id: false,
-        }
+impl From<usize> for Place {
+    fn from(record: usize) -> Place {
+        Place { record, id: None }
     }
+}
 
-    pub fn of_record(record: usize) -> Place {
-        Place {
-            record,
-            has_record: true,
-            id: 0,
-            has_id: false,
-        }
-    }
-
-    // The record, where it is so.
-    pub fn if_so(so: bool, record: usize) -> Place {
-        if so {
-            return Place::of_record(record);
-        }
-        Place::nowhere()
-    }
-
-    pub fn of_variable(record: usize, id: usize) -> Place {
-        Place {
-            record,
-            has_record: true,
-            id,
-            has_id: true,
+impl fmt::Display for Place {
+    fn fmt<W: fmt::Write>(&self, f: &mut fmt::Formatter<W>) -> fmt::Result {
+        let record = self.record;
+        match self.id {
+            Some(id) => write!(f, "record {record}, ID {id}"),
+            None => write!(f, "record {record}"),
         }
     }
 }

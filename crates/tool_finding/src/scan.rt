@@ -1,98 +1,72 @@
 // Questions 3, 4 and 6: the first record that is the no by itself.
 use crate::place::Place;
-use tool_listing::fields::{begin, half, records};
-use try_building::build::{body, header, pair, plus, store};
-use try_building::text::byte;
+use crate::refusal::Refusal;
+use std::alloc::{AllocError, Global};
+use try_building::image::{HEADER, Image, PAIR, Pair, body, header};
+use try_building::record::Record;
 
-fn length(image: &[u8], k: usize) -> usize {
-    half(image, plus(body(k), 2))
-}
-
-fn end(image: &[u8], k: usize) -> usize {
-    plus(begin(image, k), length(image, k))
-}
-
-// Where record k has to begin.
-fn due(image: &[u8], k: usize) -> usize {
-    if 0 < k {
-        return end(image, k - 1);
-    }
-    body(records(image))
-}
-
-// Is it the last record, and ends elsewhere than the image?
-fn ends_astray(image: &[u8], k: usize) -> bool {
-    if plus(k, 1) == records(image) {
-        return end(image, k) != image.len();
-    }
-    false
-}
-
-// Has record k no whole pair, or is the pair none that tiles the image with those before it?
-fn is_astray(image: &[u8], k: usize) -> bool {
-    if image.len() < body(plus(k, 1)) {
-        return true;
-    }
-    if begin(image, k) != due(image, k) {
-        return true;
-    }
-    ends_astray(image, k)
-}
-
-// Where the record of an image of one begins.
-const FIRST: usize = 12;
-
-fn copy(image: &[u8], from: usize, n: usize, out: &mut [u8]) {
-    for i in 0..n {
-        store(out, plus(FIRST, i), byte(image, plus(from, i)));
-    }
-}
-
-// The number of an image of n bytes.
-fn number(image: &[u8], n: usize) -> u32 {
-    let mut length: usize = 0;
-    let mut max_id: u32 = 0;
-    if n <= image.len() {
-        return axcut::axcut_read(&image[0..n], &mut length, &mut max_id);
-    }
-    0
-}
-
-// Is record k refused with 4, alone in an image?
-fn is_malformed(image: &[u8], k: usize) -> bool {
-    let mut alone = io::large_buffer();
-    let n = length(image, k);
-    let end = plus(FIRST, n);
-    header(&mut alone, 1, 0, 1);
-    pair(&mut alone, 0, FIRST, end);
-    copy(image, begin(image, k), n, &mut alone);
-    number(&alone, end) == 4
-}
-
-// Is record k a Substitute, or a Create with an environment?
-fn is_linearized(image: &[u8], k: usize) -> bool {
-    let at = begin(image, k);
-    let kind = byte(image, at);
-    match kind {
-        2 => true,
-        6 => byte(image, plus(at, 10)) == 1,
-        _ => false,
-    }
-}
-
-fn is_no(image: &[u8], question: u32, k: usize) -> bool {
-    match question {
-        3 => is_astray(image, k),
-        4 => is_malformed(image, k),
-        _ => is_linearized(image, k),
-    }
-}
-
-pub fn first(image: &[u8], question: u32) -> Place {
-    for k in 0..records(image) {
-        if is_no(image, question, k) {
-            return Place::of_record(k);
+// Question 3: the first record whose pair is cut off, or does not begin where the one before it ends; the last one where it ends elsewhere
+// than the image.
+pub fn astray(image: Image<'_>) -> Option<Place> {
+    let records = image.records();
+    let mut due = body(records);
+    for k in 0..records {
+        match image.pair(k) {
+            Some(pair) if usize::from(pair.offset) == due => due = pair.end(),
+            _ => return Some(Place::from(usize::from(k))),
         }
     }
-    Place::nowhere()
+    if due == image.bytes.len() {
+        return None;
+    }
+    records.checked_sub(1).map(|k| Place::from(usize::from(k)))
+}
+
+// An image of this record alone.
+fn alone(record: &[u8], alloc: Global) -> Result<Vec<u8>, AllocError> {
+    let pair = Pair {
+        offset: (HEADER + PAIR) as u16,
+        length: u16::try_from(record.len()).unwrap_or(u16::MAX),
+    };
+    let mut image = header(1, 0, 1).to_vec(alloc)?;
+    image.extend_from_slice(&pair.bytes())?;
+    image.extend_from_slice(record)?;
+    Ok(image)
+}
+
+fn is_malformed(record: &[u8], alloc: Global) -> Result<bool, AllocError> {
+    let image = alone(record, alloc)?;
+    let mut length = 0;
+    let mut max_id = 0;
+    let number = axcut::axcut_read(image.as_slice(), &mut length, &mut max_id);
+    Ok(Refusal::check(number) == Err(Refusal::RecordForm))
+}
+
+// Question 4: the first record that is refused with 4 alone in an image.
+pub fn malformed(image: Image<'_>, alloc: Global) -> Result<Option<Place>, AllocError> {
+    for k in 0..image.records() {
+        if let Some(record) = image.record_bytes(k) {
+            if is_malformed(record, alloc)? {
+                return Ok(Some(Place::from(usize::from(k))));
+            }
+        }
+    }
+    Ok(None)
+}
+
+// Question 6: the first Substitute, or Create with an environment.
+pub fn linearized(image: Image<'_>) -> Option<Place> {
+    for k in 0..image.records() {
+        match image.record(k) {
+            Some(
+                Record::Substitute { pairs: _ }
+                | Record::Create {
+                    environment: Some(_),
+                    ..
+                },
+            ) => return Some(Place::from(usize::from(k))),
+            _ => {}
+        }
+    }
+    None
 }

@@ -1,68 +1,186 @@
 // Questions 5 and 7 to 10: the records in their order, each with what is in scope there, up to the first that is the no.
-use crate::asking::ask;
-use crate::due::{Due, Dues};
+use crate::due::Due;
 use crate::place::Place;
-use crate::scope::Scope;
-use tool_listing::fields::records;
-use tool_listing::parts::{Record, id};
-use try_building::build::plus;
+use crate::refusal::Refusal;
+use std::alloc::{AllocError, Global};
+use try_building::image::Image;
+use try_building::record::{Bindings, Identifier, Record};
 
-#[derive(Clone, Copy)]
-pub struct Walk {
-    // How many definitions there were.
-    pub definitions: usize,
-    pub scope: Scope,
-    pub dues: Dues,
-    // The first no.
-    pub place: Place,
+// The most statements in depth, for questions 5 and 7.
+const DEEPEST: usize = 128;
+
+const DEEP: usize = 64;
+
+// The greatest count, and the most bindings in scope, for question 7.
+const COUNT: usize = 32;
+
+const BINDINGS: usize = 64;
+
+#[derive(Drop)]
+struct Walk {
+    question: Refusal,
+    // The record at hand.
+    record: usize,
+    // How many definitions the image has, and how many there were.
+    definitions: u16,
+    before: u16,
+    max_id: u16,
+    // The IDs in scope, in the order of binding.
+    scope: Vec<u16>,
+    // What is still to come, the next one last.
+    dues: Vec<Due>,
 }
 
-fn start() -> Walk {
-    Walk {
-        definitions: 0,
-        scope: Scope::empty(),
-        dues: Dues::none(),
-        place: Place::nowhere(),
+impl Walk {
+    // The record at hand as the no.
+    fn here(&self) -> Place {
+        Place::from(self.record)
     }
-}
 
-fn definitions(before: usize, kind: u8) -> usize {
-    if kind == 1 {
-        return plus(before, 1);
+    // A variable as the no, where its ID is that: in a binder for questions 8 and 10, and where it is used for question 9.
+    fn variable(&self, variable: Identifier) -> Option<Place> {
+        let id = variable.id;
+        let is_no = match self.question {
+            Refusal::Binders => self.scope.contains(&id),
+            Refusal::Scope => !self.scope.contains(&id),
+            Refusal::MaxId => self.max_id < id,
+            _ => false,
+        };
+        is_no.then_some(Place {
+            record: self.record,
+            id: Some(usize::from(id)),
+        })
     }
-    before
-}
 
-// What is due behind a record at a depth, with so many IDs in scope.
-fn opened(dues: Dues, image: &[u8], record: Record, depth: usize, scope: usize) -> Dues {
-    let variable = record.variable();
-    let body = Due::statement(depth, scope, variable != 0, id(image, variable));
-    let clauses = Due::clauses(depth, scope, record.clauses(image));
-    dues.with(body, record.bodies()).with_clauses(clauses)
-}
-
-fn step(w: Walk, image: &[u8], question: u32, k: usize) -> Walk {
-    let due = w.dues.last();
-    let record = Record::of(image, k);
-    let known = w.scope.back(due);
-    let place = ask(image, question, known, due, record, w.definitions);
-    let scope = known.with(image, record.parameters());
-    let left = w.dues.taken(due);
-    Walk {
-        definitions: definitions(w.definitions, record.kind),
-        scope,
-        dues: opened(left, image, record, due.below(), scope.len),
-        place,
+    // Question 5: is it not what is due, or one definition too many, or too deep?
+    fn is_misplaced(&self, due: Due, record: Record<'_>) -> bool {
+        if !due.takes(record) || DEEPEST < due.depth() {
+            return true;
+        }
+        due == Due::Definition && self.definitions <= self.before
     }
-}
 
-pub fn first(image: &[u8], question: u32) -> Place {
-    let mut w = start();
-    for k in 0..records(image) {
-        w = step(w, image, question, k);
-        if w.place.has_record {
-            return w.place;
+    // Question 7: is it too deep, or has a count that is too great, or more binders than there is room for in scope?
+    fn is_large(&self, due: Due, record: Record<'_>) -> bool {
+        let bound = record.parameters().len();
+        let binders = if record.variable().is_some() {
+            1
+        } else {
+            bound
+        };
+        DEEP < due.depth()
+            || COUNT < bound
+            || COUNT < record.arguments().len()
+            || COUNT < usize::from(record.clauses())
+            || BINDINGS < self.scope.len().saturating_add(binders)
+    }
+
+    // The first variable that is used and is the no.
+    fn used(&self, record: Record<'_>) -> Option<Place> {
+        let (first, second) = record.uses();
+        let single = [first, second];
+        for variable in single.into_iter().flatten() {
+            if let Some(place) = self.variable(variable) {
+                return Some(place);
+            }
+        }
+        for binding in record.arguments() {
+            if let Some(place) = self.variable(binding.variable) {
+                return Some(place);
+            }
+        }
+        None
+    }
+
+    // The no of a record, but for its parameters.
+    fn ask(&self, due: Due, record: Record<'_>) -> Option<Place> {
+        match self.question {
+            Refusal::Shape if self.is_misplaced(due, record) => Some(self.here()),
+            Refusal::Limits if self.is_large(due, record) => Some(self.here()),
+            Refusal::Scope => self.used(record),
+            Refusal::Binders | Refusal::MaxId => self.variable(record.variable()?),
+            _ => None,
         }
     }
-    w.place
+
+    // Binds parameters, one after the other, up to the first that is the no.
+    fn bind(&mut self, parameters: Bindings<'_>) -> Result<Option<Place>, AllocError> {
+        for binding in parameters {
+            if self.question != Refusal::Scope {
+                if let Some(place) = self.variable(binding.variable) {
+                    return Ok(Some(place));
+                }
+            }
+            self.scope.push(binding.variable.id)?;
+        }
+        Ok(None)
+    }
+
+    // What is due behind a record, which was due.
+    fn open(&mut self, due: Due, record: Record<'_>) -> Result<(), AllocError> {
+        let depth = due.depth();
+        let scope = self.scope.len();
+        let left = record.clauses();
+        let binds = record.variable().map(|variable| variable.id);
+        for _ in 0..record.bodies() {
+            self.dues.push(Due::Statement {
+                depth,
+                scope,
+                binds,
+            })?;
+        }
+        if 0 < left {
+            self.dues.push(Due::Clauses { depth, scope, left })?;
+        }
+        Ok(())
+    }
+
+    // The next record, and its no.
+    fn step(&mut self, record: Record<'_>) -> Result<Option<Place>, AllocError> {
+        let due = self.dues.pop().unwrap_or(Due::Definition);
+        if let Some(rest) = due.rest() {
+            self.dues.push(rest)?;
+        }
+        self.scope.truncate(due.scope());
+        if let Some(id) = due.binds() {
+            self.scope.push(id)?;
+        }
+        if let Some(place) = self.ask(due, record) {
+            return Ok(Some(place));
+        }
+        if let Some(place) = self.bind(record.parameters())? {
+            return Ok(Some(place));
+        }
+        if matches!(record, Record::Definition { .. }) {
+            self.before = self.before.saturating_add(1);
+        }
+        self.open(due, record)?;
+        Ok(None)
+    }
+}
+
+pub fn first(
+    image: Image<'_>,
+    question: Refusal,
+    alloc: Global,
+) -> Result<Option<Place>, AllocError> {
+    let mut walk = Walk {
+        question,
+        record: 0,
+        definitions: image.definitions(),
+        before: 0,
+        max_id: image.max_id(),
+        scope: Vec::new(alloc),
+        dues: Vec::new(alloc),
+    };
+    for k in 0..image.records() {
+        walk.record = usize::from(k);
+        if let Some(record) = image.record(k) {
+            let place = walk.step(record)?;
+            if place.is_some() {
+                return Ok(place);
+            }
+        }
+    }
+    Ok(None)
 }

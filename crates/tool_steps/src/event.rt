@@ -1,127 +1,146 @@
 // Events as lines. The words are those of the listing's line for the statement, with what the event shows in place of the variables.
-use crate::value::value;
-use tool_listing::book::name;
-use tool_listing::lists::comma;
-use tool_listing::page::{Page, Room, choose, put, say};
-use try_building::build::plus;
-use try_building::text::{byte, double, half, wide, word};
+use crate::value::Value;
+use std::io::{self, Write};
+use tool_listing::page::Page;
+use try_building::reader::Reader;
 
 // The bytes of an event without its argument values, and of each of these.
 const SLOT: usize = 16;
 
-// The most events in a buffer of 65,536 bytes.
-const MOST: usize = 4096;
-
-// The words before the first value, by the kind of the statement's record.
-fn front(page: Page, room: &mut Room, kind: u8) -> Page {
-    let words = b"\n\n\n\nlet \nswitch \ncreate \ninvoke \nlit <- \n<- \nif \n\nprint\nexit ";
-    choose(page, room, words, wide(kind))
+#[derive(Clone, Copy)]
+enum Event<'a> {
+    Call {
+        label: u16,
+    },
+    Let {
+        cell: Value,
+        tag: u16,
+    },
+    Switch {
+        cell: Value,
+        tag: u16,
+    },
+    Create {
+        cell: Value,
+    },
+    // The argument values of an outside number.
+    Invoke {
+        target: Value,
+        tag: u16,
+        arguments: Reader<'a>,
+    },
+    Literal(Value),
+    Op(Value),
+    IfC {
+        then: bool,
+    },
+    PrintI64 {
+        newline: bool,
+        value: Value,
+    },
+    Exit(Value),
 }
 
-// The label or the tag.
-fn tag(page: Page, room: &mut Room, book: &[u8], events: &[u8], at: usize) -> Page {
-    name(page, room, book, half(events, plus(at, 2)))
-}
-
-// The value in the last eight bytes, of a sort.
-fn shown(page: Page, room: &mut Room, events: &[u8], at: usize, sort: u8) -> Page {
-    value(page, room, sort, double(events, plus(at, 8)) as u64)
-}
-
-// n argument values from a place on, each as a slot.
-fn arguments(page: Page, room: &mut Room, events: &[u8], from: usize, n: usize) -> Page {
-    let mut next = page;
-    let mut at = from;
-    for j in 0..n {
-        let sort = byte(events, at);
-        next = shown(comma(next, room, j), room, events, at, sort);
-        at = plus(at, SLOT);
-    }
-    next
-}
-
-// How many argument values an event shows.
-fn count(events: &[u8], at: usize) -> usize {
-    word(events, plus(at, 4))
-}
-
-// The argument values of an Invoke of an outside number, which is sort 2; nothing behind any other.
-fn outside(page: Page, room: &mut Room, events: &[u8], at: usize, sort: u8) -> Page {
-    if sort != 2 {
-        return page;
-    }
-    let open = put(page, room, b'(');
-    let told = arguments(open, room, events, plus(at, SLOT), count(events, at));
-    put(told, room, b')')
-}
-
-// A cell and the tag that is put into it.
-fn letting(page: Page, room: &mut Room, book: &[u8], events: &[u8], at: usize, sort: u8) -> Page {
-    let cell = shown(page, room, events, at, sort);
-    tag(say(cell, room, b" = "), room, book, events, at)
-}
-
-// A cell or an outside number, the tag, and argument values.
-fn entering(page: Page, room: &mut Room, book: &[u8], events: &[u8], at: usize, sort: u8) -> Page {
-    let target = shown(page, room, events, at, sort);
-    let tagged = tag(put(target, room, b' '), room, book, events, at);
-    outside(tagged, room, events, at, sort)
-}
-
-// The integer that a PrintI64 shows, behind the rest of its word.
-fn printing(page: Page, room: &mut Room, events: &[u8], at: usize, newline: u8) -> Page {
-    let open = choose(page, room, b"_i64(\nln_i64(", wide(newline));
-    put(shown(open, room, events, at, 0), room, b')')
-}
-
-// What stands behind the words of an event of a kind, whose second byte is this.
-fn back(
-    page: Page,
-    room: &mut Room,
-    book: &[u8],
-    events: &[u8],
-    at: usize,
-    kind: u8,
-    second: u8,
-) -> Page {
-    match kind {
-        3 => say(tag(page, room, book, events, at), room, b"()"),
-        4 => letting(page, room, book, events, at, second),
-        5 | 7 => entering(page, room, book, events, at, second),
-        10 => choose(page, room, b"else\nthen", wide(second)),
-        12 => printing(page, room, events, at, second),
-        _ => shown(page, room, events, at, second),
+impl<'a> Event<'a> {
+    fn read(reader: &mut Reader<'a>) -> Option<Event<'a>> {
+        let kind = reader.byte()?;
+        let second = reader.byte()?;
+        let tag = reader.half()?;
+        let count = reader.word()? as usize;
+        let bits = reader.double()?;
+        let value = Value::of(second, bits);
+        let arguments = Reader::new(reader.take(SLOT * count)?);
+        Some(match kind {
+            3 => Event::Call { label: tag },
+            4 => Event::Let { cell: value, tag },
+            5 => Event::Switch { cell: value, tag },
+            6 => Event::Create { cell: value },
+            7 => Event::Invoke {
+                target: value,
+                tag,
+                arguments,
+            },
+            8 => Event::Literal(value),
+            9 => Event::Op(value),
+            10 => Event::IfC { then: second == 1 },
+            12 => Event::PrintI64 {
+                newline: second == 1,
+                value: Value::of(0, bits),
+            },
+            _ => Event::Exit(value),
+        })
     }
 }
 
-// The line of the event at a place, and its end.
-fn line(page: Page, room: &mut Room, book: &[u8], events: &[u8], at: usize) -> Page {
-    let kind = byte(events, at);
-    let begun = front(page, room, kind);
-    let second = byte(events, plus(at, 1));
-    let told = back(begun, room, book, events, at, kind, second);
-    put(told, room, b'\n')
+// The value of a slot.
+fn argument(reader: &mut Reader<'_>) -> Option<Value> {
+    let sort = reader.byte()?;
+    reader.take(7)?;
+    Some(Value::of(sort, reader.double()?))
 }
 
-// The place of the event behind the one at a place.
-fn behind(events: &[u8], at: usize) -> usize {
-    let n = count(events, at);
-    if n < MOST {
-        return plus(at, SLOT + SLOT * n);
-    }
-    plus(at, SLOT)
-}
-
-// The lines of the events in the first n bytes.
-pub fn lines(page: Page, room: &mut Room, book: &[u8], events: &[u8], n: usize) -> Page {
-    let mut next = page;
-    let mut at = 0;
-    for _ in 0..MOST {
-        if n <= at {
-            return next;
+fn arguments(page: &mut Page<'_>, mut slots: Reader<'_>) -> io::Result<()> {
+    page.say("(")?;
+    for j in 0..slots.rest().len() / SLOT {
+        if let Some(value) = argument(&mut slots) {
+            page.comma(j)?;
+            write!(page, "{value}")?;
         }
-        next = line(next, room, book, events, at);
-        at = behind(events, at);
     }
-    next
+    page.say(")")
+}
+
+fn line(page: &mut Page<'_>, event: Event<'_>) -> io::Result<()> {
+    match event {
+        Event::Call { label } => {
+            page.name(label)?;
+            page.say("()")
+        }
+        Event::Let { cell, tag } => {
+            write!(page, "let {cell} = ")?;
+            page.name(tag)
+        }
+        Event::Switch { cell, tag } => {
+            write!(page, "switch {cell} ")?;
+            page.name(tag)
+        }
+        Event::Create { cell } => write!(page, "create {cell}"),
+        Event::Invoke {
+            target,
+            tag,
+            arguments: slots,
+        } => {
+            write!(page, "invoke {target} ")?;
+            page.name(tag)?;
+            match target {
+                Value::Outside(_) => arguments(page, slots),
+                _ => Ok(()),
+            }
+        }
+        Event::Literal(value) => write!(page, "lit <- {value}"),
+        Event::Op(value) => write!(page, "<- {value}"),
+        Event::IfC { then } => page.say(if then { "if then" } else { "if else" }),
+        Event::PrintI64 { newline, value } => {
+            page.say(if newline {
+                "println_i64("
+            } else {
+                "print_i64("
+            })?;
+            write!(page, "{value})")
+        }
+        Event::Exit(value) => write!(page, "exit {value}"),
+    }
+}
+
+// The lines of events.
+pub fn lines(page: &mut Page<'_>, events: &[u8]) -> io::Result<()> {
+    let mut reader = Reader::new(events);
+    for _ in 0..events.len() / SLOT {
+        let Some(event) = Event::read(&mut reader) else {
+            break;
+        };
+        line(page, event)?;
+        page.say("\n")?;
+    }
+    Ok(())
 }

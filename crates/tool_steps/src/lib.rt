@@ -12,12 +12,11 @@
 // A value is an integer, cell: and the number of a cell, or outside: and an outside number. Names are those of a listing.
 #![tactic(auto)]
 
-pub mod calls;
-pub mod cells;
 pub mod event;
+pub mod machine;
 pub mod run;
 pub mod scope;
-pub mod slots;
 pub mod standing;
 pub mod state;
+pub mod store;
 pub mod value;

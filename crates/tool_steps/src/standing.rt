@@ -1,58 +1,41 @@
 // How a run stands: what its last line says.
-use crate::calls::step;
-use crate::state::{has_ended, has_stopped};
-use std::io::Error;
-use tool_listing::page::{Output, Page, Room, choose, decimal, finish, put};
+use crate::machine::{Machine, Made};
+use crate::store::Store;
+use std::fmt;
 
-// By the lines of `line`.
-const GOES_ON: usize = 0;
-
-const ENDED: usize = 1;
-
-const STOPPED: usize = 2;
-
-const STUCK: usize = 3;
-
-const NO_ROOM: usize = 4;
-
-// Where no flag is set, a step is tried.
-fn standing(linear: bool, image: &[u8], store: &mut [u8], events: &mut [u8]) -> usize {
-    if has_ended(store) {
-        return ENDED;
-    }
-    if has_stopped(store) {
-        return STOPPED;
-    }
-    let called = step(linear, image, 1, store, events);
-    if called.made != 0 {
-        return GOES_ON;
-    }
-    if called.number != 0 {
-        return NO_ROOM;
-    }
-    STUCK
+#[derive(Clone, Copy, Debug, PartialEq, Eq)]
+pub enum Standing {
+    GoesOn,
+    Ended,
+    Stopped,
+    Stuck,
+    NoRoom,
 }
 
-fn line(page: Page, room: &mut Room, made: u64, stands: usize) -> Page {
-    let counted = decimal(page, room, made);
-    let many = (made != 1) as usize;
-    let told = choose(counted, room, b" step, \n steps, ", many);
-    let words = b"can go on\nended\nstopped\nstuck\nno room for the next one";
-    put(choose(told, room, words, stands), room, b'\n')
+impl Standing {
+    // The store is one whose bytes are kept elsewhere: where no flag is set, the next step is tried in it.
+    pub fn of(machine: Machine, image: &[u8], store: &mut [u8]) -> Standing {
+        match Store::of(store) {
+            Some(state) if state.has_ended => return Standing::Ended,
+            Some(state) if state.has_stopped => return Standing::Stopped,
+            _ => {}
+        }
+        match machine.step(image, 1, store, &mut io::large_buffer()) {
+            Ok(Made { steps: 0, .. }) => Standing::Stuck,
+            Ok(_) => Standing::GoesOn,
+            Err(_) => Standing::NoRoom,
+        }
+    }
 }
 
-// Writes how many steps were made and how the run stands, and answers why that is not written, if it is not. The store is one whose bytes
-// are kept elsewhere: the next step is tried in it.
-pub fn tell(
-    output: Output,
-    linear: bool,
-    image: &[u8],
-    store: &mut [u8],
-    made: u64,
-) -> Option<Error> {
-    let mut events = io::large_buffer();
-    let stands = standing(linear, image, store, &mut events);
-    let mut room = Room::new(output);
-    let told = line(Page::start(), &mut room, made, stands);
-    finish(told, &mut room)
+impl fmt::Display for Standing {
+    fn fmt<W: fmt::Write>(&self, f: &mut fmt::Formatter<W>) -> fmt::Result {
+        f.write_str(match self {
+            Standing::GoesOn => "can go on",
+            Standing::Ended => "ended",
+            Standing::Stopped => "stopped",
+            Standing::Stuck => "stuck",
+            Standing::NoRoom => "no room for the next one",
+        })
+    }
 }

@@ -1,84 +1,146 @@
 // States as text: the statement at hand, the flags, the environment and the cells.
-use crate::cells;
-use crate::cells::entry;
-use crate::slots::{cell_slots, entries, position, slot};
-use std::io::Error;
-use tool_listing::fields::begin;
-use tool_listing::line::line;
-use tool_listing::page::{Output, Page, Room, choose, decimal, finish, put, say};
-use try_building::build::plus;
-use try_building::text::{byte, wide};
+use crate::scope::innermost;
+use crate::store::{Slot, Store};
+use std::io::{self, Write};
+use tool_listing::page::Page;
+use try_building::image::Image;
+use try_building::record::Record;
 
-// Are the ended flag and the stopped flag set?
-pub fn has_ended(store: &[u8]) -> bool {
-    byte(store, 4) != 0
+#[derive(Drop)]
+struct State<'p, 'b, 'i> {
+    page: &'p mut Page<'b>,
+    image: Image<'i>,
+    store: Store<'i>,
 }
 
-pub fn has_stopped(store: &[u8]) -> bool {
-    byte(store, 5) != 0
-}
-
-// The line of the statement at hand, and the index of its record, as a listing has them.
-fn statement(page: Page, room: &mut Room, book: &[u8], image: &[u8], k: usize) -> Page {
-    let at = begin(image, k);
-    let kind = byte(image, at);
-    let told = line(page, room, book, image, false, at, kind);
-    let indexed = decimal(say(told, room, b"  // "), room, k as u64);
-    put(indexed, room, b'\n')
-}
-
-fn flags(page: Page, room: &mut Room, store: &[u8]) -> Page {
-    let words = b"flags: none\nflags: ended\nflags: stopped\nflags: ended, stopped";
-    let ended = has_ended(store) as usize;
-    let stopped = has_stopped(store) as usize;
-    let told = choose(page, room, words, plus(ended, plus(stopped, stopped)));
-    put(told, room, b'\n')
-}
-
-// The line of the entry in slot k.
-fn entry_line(
-    page: Page,
-    room: &mut Room,
-    book: &[u8],
-    image: &[u8],
-    store: &[u8],
-    k: usize,
-) -> Page {
-    let begun = say(page, room, b"  ");
-    let told = entry(begun, room, book, image, store, position(store), slot(k));
-    put(told, room, b'\n')
-}
-
-fn entry_lines(page: Page, room: &mut Room, book: &[u8], image: &[u8], store: &[u8]) -> Page {
-    let mut next = page;
-    let first = cell_slots(store);
-    for k in first..plus(first, entries(store)) {
-        next = entry_line(next, room, book, image, store, k);
+impl State<'_, '_, '_> {
+    // The line of the statement at hand, and the index of its record, as a listing has them.
+    fn statement(&mut self) -> io::Result<()> {
+        let position = self.store.position;
+        if let Some(record) = record_at(self.image, position) {
+            self.page.line(record, false)?;
+        }
+        writeln!(self.page, "  // {position}")
     }
-    next
+
+    fn flags(&mut self) -> io::Result<()> {
+        self.page
+            .say(match (self.store.has_ended, self.store.has_stopped) {
+                (false, false) => "flags: none\n",
+                (true, false) => "flags: ended\n",
+                (false, true) => "flags: stopped\n",
+                (true, true) => "flags: ended, stopped\n",
+            })
+    }
+
+    // The variable of an ID around a record, or the ID alone where none has it.
+    fn named(&mut self, position: u32, id: u32) -> io::Result<()> {
+        match innermost(self.image, position, id) {
+            Some(variable) => self.page.variable(variable),
+            None => write!(self.page, "_{id}"),
+        }
+    }
+
+    fn held(&mut self, slot: Slot) -> io::Result<()> {
+        write!(self.page, "{}", self.store.value(slot))
+    }
+
+    // An entry, with the variable that it is around a record.
+    fn entry(&mut self, slot: Slot, position: u32) -> io::Result<()> {
+        if let Slot::Held { id, .. } = slot {
+            self.named(position, id)?;
+        }
+        self.page.say(" = ")?;
+        self.held(slot)
+    }
+
+    fn environment(&mut self) -> io::Result<()> {
+        self.page.say("environment:\n")?;
+        let entries = self.store.entries;
+        for k in 0..entries.len() {
+            if let Some(slot) = entries.get(k) {
+                self.page.say("  ")?;
+                self.entry(slot, self.store.position)?;
+                self.page.say("\n")?;
+            }
+        }
+        Ok(())
+    }
+
+    // The tag of a cell that a Let made, or create and the variable of the Create's record.
+    fn maker(&mut self, own: Slot) -> io::Result<()> {
+        match own {
+            Slot::Let { tag, .. } => match u16::try_from(tag) {
+                Ok(tag) => self.page.name(tag),
+                Err(_) => write!(self.page, "n{tag}"),
+            },
+            Slot::Create { record, .. } => {
+                self.page.say("create ")?;
+                if let Some(Record::Create { variable, .. }) = record_at(self.image, record) {
+                    self.page.variable(variable)?;
+                }
+                self.page.say(" ")
+            }
+            Slot::Held { .. } => Ok(()),
+        }
+    }
+
+    // What a cell holds: the slots from a place on, up to the next cell's own. That of a Create has entries.
+    fn contents(&mut self, own: Slot, from: usize) -> io::Result<()> {
+        let cells = self.store.cells;
+        for k in from..cells.len() {
+            let Some(slot @ Slot::Held { .. }) = cells.get(k) else {
+                break;
+            };
+            self.page.comma(k - from)?;
+            match own {
+                Slot::Create { record, .. } => self.entry(slot, record)?,
+                _ => self.held(slot)?,
+            }
+        }
+        Ok(())
+    }
+
+    // A cell whose contents are from a place on. Behind one that a Create made comes the index of its record.
+    fn cell(&mut self, own: Slot, from: usize) -> io::Result<()> {
+        self.page.say("  ")?;
+        self.held(own)?;
+        self.page.say(" = ")?;
+        self.maker(own)?;
+        self.page.say("(")?;
+        self.contents(own, from)?;
+        self.page.say(")")?;
+        if let Slot::Create { record, .. } = own {
+            write!(self.page, "  // {record}")?;
+        }
+        self.page.say("\n")
+    }
+
+    fn cells(&mut self) -> io::Result<()> {
+        self.page.say("cells:\n")?;
+        let cells = self.store.cells;
+        for k in 0..cells.len() {
+            if let Some(own @ (Slot::Let { .. } | Slot::Create { .. })) = cells.get(k) {
+                self.cell(own, k + 1)?;
+            }
+        }
+        Ok(())
+    }
 }
 
-// A word on a line of its own.
-fn heading(page: Page, room: &mut Room, word: &[u8]) -> Page {
-    put(say(page, room, word), room, b'\n')
+fn record_at(image: Image<'_>, place: u32) -> Option<Record<'_>> {
+    image.record(u16::try_from(place).ok()?)
 }
 
-fn environment(page: Page, room: &mut Room, book: &[u8], image: &[u8], store: &[u8]) -> Page {
-    let open = heading(page, room, b"environment:");
-    entry_lines(open, room, book, image, store)
-}
-
-fn state(page: Page, room: &mut Room, book: &[u8], image: &[u8], store: &[u8]) -> Page {
-    let stated = statement(page, room, book, image, position(store));
-    let flagged = flags(stated, room, store);
-    let told = environment(flagged, room, book, image, store);
-    let open = heading(told, room, b"cells:");
-    cells::lines(open, room, book, image, store)
-}
-
-// Writes the state that a store begins with, and answers why something is not written, if it is not.
-pub fn show(output: Output, book: &[u8], image: &[u8], store: &[u8]) -> Option<Error> {
-    let mut room = Room::new(output);
-    let told = state(Page::start(), &mut room, book, image, store);
-    finish(told, &mut room)
+// Writes the state that a store begins with.
+pub fn show(page: &mut Page<'_>, image: &[u8], store: Store<'_>) -> io::Result<()> {
+    let mut state = State {
+        page,
+        image: Image::new(image),
+        store,
+    };
+    state.statement()?;
+    state.flags()?;
+    state.environment()?;
+    state.cells()
 }

@@ -1,16 +1,31 @@
 // Values as text.
-use tool_listing::page::{Page, Room, decimal, say, signed};
+use std::fmt;
 
-// The sorts of a value.
-pub const INTEGER: u8 = 0;
+// A cell is shown by its number.
+#[derive(Clone, Copy, Debug, PartialEq, Eq)]
+pub enum Value {
+    Integer(i64),
+    Cell(u64),
+    Outside(u64),
+}
 
-pub const CELL: u8 = 1;
+impl Value {
+    // The value of a sort with these bits.
+    pub fn of(sort: u8, bits: u64) -> Value {
+        match sort {
+            0 => Value::Integer(bits.cast_signed()),
+            1 => Value::Cell(bits),
+            _ => Value::Outside(bits),
+        }
+    }
+}
 
-// A value of a sort. A cell is shown by its number.
-pub fn value(page: Page, room: &mut Room, sort: u8, bits: u64) -> Page {
-    match sort {
-        INTEGER => signed(page, room, bits),
-        CELL => decimal(say(page, room, b"cell:"), room, bits),
-        _ => decimal(say(page, room, b"outside:"), room, bits),
+impl fmt::Display for Value {
+    fn fmt<W: fmt::Write>(&self, f: &mut fmt::Formatter<W>) -> fmt::Result {
+        match *self {
+            Value::Integer(n) => write!(f, "{n}"),
+            Value::Cell(n) => write!(f, "cell:{n}"),
+            Value::Outside(n) => write!(f, "outside:{n}"),
+        }
     }
 }

@@ -1,9 +1,0 @@
--- `tool_finding::asking::in_list` is safe and ends: the bindings that are left fall. Assumes nothing.
-use Prim.Native.Nat.{◌-◌}
-use Rattle.tool_finding.proofs.asking.in_list.Given as goal
-
-abbrev pub invariant-loop-j : goal.invariant-loop-j
-invariant-loop-j l = Unit {0}
-
-abbrev pub decreases-loop-j : goal.decreases-loop-j
-decreases-loop-j l = l.j-end - l.j
