@@ -2,7 +2,14 @@
 -- Assumes nothing.
 use Prim.Native.Nat.{ℕ, zero, suc, ◌+◌, ◌*◌, ◌^◌, ◌≤◌, ◌<◌}
 use mathlib.Core.List.{List, [], ◌∷◌, ◌++◌, append_assoc}
-use mathlib.Core.Option.{some}
+use mathlib.Core.Bool.{not}
+use mathlib.Core.Option.{some, none}
+use lib.Dec.{eqb}
+use Rattle.std.specs.Prelude.{Result, Ok, Err, slice_get}
+use Rattle.std.specs.Result.{result_unwrap_or}
+use Rattle.syntax.specs.Options.{option_of}
+use Rattle.syntax.specs.Codes.{Decodes}
+use Rattle.syntax.specs.declared.codes.NoCode.{NoCode}
 use mathlib.Core.Path.{◌≡◌, refl, ap, sym, ◌∙◌, subst}
 use native.Mathlib.Omega.{arith}
 use lib.ListN.{length, drop, get_or, length-append, length-drop, take-append-drop}
@@ -17,7 +24,7 @@ use Rattle.syntax.specs.declared.types.Ty.TheVariants.{I64, Decl}
 use Rattle.syntax.specs.declared.context.Chirality.{Chirality}
 use Rattle.syntax.specs.declared.context.Chirality.TheVariants.{Prd, Cns, Ext}
 use Rattle.image_spec.specs.Parse.{got, number, field, numbered}
-use Rattle.image_spec.specs.Fields.{chiralities, chirality_code_lem, integer_bytes, identifier_bytes, type_bytes, binding_bytes, IdentifierOk, TypeOk, BindingOk}
+use Rattle.image_spec.specs.Fields.{chiralities, newlines, chirality_code_lem, integer_bytes, identifier_bytes, type_bytes, binding_bytes, IdentifierOk, TypeOk, BindingOk}
 use Rattle.image_spec.specs.Records.{Record, record_bytes, RecordOk}
 use Rattle.image_spec.specs.Kinds.{kind_of}
 use Rattle.image_spec.proofs.ParseLaws.{Sound, one-read, number_exact}
@@ -52,24 +59,28 @@ number-below w l n m e = ok (subst (Sound (field w) (λ n. n < 256 ^ w) l) e ((n
 number-run : (l m k : List ℕ) (w n v : ℕ) → l ≡ field w n ++ m → n < 256 ^ w → number w l ≡ got v k → v ≡ n
 number-run l m k w n v e h q = let x : number w l ≡ got n m = ap (number w) e ∙ (number_exact w).left n h m in cc (x, q)
 
-pub code_is : {A : Type 0} {vs : List A} {b : ℕ} {r : A} → numbered vs b ≡ some r → IsCode vs b r
-code_is e = record { is = λ a h. cc (e, h) }
+-- what decodes is the value with that number
+numbered-get : {A : Type 0} (vs : List A) (b : ℕ) → numbered vs b ≡ option_of (slice_get vs b)
+numbered-get [] b = refl
+numbered-get (a ∷ vs) zero = refl
+numbered-get (a ∷ vs) (suc b) = numbered-get vs b
 
-pub code_at : {A : Type 0} {vs : List A} {b : ℕ} {r : A} (k : ℕ) → b ≡ k → numbered vs k ≡ some r → IsCode vs b r
-code_at {vs = vs} k e h = code_is (ap (numbered vs) e ∙ h)
+numbered-none : {A : Type 0} (vs : List A) (b : ℕ) → length vs ≤ b → numbered vs b ≡ none
+numbered-none [] b h = refl
+numbered-none (a ∷ vs) zero h = absurd (omega arith)
+numbered-none (a ∷ vs) (suc b) h = numbered-none vs b (omega arith)
 
--- past the codes before the last, the last is the only one
-pub code-last : {A : Type 0} {vs : List A} {b : ℕ} {r : A} (k : ℕ) → length vs ≡ suc k → k ≤ b → numbered vs k ≡ some r → IsCode vs b r
-code-last {A} {vs} {b} {r} k n h e = go vs k b n h e
-  where
-    go : (vs : List A) (k b : ℕ) → length vs ≡ suc k → k ≤ b → numbered vs k ≡ some r → IsCode vs b r
-    go [] k b n h e = absurd (omega arith)
-    go (a ∷ []) zero zero n h e = code_is e
-    go (a ∷ []) zero (suc b) n h e = record { is = λ c q. let z : ◌≡◌ {A = ℕ} 0 1 = cc (q) in absurd (omega arith) }
-    go (a ∷ []) (suc k) b n h e = absurd (omega arith)
-    go (a ∷ c ∷ vs) zero b n h e = absurd (omega arith)
-    go (a ∷ c ∷ vs) (suc k) zero n h e = absurd (omega arith)
-    go (a ∷ c ∷ vs) (suc k) (suc b) n h e = record { is = (go (c ∷ vs) k b (omega arith) (omega arith) e).is }
+pub decoded : {A : Type 0} (vs : List A) (b : ℕ) {a : A} (r : Result A NoCode) → Decodes vs b r → numbered vs b ≡ some a → r ≡ Ok a
+decoded vs b (Ok x) d e = let q = numbered-get vs b ∙ ap option_of d in cc (e, q)
+decoded vs b (Err x) d e = let q = numbered-none vs b d.1 in cc (e, q)
+
+pub decoded_or : {A : Type 0} (vs : List A) (b : ℕ) (r : Result A NoCode) (d : A) → Decodes vs b r → IsCode vs b (result_unwrap_or r d)
+decoded_or {A} vs b r d h = record { is = λ a e. ap (λ (x : Result A NoCode). result_unwrap_or x d) (decoded vs b r h e) }
+
+pub newline-code : (b : ℕ) → IsCode newlines b (not (eqb b 0))
+newline-code zero = record { is = λ a e. cc (e) }
+newline-code (suc zero) = record { is = λ a e. cc (e) }
+newline-code (suc (suc b)) = record { is = λ a e. cc (e) }
 
 -- ---- eight bytes, signed
 

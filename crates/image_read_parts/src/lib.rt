@@ -4,7 +4,7 @@
 ghost use Rattle.std.specs.Prelude.{◌≡◌, ◌∷◌, [], ℕ, ◌+◌, ◌*◌, ◌≤◌, ◌<◌, ◌^◌, length, drop, get_or};
 ghost use Rattle.std.specs.Int.{w64};
 ghost use Rattle.std.proofs.Common.{SFits};
-ghost use Rattle.image_spec.specs.Fields.{chiralities, operators, sorts, newlines, integer_bytes, identifier_bytes, type_bytes, binding_bytes, IdentifierOk, TypeOk, BindingOk};
+ghost use Rattle.image_spec.specs.Fields.{newlines, integer_bytes, identifier_bytes, type_bytes, binding_bytes, IdentifierOk, TypeOk, BindingOk};
 ghost use Rattle.image_spec.specs.Records.{record_bytes, RecordOk};
 ghost use Rattle.image_directory.specs.Slots.{Ready, records_in};
 ghost use Rattle.syntax.specs.Context.{empty_binding};
@@ -16,9 +16,7 @@ use image_fields::number;
 use image_integers::from_bits;
 use image_kinds::kinds::Kind;
 use syntax::context::{Chirality, ContextBinding};
-use syntax::ifc::IfSort;
 use syntax::names::{Identifier, Name, VarId};
-use syntax::op::BinOp;
 use syntax::types::Ty;
 
 // An identifier whose ID has w bytes.
@@ -43,64 +41,21 @@ pub fn type_at(image: &[u8], w: usize, at: usize) -> Ty
     Ty::Decl(x)
 }
 
-pub fn chirality_of(b: u8) -> Chirality
-    ensures { IsCode chiralities b result }
-{
-    match b {
-        0 => Chirality::Prd,
-        1 => Chirality::Cns,
-        _ => Chirality::Ext,
-    }
-}
-
-pub fn operator_of(b: u8) -> BinOp
-    ensures { IsCode operators b result }
-{
-    match b {
-        0 => BinOp::Div,
-        1 => BinOp::Prod,
-        2 => BinOp::Rem,
-        3 => BinOp::Sum,
-        _ => BinOp::Sub,
-    }
-}
-
-pub fn sort_of(b: u8) -> IfSort
-    ensures { IsCode sorts b result }
-{
-    match b {
-        0 => IfSort::Equal,
-        1 => IfSort::NotEqual,
-        2 => IfSort::Less,
-        3 => IfSort::LessOrEqual,
-        4 => IfSort::Greater,
-        _ => IfSort::GreaterOrEqual,
-    }
-}
-
 pub fn newline_of(b: u8) -> bool
     ensures { IsCode newlines b result }
 {
-    match b {
-        0 => false,
-        _ => true,
-    }
+    b != 0
 }
 
+// (That the chirality's byte is a code is not asked of a caller.)
 pub fn binding_at(image: &[u8], w: usize, at: usize) -> ContextBinding
     requires { Room w at (6 + (w + w)) image.now }
     ensures { ReadsAs (binding_bytes w) (BindingOk w) image.now at result }
 {
     let var = identifier_at(image, w, at);
-    let chi = chirality_of(image[at + (2 + w)]);
+    let chi = Chirality::try_from(image[at + (2 + w)]).unwrap_or(Chirality::Ext);
     let ty = type_at(image, w, at + (3 + w));
     ContextBinding { var, chi, ty }
-}
-
-fn joined(low: u32, high: u32) -> u64
-    ensures { result ≡ low + 256 ^ 4 * high }
-{
-    low as u64 + 4294967296 * (high as u64)
 }
 
 // A signed number of eight bytes.
@@ -110,7 +65,7 @@ pub fn integer_at(image: &[u8], at: usize) -> i64
 {
     let low = number(image, at, 4);
     let high = number(image, at + 4, 4);
-    from_bits(joined(low, high))
+    from_bits(u64::from(low) + 4294967296 * u64::from(high))
 }
 
 // Where the bytes of the record at index i begin.

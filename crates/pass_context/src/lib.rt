@@ -1,11 +1,13 @@
 // The context at work: up to 64 entries by value with a count, and what the rules do to it.
 #![tactic(auto)]
 
-ghost use Rattle.std.specs.Prelude.{◌≡◌, ◌∷◌, [], ◌++◌, ◌+◌, ◌≤◌, ◌<◌};
+ghost use Rattle.std.specs.Prelude.{◌≡◌, map, ◌∷◌, [], ◌++◌, ◌+◌, ◌≤◌, ◌<◌};
 ghost use Rattle.syntax.specs.Context.{ids, same_context};
+ghost use Rattle.syntax.specs.Options.{option_of};
 ghost use Rattle.syntax.specs.Arrays.{context_of, Holds, SetHolds};
-ghost use Rattle.pass_work_spec.specs.Work.{bindings, own, owns, used, used_all_lem, moved_behind, respelled};
+ghost use Rattle.pass_work_spec.specs.Work.{bindings, entry_of, own, owns, used, used_all_lem, moved_behind, respelled};
 ghost use Rattle.pass_context.specs.Holding.{work_of, HoldsWork};
+ghost use Rattle.pass_entries.specs.Entries.{entry_in};
 ghost use Rattle.pass_entries.specs.Masks.{kept_by_mask, with_places_lem};
 
 use pass_entries::entries::{FlatEntry, flat, owned, respell, spelled, used_binding};
@@ -19,6 +21,18 @@ use syntax::sets::IdSet;
 pub struct Held {
     pub entries: [FlatEntry; TypingContext::MAX],
     pub len: usize,
+}
+
+// The entry that stands for a variable of the source, if one does.
+fn entry_of(entries: &[FlatEntry], id: VarId) -> Option<Entry>
+    ensures { option_of result ≡ entry_of id (map entry_in entries.now) }
+{
+    for e in entries {
+        if id == e.source {
+            return Some(e.entry());
+        }
+    }
+    None
 }
 
 impl Held {
@@ -54,15 +68,12 @@ impl Held {
         requires { self.len ≤ 64 }
         ensures { result ≡ with_places_lem fst snd (work_of self) mask }
     {
-        let n = self.len;
         let mut places = mask;
-        let mut i = 0;
-        while i < n {
+        for i in 0..self.len {
             let e = self.entries[i];
-            if e.source.same(fst) || e.source.same(snd) {
+            if e.source == fst || e.source == snd {
                 places = with_bit(places, e.place);
             }
-            i += 1;
         }
         places
     }
@@ -81,8 +92,7 @@ impl Held {
                 i += 1;
             } else {
                 n -= 1;
-                let last = out.entries[n];
-                out.entries[i] = last;
+                out.entries[i] = out.entries[n];
             }
         }
         out.len = n;
@@ -93,15 +103,11 @@ impl Held {
         requires { self.len ≤ 64 }
         ensures { Holds result (bindings (work_of self)) }
     {
-        let n = self.len;
         let mut out = TypingContext::empty();
-        let mut i = 0;
-        while i < n {
-            let e = self.entries[i];
-            out.bindings[i] = e.flat_binding();
-            i += 1;
+        for i in 0..self.len {
+            out.bindings[i] = self.entries[i].flat_binding();
         }
-        out.len = n;
+        out.len = self.len;
         out
     }
 
@@ -110,16 +116,11 @@ impl Held {
         requires { self.len ≤ 64 }
         ensures { SetHolds result (ids (bindings (work_of self))) }
     {
-        let n = self.len;
         let mut out = IdSet::empty();
-        let mut i = 0;
-        while i < n {
-            let e = self.entries[i];
-            let id = e.id;
-            out.ids[i] = id;
-            i += 1;
+        for i in 0..self.len {
+            out.ids[i] = self.entries[i].id;
         }
-        out.len = n;
+        out.len = self.len;
         out
     }
 
@@ -128,44 +129,24 @@ impl Held {
         requires { self.len ≤ 64 }
         ensures { result ≡ used (work_of self) x }
     {
-        let n = self.len;
-        let id = x.id;
-        let mut i = 0;
-        while i < n {
-            let e = self.entries[i];
-            if id.same(e.source) {
-                return spelled(e.entry(), x);
-            }
-            i += 1;
+        match entry_of(&self.entries[..self.len], x.id) {
+            Some(e) => spelled(e, x),
+            None => x,
         }
-        x
     }
 
-    // The arguments as they are written. For the i-th the entries from j on are left to look at.
+    // The arguments as they are written.
     pub fn used_all(self, args: TypingContext) -> TypingContext
         requires { (self.len ≤ 64) × (args.len ≤ 64) }
         ensures { Holds result (used_all_lem (work_of self) (context_of args)) }
     {
-        let m = self.len;
-        let n = args.len;
         let mut out = args;
-        let mut i = 0;
-        let mut j = 0;
-        while i < n {
-            if j < m {
-                let b = out.bindings[i];
-                let e = self.entries[j];
-                if b.id.same(e.source) {
-                    out.bindings[i] = used_binding(e.entry(), b.binding()).flat();
-                    i += 1;
-                    j = 0;
-                } else {
-                    j += 1;
-                }
-            } else {
-                i += 1;
-                j = 0;
-            }
+        for i in 0..args.len {
+            let b = args.bindings[i];
+            out.bindings[i] = match entry_of(&self.entries[..self.len], b.id) {
+                Some(e) => used_binding(e, b.binding()).flat(),
+                None => b,
+            };
         }
         out
     }
@@ -180,24 +161,15 @@ impl Held {
         if n != k + back.len {
             return false;
         }
-        let mut i = 0;
-        while i < n {
-            let e = self.entries[i];
-            let a = e.flat_binding().binding();
-            if i < k {
-                let b = front.bindings[i];
-                if a.same(b.binding()) {
-                    i += 1;
-                } else {
-                    return false;
-                }
+        for i in 0..n {
+            let a = self.entries[i].flat_binding();
+            let b = if i < k {
+                front.bindings[i]
             } else {
-                let b = back.bindings[i - k];
-                if a.same(b.binding()) {
-                    i += 1;
-                } else {
-                    return false;
-                }
+                back.bindings[i - k]
+            };
+            if a.binding() != b.binding() {
+                return false;
             }
         }
         true
@@ -211,17 +183,12 @@ impl Held {
         let n = self.len;
         let k = n - j;
         let mut out = self;
-        let mut i = 0;
-        while i < n {
-            if i < k {
-                let e = self.entries[i + j];
-                out.entries[i] = e;
-                i += 1;
+        for i in 0..n {
+            out.entries[i] = if i < k {
+                self.entries[i + j]
             } else {
-                let e = self.entries[i - k];
-                out.entries[i] = e;
-                i += 1;
-            }
+                self.entries[i - k]
+            };
         }
         out
     }
@@ -231,19 +198,12 @@ impl Held {
         requires { (self.len + params.len ≤ 64) × (n + params.len < 256) }
         ensures { HoldsWork result (work_of self ++ owns n (context_of params)) }
     {
-        let count = params.len;
         let mut out = self;
-        let mut at = self.len;
-        let mut place = n;
-        let mut i = 0;
-        while i < count {
+        for i in 0..params.len {
             let b = params.bindings[i];
-            out.entries[at] = flat(owned(place, b.binding()));
-            at += 1;
-            place += 1;
-            i += 1;
+            out.entries[self.len + i] = flat(owned(n + i as u8, b.binding()));
         }
-        out.len = at;
+        out.len = self.len + params.len;
         out
     }
 
@@ -255,18 +215,14 @@ impl Held {
         let k = params.len;
         let count = k + self.len;
         let mut out = self;
-        let mut i = 0;
-        while i < count {
-            if i < k {
+        for i in 0..count {
+            out.entries[i] = if i < k {
                 let b = params.bindings[i];
-                let place = n + (i as u8);
-                out.entries[i] = flat(owned(place, b.binding()));
-                i += 1;
+                let place = n + i as u8;
+                flat(owned(place, b.binding()))
             } else {
-                let e = self.entries[i - k];
-                out.entries[i] = e;
-                i += 1;
-            }
+                self.entries[i - k]
+            };
         }
         out.len = count;
         out
@@ -277,14 +233,10 @@ impl Held {
         requires { (self.len ≤ 64) × (names.len ≡ self.len) }
         ensures { HoldsWork result (respelled (work_of self) (context_of names)) }
     {
-        let n = self.len;
         let mut out = self;
-        let mut i = 0;
-        while i < n {
-            let e = out.entries[i];
+        for i in 0..self.len {
             let b = names.bindings[i];
-            out.entries[i] = flat(respell(e.entry(), b.binding()));
-            i += 1;
+            out.entries[i] = flat(respell(self.entries[i].entry(), b.binding()));
         }
         out
     }

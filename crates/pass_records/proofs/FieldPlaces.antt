@@ -27,7 +27,10 @@ use Rattle.image_spec.proofs.FieldLaws.{identifier-length, type-length}
 use Rattle.image_spec.proofs.KindLaws.{tail_at, fixed_le}
 use Rattle.scope_spec.specs.Flat.{plain_record_lem}
 use Rattle.image_read_parts.specs.Standing.{Stands, ReadsAs, IsCode}
-use Rattle.image_read_parts.proofs.StandingLaws.{inner, stands_in, stands-room, byte-run, second_run}
+use Rattle.std.specs.Prelude.{Result, Ok}
+use Rattle.syntax.specs.Codes.{Decodes}
+use Rattle.syntax.specs.declared.codes.NoCode.{NoCode}
+use Rattle.image_read_parts.proofs.StandingLaws.{decoded, inner, stands_in, stands-room, byte-run, second_run}
 use Rattle.image_read_parts.proofs.PartPlaces.{byte_of, switch-var, switch-ty, create-var, create-ty, literal-integer, literal-var, op-fst, op-code, op-snd, op-var, ifc-code, ifc-fst, print-code, print-var, exit-var}
 use Rattle.image_read_parts.proofs.NamedPlaces.{identifier-room, byte-room}
 use Rattle.image_read_nodes.specs.Nodes.{first_of, operand_of, target_of, second_of}
@@ -54,12 +57,18 @@ byte_is : {s : List ℕ} {at b : ℕ} → Stands byte_of (λ _. Unit {0}) s at b
 byte_is {s} {at} {b} h = byte-run s h.others at b h.bytes
 
 -- what a code that was read stands for
-pub code-known : {A : Type 0} (code : A → ℕ) (vs : List A) (a : A) {b : ℕ} {x : A} → Exact (λ (c : A). code c ∷ []) (λ _. Unit {0}) (one_of vs) → IsCode vs b x → b ≡ code a → x ≡ a
-code-known {A} code vs a x d e = d.is a (ap (numbered vs) e ∙ go (numbered vs (code a)) (x.left a tt []))
+code-number : {A : Type 0} (code : A → ℕ) (vs : List A) (a : A) {b : ℕ} → Exact (λ (c : A). code c ∷ []) (λ _. Unit {0}) (one_of vs) → b ≡ code a → numbered vs b ≡ some a
+code-number {A} code vs a x e = ap (numbered vs) e ∙ go (numbered vs (code a)) (x.left a tt [])
   where
     go : (n : Option A) → or_refused {X = ℕ} n [] ≡ got a [] → n ≡ some a
     go none e = let z : ◌≡◌ {A = ℕ} 0 1 = cc (e) in absurd (omega arith)
     go (some b) e = cc (e)
+
+pub code-known : {A : Type 0} (code : A → ℕ) (vs : List A) (a : A) {b : ℕ} {x : A} → Exact (λ (c : A). code c ∷ []) (λ _. Unit {0}) (one_of vs) → IsCode vs b x → b ≡ code a → x ≡ a
+code-known code vs a x d e = d.is a (code-number code vs a x e)
+
+pub code-decodes : {A : Type 0} (code : A → ℕ) (vs : List A) (a : A) {b : ℕ} (r : Result A NoCode) → Exact (λ (c : A). code c ∷ []) (λ _. Unit {0}) (one_of vs) → Decodes vs b r → b ≡ code a → r ≡ Ok a
+code-decodes code vs a {b} r x d e = decoded vs b r d (code-number code vs a x e)
 
 module _ (w : ℕ) (s : List ℕ) (o : ℕ) (r : Record) where
   -- ── Switch and Create: the count of clauses stands at `at` ──

@@ -12,9 +12,7 @@ ghost use Rattle.pass_records.specs.Unpacked.{call_of, let_of, switch_of, create
 
 use image_directory::Frame;
 use image_fields::count;
-use image_read_parts::{
-    binding_at, identifier_at, integer_at, newline_of, offset, operator_of, sort_of, type_at,
-};
+use image_read_parts::{binding_at, identifier_at, integer_at, newline_of, offset, type_at};
 use syntax::context::TypingContext;
 use syntax::ifc::IfSort;
 use syntax::names::Identifier;
@@ -106,12 +104,9 @@ pub fn list(image: &[u8], w: usize, at: usize) -> TypingContext
     let n = count(image[at]);
     let mut out = TypingContext::empty();
     let mut from = at + 1;
-    let mut j = 0;
-    while j < n {
-        let b = binding_at(image, w, from);
-        out.bindings[j] = b.flat();
-        from = from + size;
-        j = j + 1;
+    for j in 0..n {
+        out.bindings[j] = binding_at(image, w, from).flat();
+        from += size;
     }
     out.len = n;
     out
@@ -124,11 +119,9 @@ pub fn named(image: &[u8], frame: Frame, i: usize) -> NameAndList
 {
     let w = frame.id;
     let start = offset(image, frame, i);
-    let name = identifier_at(image, w, start + 1);
-    let bindings = list(image, w, start + (3 + w));
     NameAndList {
-        name,
-        list: bindings,
+        name: identifier_at(image, w, start + 1),
+        list: list(image, w, start + (3 + w)),
     }
 }
 
@@ -138,9 +131,10 @@ pub fn call(image: &[u8], frame: Frame, i: usize) -> CallRecord
     ensures { Unpacked (record_at frame image.now i) (call_of result) result.args }
 {
     let all = named(image, frame, i);
-    let label = all.name;
-    let args = all.list;
-    CallRecord { label, args }
+    CallRecord {
+        label: all.name,
+        args: all.list,
+    }
 }
 
 // The Let at index i.
@@ -217,7 +211,7 @@ pub fn op(image: &[u8], frame: Frame, i: usize) -> OpRecord
     let w = frame.id;
     let start = offset(image, frame, i);
     let fst = identifier_at(image, w, start + 1);
-    let op = operator_of(image[start + (3 + w)]);
+    let op = BinOp::try_from(image[start + (3 + w)]).unwrap();
     let snd = identifier_at(image, w, start + (4 + w));
     let var = identifier_at(image, w, start + (6 + (w + w)));
     OpRecord { fst, op, snd, var }
@@ -241,7 +235,7 @@ pub fn ifc(image: &[u8], frame: Frame, i: usize) -> IfCRecord
 {
     let w = frame.id;
     let start = offset(image, frame, i);
-    let sort = sort_of(image[start + 1]);
+    let sort = IfSort::try_from(image[start + 1]).unwrap();
     let fst = identifier_at(image, w, start + 2);
     let snd = second_at(image, w, start + (4 + w));
     IfCRecord { sort, fst, snd }

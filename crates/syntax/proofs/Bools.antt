@@ -13,11 +13,3 @@ both_true true true e = (refl, refl)
 both_true true false e = absurd (subst T (sym e) tt)
 both_true false true e = absurd (subst T (sym e) tt)
 both_true false false e = absurd (subst T (sym e) tt)
-
--- r decides x and holds: the conjunction is the second test
-pub both : {x y r s : Bool} → r ≡ x → r ≡ true → s ≡ y → s ≡ (x && y)
-both {x} {y} {r} {s} e t f = rw (← e, t) f
-
--- r decides x and fails
-pub first_fails : {x r : Bool} → r ≡ x → r ≡ false → (y : Bool) → false ≡ (x && y)
-first_fails {x} {r} e t y = rw (← e, t) refl

@@ -1,5 +1,4 @@
--- Laws of sets of IDs: the tests `elem` and `distinct` answer for `◌∈◌` and `Distinct`; members of `++` and `without`;
--- a search a place at a time, for loops. Assumes nothing.
+-- Laws of sets of IDs: the tests `elem` and `distinct` answer for `◌∈◌` and `Distinct`; members of `++` and `without`. Assumes nothing.
 use mathlib.Core.Path.{◌≡◌, refl, sym, ◌∙◌, ap, subst}
 use mathlib.Core.Logic.{◌⊎◌, inl, inr}
 use mathlib.Core.Bool.{Bool, true, false, not, ◌&&◌, ◌||◌, cond}
@@ -8,11 +7,12 @@ use Prim.Native.Nat.{ℕ, ◌+◌, ◌≤◌, ◌<◌}
 use native.Mathlib.Omega.{arith}
 use lib.Dec.{T, eqb→eq, eqb_refl}
 use lib.ListN.{length, take, get_or}
+use Rattle.std.specs.List.{list_any}
+use Rattle.std.proofs.lemmas.Bool.Decides.{nat_tests}
 use Rattle.syntax.specs.Names.{same_var_id}
 use Rattle.syntax.specs.Sets.{elem, ◌∈◌, without, distinct, Distinct}
 use Rattle.syntax.specs.declared.names.VarId.{VarId}
 use Rattle.syntax.proofs.Bools.{Answers}
-use Rattle.syntax.proofs.Lists.{rest, rest_cons, rest_end}
 
 -- ── equality of IDs ──
 
@@ -40,6 +40,9 @@ same_differ x y n = go (same? x y)
     go : Answers (same_var_id x y) (x ≡ y) → same_var_id x y ≡ false
     go (inl p) = absurd (n p.1)
     go (inr p) = p.0
+
+same_comm : (x y : VarId) → same_var_id x y ≡ same_var_id y x
+same_comm x y = grind (arith, nat_tests)
 
 -- ── membership ──
 
@@ -73,6 +76,11 @@ elem_false x s h = go (elem? x s)
 pub distinct_true : (s : List VarId) → Distinct s → distinct s ≡ true
 distinct_true [] d = refl
 distinct_true (x ∷ s) d = rw (elem_false x s d.0, distinct_true s d.1)
+
+-- the search of a slice asks the other way round
+pub list_any-elem : (x : VarId) (s : List VarId) → list_any (λ (y : VarId). same_var_id y x) s ≡ elem x s
+list_any-elem x [] = refl
+list_any-elem x (y ∷ s) = rw (same_comm y x, list_any-elem x s)
 
 -- ── members of a join ──
 
@@ -128,26 +136,3 @@ without-∈ x (y ∷ s) r h = go (λ m. without-∈ x s r m) (elem? y r)
     go : (x ∈ without s r → (x ∈ s) × ¬ (x ∈ r)) → Answers (elem y r) (y ∈ r) → (x ∈ (y ∷ s)) × ¬ (x ∈ r)
     go ih (inl p) = let m = ih (rw p.0 at h) in (inr m.0, m.1)
     go ih (inr p) = both ih p.1 (rw p.0 at h)
-
--- ── a search a place at a time ──
-
--- the ID is among the first n of an array where it is among those from j on
-pub record Searching (x : VarId) (xs : List VarId) (n j : ℕ) : Type 0 where
-  pub below : j ≤ n
-  pub left : elem x (take n xs) ≡ elem x (rest xs n j)
-
-pub searching_start : (x : VarId) (xs : List VarId) (n : ℕ) → Searching x xs n 0
-searching_start x xs n = record { below = omega arith; left = refl }
-
-module _ {x : VarId} {xs : List VarId} {n j : ℕ} (s : Searching x xs n j) where
-  turn : (d : VarId) → j < n → n ≤ length xs → elem x (take n xs) ≡ (same_var_id x (get_or xs j d) || elem x (rest xs n (j + 1)))
-  turn d h k = s.left ∙ rw (rest_cons xs n j d h k)
-
-  pub searching_found : (d : VarId) → j < n → n ≤ length xs → same_var_id x (get_or xs j d) ≡ true → elem x (take n xs) ≡ true
-  searching_found d h k e = turn d h k ∙ rw e
-
-  pub searching_next : (d : VarId) → j < n → n ≤ length xs → same_var_id x (get_or xs j d) ≡ false → Searching x xs n (j + 1)
-  searching_next d h k e = record { below = omega arith; left = turn d h k ∙ rw e }
-
-  pub searching_none : n ≤ j → elem x (take n xs) ≡ false
-  searching_none h = s.left ∙ rw (rest_end xs n j h)

@@ -10,3 +10,4 @@ pub mod Fresh
 pub mod Arrays
 pub mod Rows
 pub mod Options
+pub mod Codes

@@ -1,7 +1,6 @@
 // context.rs: typing contexts, up to 64 bindings in an order.
 ghost use Rattle.std.specs.Prelude.{◌≡◌, ◌∷◌, [], ◌++◌, ◌≤◌, ◌<◌, ◌^◌};
-ghost use Rattle.syntax.specs.Types.{same_chirality};
-ghost use Rattle.syntax.specs.Context.{same_binding, empty_binding};
+ghost use Rattle.syntax.specs.Context.{empty_binding};
 ghost use Rattle.syntax.specs.Fresh.{fresh, drawn, freshen};
 ghost use Rattle.syntax.specs.Flat.{binding_of};
 ghost use Rattle.syntax.specs.Arrays.{set_of, context_of, Holds, Freshens};
@@ -10,14 +9,14 @@ use crate::names::{Identifier, Name, VarId};
 use crate::sets::IdSet;
 use crate::types::Ty;
 
-#[derive(Clone, Copy)]
+#[derive(Clone, Copy, PartialEq, Eq)]
 pub enum Chirality {
     Prd,
     Cns,
     Ext,
 }
 
-#[derive(Clone, Copy)]
+#[derive(Clone, Copy, PartialEq, Eq)]
 pub struct ContextBinding {
     pub var: Identifier,
     pub chi: Chirality,
@@ -51,30 +50,6 @@ pub struct Freshened {
     pub max_id: VarId,
 }
 
-impl Chirality {
-    pub fn same(self, other: Chirality) -> bool
-        ensures { result ≡ same_chirality self other }
-    {
-        match self {
-            Chirality::Prd => match other {
-                Chirality::Prd => true,
-                Chirality::Cns => false,
-                Chirality::Ext => false,
-            },
-            Chirality::Cns => match other {
-                Chirality::Prd => false,
-                Chirality::Cns => true,
-                Chirality::Ext => false,
-            },
-            Chirality::Ext => match other {
-                Chirality::Prd => false,
-                Chirality::Cns => false,
-                Chirality::Ext => true,
-            },
-        }
-    }
-}
-
 impl ContextBinding {
     // What stands in the unused places of an array.
     pub fn empty() -> Self
@@ -90,42 +65,17 @@ impl ContextBinding {
         }
     }
 
-    pub fn same(self, other: ContextBinding) -> bool
-        ensures { result ≡ same_binding self other }
-    {
-        let chi = self.chi;
-        let ty = self.ty;
-        let other_chi = other.chi;
-        let other_ty = other.ty;
-        if self.var.same(other.var) {
-            if chi.same(other_chi) {
-                ty.same(other_ty)
-            } else {
-                false
-            }
-        } else {
-            false
-        }
-    }
-
     pub fn flat(self) -> FlatBinding
         ensures { binding_of result ≡ self }
     {
-        let id = self.var.id;
-        let name = self.var.name;
-        let chi = self.chi;
-        let ty = self.ty;
-        let declared = ty.declared();
-        let x = ty.identifier();
-        let ty_id = x.id;
-        let ty_name = x.name;
+        let x = self.ty.identifier();
         FlatBinding {
-            id,
-            ty_id,
-            name,
-            ty_name,
-            chi,
-            declared,
+            id: self.var.id,
+            ty_id: x.id,
+            name: self.var.name,
+            ty_name: x.name,
+            chi: self.chi,
+            declared: self.ty.declared(),
             unused: 0,
         }
     }
@@ -135,20 +85,22 @@ impl FlatBinding {
     pub fn binding(self) -> ContextBinding
         ensures { result ≡ binding_of self }
     {
-        let name = self.name;
-        let id = self.id;
-        let var = Identifier { name, id };
-        let chi = self.chi;
-        if self.declared {
-            let name = self.ty_name;
-            let id = self.ty_id;
-            let ty = Ty::Decl(Identifier { name, id });
-            return ContextBinding { var, chi, ty };
-        }
+        let var = Identifier {
+            name: self.name,
+            id: self.id,
+        };
+        let ty = if self.declared {
+            Ty::Decl(Identifier {
+                name: self.ty_name,
+                id: self.ty_id,
+            })
+        } else {
+            Ty::I64
+        };
         ContextBinding {
             var,
-            chi,
-            ty: Ty::I64,
+            chi: self.chi,
+            ty,
         }
     }
 
@@ -157,10 +109,8 @@ impl FlatBinding {
         requires { fresh max_id.0 < 2 ^ 32 }
         ensures { binding_of result ≡ drawn max_id.0 (binding_of self) }
     {
-        let var = Identifier::fresh(max_id, self.name);
-        let id = var.id;
         let mut renamed = self;
-        renamed.id = id;
+        renamed.id = Identifier::fresh(max_id, self.name).id;
         renamed
     }
 }
@@ -190,37 +140,23 @@ impl TypingContext {
         next
     }
 
-    // Draws an ID for each binding whose own is among the clashes or came earlier. For the i-th the IDs seen from j on are left to look at.
+    // Draws an ID for each binding whose own is among the clashes or came earlier.
     pub fn freshen(self, clashes: IdSet, max_id: VarId) -> Freshened
         requires { (self.len ≤ 64) × ((clashes.len ≤ 64) × ((freshen (context_of self) (set_of clashes) max_id.0).1 < 2 ^ 32)) }
         ensures { Freshens result (freshen (context_of self) (set_of clashes) max_id.0) }
     {
-        let n = self.len;
         let mut out = self;
         let mut seen = clashes;
         let mut max = max_id;
-        let mut i = 0;
-        let mut j = 0;
-        while i < n {
+        for i in 0..self.len {
             let b = out.bindings[i];
-            let id = b.id;
-            let at = seen.len;
-            if j < at {
-                let one = seen.ids[j];
-                if id.same(one) {
-                    let renamed = b.drawn(max);
-                    max = renamed.id;
-                    out.bindings[i] = renamed;
-                    i += 1;
-                    j = 0;
-                } else {
-                    j += 1;
-                }
+            if seen.ids[..seen.len].contains(&b.id) {
+                let renamed = b.drawn(max);
+                max = renamed.id;
+                out.bindings[i] = renamed;
             } else {
-                seen.ids[at] = id;
-                seen.len = at + 1;
-                i += 1;
-                j = 0;
+                seen.ids[seen.len] = b.id;
+                seen.len += 1;
             }
         }
         Freshened {

@@ -1,5 +1,5 @@
 // ifc.rs: the comparisons, in the Rust's order.
-#[derive(Clone, Copy)]
+#[derive(Clone, Copy, PartialEq, Eq)]
 pub enum IfSort {
     Equal,
     NotEqual,

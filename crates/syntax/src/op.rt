@@ -1,5 +1,5 @@
 // op.rs: the arithmetic operators, in the Rust's order.
-#[derive(Clone, Copy)]
+#[derive(Clone, Copy, PartialEq, Eq)]
 pub enum BinOp {
     Div,
     Prod,

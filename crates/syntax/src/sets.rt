@@ -40,15 +40,6 @@ impl IdSet {
         requires { self.len ≤ 128 }
         ensures { result ≡ elem id (set_of self) }
     {
-        let n = self.len;
-        let mut i = 0;
-        while i < n {
-            let one = self.ids[i];
-            if id.same(one) {
-                return true;
-            }
-            i += 1;
-        }
-        false
+        self.ids[..self.len].contains(&id)
     }
 }

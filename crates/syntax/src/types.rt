@@ -1,31 +1,16 @@
 // types.rs. Type declarations pass by, so a declared type is its name only.
 ghost use Rattle.std.specs.Prelude.{◌≡◌};
-ghost use Rattle.syntax.specs.Types.{same_ty, declared_ty, identifier_of};
+ghost use Rattle.syntax.specs.Types.{declared_ty, identifier_of};
 
 use crate::names::{Identifier, Name, VarId};
 
-#[derive(Clone, Copy)]
+#[derive(Clone, Copy, PartialEq, Eq)]
 pub enum Ty {
     I64,
     Decl(Identifier),
 }
 
 impl Ty {
-    pub fn same(self, other: Ty) -> bool
-        ensures { result ≡ same_ty self other }
-    {
-        match self {
-            Ty::I64 => match other {
-                Ty::I64 => true,
-                Ty::Decl(_) => false,
-            },
-            Ty::Decl(a) => match other {
-                Ty::I64 => false,
-                Ty::Decl(b) => a.same(b),
-            },
-        }
-    }
-
     pub fn declared(self) -> bool
         ensures { result ≡ declared_ty self }
     {

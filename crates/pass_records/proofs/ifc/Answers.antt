@@ -1,17 +1,22 @@
 use borrow.Author.Rules.{rules}
-use mathlib.Core.Path.{sym, ◌∙◌}
+use Rattle.std.specs.Prelude.{Ok}
+use mathlib.Core.Path.{◌≡◌, sym, ◌∙◌}
 use native.Mathlib.Omega.{arith}
 use Rattle.image_spec.specs.Fields.{sorts, sort_code_lem}
 use Rattle.image_spec.specs.Records.{ifc}
 use Rattle.image_spec.proofs.FieldLaws.{sort_exact}
 use Rattle.image_read_nodes.specs.Nodes.{record_at}
-use Rattle.pass_records.proofs.FieldPlaces.{code-known, IfCThere, ifc-there}
+use Rattle.pass_records.proofs.FieldPlaces.{code-decodes, IfCThere, ifc-there}
 use Rattle.pass_records.proofs.ifc.Goals as goal
-use Rattle.pass_records.proofs.ifc.Goals.{After-offset-start}
+use Rattle.pass_records.proofs.ifc.Goals.{After-offset-start, After-try_from}
 
 -- where the parts stand
 there : (c : After-offset-start) → IfCThere c.args.frame.id c.args.image.now c.offset-start.result (record_at c.args.frame c.args.image.now c.args.i)
 there c = ifc-there _ _ _ _ c.requires.kind c.offset-start.ensures
+
+-- the byte is the code of what stands there
+coded : (c : After-try_from) (t : IfCThere c.args.frame.id c.args.image.now c.offset-start.result (record_at c.args.frame c.args.image.now c.args.i)) → c.try_from.result ≡ Ok t.sort
+coded c t = code-decodes sort_code_lem sorts t.sort c.try_from.result sort_exact c.try_from.ensures t.sort-at
 
 pub overflow_add-start : goal.overflow_add-start
 overflow_add-start c = omega (arith, (there (goal.at.overflow_add-start c).After-offset-start).inside)
@@ -31,10 +36,15 @@ overflow_add-start-3 c = omega (arith, (there (goal.at.overflow_add-start-3 c).A
 pub second_at-snd-requires : goal.second_at-snd-requires
 second_at-snd-requires c = record { width = c.requires.ready.id.1; operand = _; stands = (there (goal.at.second_at-snd-requires c).After-offset-start).snd-at }
 
+pub unwrap-sort-requires : goal.unwrap-sort-requires
+unwrap-sort-requires c = rw (coded (goal.at.unwrap-sort-requires c).After-try_from (there (goal.at.unwrap-sort-requires c).After-offset-start))
+
 pub returns : goal.returns
 returns c =
     let t = there (goal.at.returns c).After-offset-start in
-    let q = code-known sort_code_lem sorts t.sort sort_exact c.sort_of-sort.ensures t.sort-at in
+    let e = coded (goal.at.returns c).After-try_from t in
+    let u = c.unwrap-sort.ensures in
+    let q : c.unwrap-sort.result ≡ t.sort = cc (e, u) in
     let f = c.identifier_at-fst.ensures.is _ t.fst-at in
     let j = c.second_at-snd.ensures.is _ t.snd-at in
     t.is ∙ sym (λ i. ifc (q i) (f i) (j i))

@@ -27,8 +27,8 @@ overflow_add-from c = omega (arith, (list-run c.args.w c.requires.stands).inside
 pub loop-j-init : goal.loop-j-init
 loop-j-init c = filling_start c.args.w c.requires c.count-n.ensures (length-map c.empty-out.result.bindings binding_of ∙ search rules)
 
-pub binding_at-b-requires : goal.binding_at-b-requires
-binding_at-b-requires c = record { width = c.requires.width; inside = filling_inside c.args.w c.loop-j.invariant c.loop-j-test.true }
+pub binding_at-requires : goal.binding_at-requires
+binding_at-requires c = record { width = c.requires.width; inside = filling_inside c.args.w c.loop-j.invariant c.loop-j-test.true }
 
 pub bounds-out-j : goal.bounds-out-j
 bounds-out-j c =
@@ -41,7 +41,7 @@ overflow_add-from-in-loop-j c = omega (arith, filling_inside c.args.w c.loop-j.i
 pub loop-j-preserved : goal.loop-j-preserved
 loop-j-preserved c =
     let l = c.loop-j in
-    let t = filling_turn c.args.w l.invariant c.loop-j-test.true c.binding_at-b.ensures in
+    let t = filling_turn c.args.w l.invariant c.loop-j-test.true c.binding_at.ensures in
     rw (seen-set binding_of l.out.bindings l.j c.flat.result, c.flat.ensures) t
 
 pub returns : goal.returns

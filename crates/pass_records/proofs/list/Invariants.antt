@@ -12,6 +12,3 @@ use Rattle.pass_records.proofs.list.Given as goal
 
 abbrev pub invariant-loop-j : goal.invariant-loop-j
 invariant-loop-j l = Filling l.w l.image l.at l.n l.from l.j (bindings_in l.out)
-
-abbrev pub decreases-loop-j : goal.decreases-loop-j
-decreases-loop-j l = l.n - l.j

@@ -14,17 +14,17 @@ inside c = (list-run c.args.frame.id (named-list c.requires c.offset-start.ensur
 pub overflow_add-start : goal.overflow_add-start
 overflow_add-start c = omega (arith, inside (goal.at.overflow_add-start c).After-offset-start)
 
-pub identifier_at-name-requires : goal.identifier_at-name-requires
-identifier_at-name-requires c = record { width = c.requires.ready.id.1; inside = omega (arith, inside (goal.at.identifier_at-name-requires c).After-offset-start) }
+pub identifier_at-requires : goal.identifier_at-requires
+identifier_at-requires c = record { width = c.requires.ready.id.1; inside = omega (arith, inside (goal.at.identifier_at-requires c).After-offset-start) }
 
 pub overflow_add-start-2 : goal.overflow_add-start-2
 overflow_add-start-2 c = omega (arith, inside (goal.at.overflow_add-start-2 c).After-offset-start)
 
-pub list-bindings-requires : goal.list-bindings-requires
-list-bindings-requires c = record { width = c.requires.ready.id.1; list = _; stands = named-list c.requires c.offset-start.ensures; small = c.requires.small }
+pub list-requires : goal.list-requires
+list-requires c = record { width = c.requires.ready.id.1; list = _; stands = named-list c.requires c.offset-start.ensures; small = c.requires.small }
 
 pub returns : goal.returns
 returns c =
     let a = c.requires in
     let h = c.offset-start.ensures in
-    record { name = c.identifier_at-name.ensures.is _ (named-first a h); list = c.list-bindings.ensures.is _ (named-list a h) }
+    record { name = c.identifier_at.ensures.is _ (named-first a h); list = c.list.ensures.is _ (named-list a h) }

@@ -8,7 +8,4 @@ use Rattle.pass_context.proofs.Stores.{Built}
 use Rattle.pass_context.proofs.Held.context.Given as goal
 
 abbrev pub invariant-loop-i : goal.invariant-loop-i
-invariant-loop-i l = Built (bindings (take l.n (entries_in l.self))) (bindings_in l.initial.out) (bindings_in l.out) 64 l.i
-
-abbrev pub decreases-loop-i : goal.decreases-loop-i
-decreases-loop-i l = l.n - l.i
+invariant-loop-i l = Built (bindings (take l.i-end (entries_in l.self))) (bindings_in l.initial.out) (bindings_in l.out) 64 l.i

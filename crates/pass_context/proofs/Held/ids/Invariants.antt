@@ -8,7 +8,4 @@ use Rattle.pass_context.proofs.Stores.{Built}
 use Rattle.pass_context.proofs.Held.ids.Given as goal
 
 abbrev pub invariant-loop-i : goal.invariant-loop-i
-invariant-loop-i l = Built (ids (bindings (take l.n (entries_in l.self)))) l.initial.out.ids l.out.ids 128 l.i
-
-abbrev pub decreases-loop-i : goal.decreases-loop-i
-decreases-loop-i l = l.n - l.i
+invariant-loop-i l = Built (ids (bindings (take l.i-end (entries_in l.self)))) l.initial.out.ids l.out.ids 128 l.i

@@ -13,7 +13,7 @@ use Rattle.pass_context.proofs.Stores.{built-start, built-seen}
 use Rattle.pass_context.proofs.Elements.{entry_at, moved-left, moved-right}
 use Rattle.pass_context.proofs.HeldLaws.{stored-all}
 use Rattle.pass_context.proofs.Held.move_behind.Goals as goal
-use Rattle.pass_context.proofs.Held.move_behind.Goals.{Start}
+use Rattle.pass_context.proofs.Held.move_behind.Goals.{Start, then-i-k, else-i-k}
 
 size : (c : Start) → length (entries_in c.args.self) ≡ 64
 size c = length-map c.args.self.entries entry_in ∙ search rules
@@ -25,22 +25,22 @@ counted c = moved_length c.args.j (take c.args.self.len (entries_in c.args.self)
 pub loop-i-init : goal.loop-i-init
 loop-i-init c = record { len = refl; turn = built-start _ (entries_in c.args.self) (size c) (omega (arith, counted c)) }
 
-pub loop-i-preserved-then-i-k : goal.loop-i-preserved-then-i-k
-loop-i-preserved-then-i-k c =
-    let l = c.loop-i in
-    let h = c.loop-i-test.true in
-    record {
-      len = l.invariant.len;
-      turn = built-seen entry_in l.out.entries empty_entry (get_or c.args.self.entries (l.i + c.args.j) empty_flat_entry) (omega (arith, counted (goal.at.loop-i-preserved-then-i-k c).Start)) (entry_at c.args.self (l.i + c.args.j) ∙ moved-left (entries_in c.args.self) c.args.self.len c.args.j l.i empty_entry (omega (arith, size (goal.at.loop-i-preserved-then-i-k c).Start)) (omega arith) c.if-i-k.true) l.invariant.turn;
-    }
-
 pub loop-i-preserved : goal.loop-i-preserved
 loop-i-preserved c =
     let l = c.loop-i in
-    let h = c.loop-i-test.true in
+    let s = (goal.at.loop-i-preserved c).Start in
+    let j = c.args.j in
+    let k = c.args.self.len - j in
     record {
       len = l.invariant.len;
-      turn = built-seen entry_in l.out.entries empty_entry (get_or c.args.self.entries (l.i - (c.args.self.len - c.args.j)) empty_flat_entry) (omega (arith, counted (goal.at.loop-i-preserved c).Start)) (entry_at c.args.self (l.i - (c.args.self.len - c.args.j)) ∙ moved-right (entries_in c.args.self) c.args.self.len c.args.j l.i empty_entry (omega (arith, size (goal.at.loop-i-preserved c).Start)) (omega arith) c.if-i-k.false h) l.invariant.turn;
+      turn = elim c.if-i-k.branch [
+        | then-i-k w ↦ rw w.out-is
+            (built-seen entry_in l.out.entries empty_entry (get_or c.args.self.entries (l.i + j) empty_flat_entry) (omega (arith, counted s))
+            (entry_at c.args.self (l.i + j) ∙ moved-left (entries_in c.args.self) c.args.self.len j l.i empty_entry (omega (arith, size s)) (omega arith) w.if-i-k.true) l.invariant.turn)
+        | else-i-k w ↦ rw w.out-is
+            (built-seen entry_in l.out.entries empty_entry (get_or c.args.self.entries (l.i - k) empty_flat_entry) (omega (arith, counted s))
+            (entry_at c.args.self (l.i - k) ∙ moved-right (entries_in c.args.self) c.args.self.len j l.i empty_entry (omega (arith, size s)) (omega arith) w.if-i-k.false c.loop-i-test.true) l.invariant.turn)
+      ];
     }
 
 pub returns : goal.returns

@@ -8,6 +8,3 @@ use Rattle.pass_context.proofs.Held.move_behind.Given as goal
 
 abbrev pub invariant-loop-i : goal.invariant-loop-i
 invariant-loop-i l = Storing (moved_behind l.j (take l.n (entries_in l.self))) l.n l.initial.out l.out l.i
-
-abbrev pub decreases-loop-i : goal.decreases-loop-i
-decreases-loop-i l = l.n - l.i

@@ -1,5 +1,5 @@
 -- `Held::owns` meets its contract: i binders are stored behind the others. Assumes nothing.
-use mathlib.Core.Path.{◌≡◌, ap, ◌∙◌}
+use mathlib.Core.Path.{refl, sym, ◌≡◌, ap, ◌∙◌}
 use mathlib.Core.List.{◌++◌}
 use Prim.Native.Nat.{◌+◌}
 use native.Mathlib.Omega.{arith}
@@ -36,27 +36,20 @@ counted : (c : Start) → length (work_of c.args.self ++ owns c.args.n (context_
 counted c = omega (arith, length-append (work_of c.args.self) (owns c.args.n (context_of c.args.params)), count_self c, count_owns c)
 
 pub loop-i-init : goal.loop-i-init
-loop-i-init c = record { number = omega arith; stored = record { here = omega arith; below = omega arith; turn = built-behind (entries_in c.args.self) (owns c.args.n (context_of c.args.params)) c.args.self.len (size c) (omega (arith, count_owns c)) } }
+loop-i-init c =
+    let q : c.args.self.len + 0 ≡ c.args.self.len = omega arith in
+    rw q (built-behind (entries_in c.args.self) (owns c.args.n (context_of c.args.params)) c.args.self.len (size c) (omega (arith, count_owns c)))
 
 pub loop-i-preserved : goal.loop-i-preserved
 loop-i-preserved c =
     let l = c.loop-i in
-    let h = c.loop-i-test.true in
-    let a = l.invariant.stored in
+    let s = (goal.at.loop-i-preserved c).Start in
     let b = c.binding.ensures ∙ seen_at binding_of c.args.params.bindings l.i empty_flat in
-    let e = owned_behind (work_of c.args.self) (bindings_in c.args.params) c.args.params.len c.args.self.len c.args.n l.i l.at l.place (count_self (goal.at.loop-i-preserved c).Start) h (omega (arith, size_params (goal.at.loop-i-preserved c).Start)) a.here l.invariant.number in
-    record {
-      number = omega (arith, l.invariant.number);
-      stored = record {
-        here = omega (arith, a.here);
-        below = omega arith;
-        turn = built-seen entry_in l.out.entries empty_entry c.flat.result (omega (arith, counted (goal.at.loop-i-preserved c).Start, a.here)) (c.flat.ensures ∙ c.owned.ensures ∙ ap (own l.place) b ∙ e) a.turn;
-      };
-    }
+    let e = owned_behind (work_of c.args.self) (bindings_in c.args.params) c.args.params.len c.args.self.len c.args.n l.i (c.args.self.len + l.i) (c.args.n + l.i) (count_self s) c.loop-i-test.true (omega (arith, size_params s)) refl refl in
+    let q : c.args.self.len + (l.i + 1) ≡ c.args.self.len + l.i + 1 = omega arith in
+    rw q (built-seen entry_in l.out.entries empty_entry c.flat.result (omega (arith, counted s)) (c.flat.ensures ∙ c.owned.ensures ∙ ap (own (c.args.n + l.i)) b ∙ e) l.invariant)
 
 pub returns : goal.returns
 returns c =
-    let l = c.loop-i in
-    let h = c.loop-i-test.false in
-    let q : l.at ≡ length (work_of c.args.self ++ owns c.args.n (context_of c.args.params)) = omega (arith, counted (goal.at.returns c).Start, l.invariant.stored.here, l.invariant.stored.below) in
-    stored-all q (omega arith) l.invariant.stored.turn
+    let q = sym (counted (goal.at.returns c).Start) in
+    stored-all q (omega (arith, c.loop-i-test.false)) c.loop-i.invariant

@@ -39,7 +39,7 @@ pub loop-i-preserved : goal.loop-i-preserved
 loop-i-preserved c =
     let l = c.loop-i in
     let h = c.loop-i-test.true in
-    let e = c.entry.ensures ∙ entry_at l.out l.i ∙ built-reads empty_entry l.invariant.turn in
+    let e = c.entry.ensures ∙ entry_at c.args.self l.i in
     let b = c.binding.ensures ∙ seen_at binding_of c.args.names.bindings l.i empty_flat in
     record {
       len = l.invariant.len;

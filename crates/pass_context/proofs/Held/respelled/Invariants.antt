@@ -8,7 +8,4 @@ use Rattle.pass_context.proofs.HeldLaws.{Storing}
 use Rattle.pass_context.proofs.Held.respelled.Given as goal
 
 abbrev pub invariant-loop-i : goal.invariant-loop-i
-invariant-loop-i l = Storing (respelled (take l.n (entries_in l.initial.out)) (context_of l.names)) l.n l.initial.out l.out l.i
-
-abbrev pub decreases-loop-i : goal.decreases-loop-i
-decreases-loop-i l = l.n - l.i
+invariant-loop-i l = Storing (respelled (take l.i-end (entries_in l.initial.out)) (context_of l.names)) l.i-end l.initial.out l.out l.i

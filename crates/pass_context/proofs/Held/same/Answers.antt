@@ -1,9 +1,11 @@
 -- `Held::same` meets its contract: the first i bindings are the same. Assumes nothing.
 use mathlib.Core.Path.{◌≡◌, sym, ap, ◌∙◌}
 use mathlib.Core.List.{◌++◌}
-use Prim.Native.Nat.{◌+◌, ◌-◌}
+use Prim.Native.Nat.{◌+◌, ◌-◌, ◌≤◌}
 use native.Mathlib.Omega.{arith}
 use borrow.Author.Rules.{rules}
+use mathlib.Core.Bool.{Bool, true, false}
+use Rattle.syntax.specs.Context.{same_binding}
 use lib.ListN.{length, length-map, get_or, length-append, length-take}
 use Rattle.syntax.specs.Context.{empty_binding}
 use Rattle.syntax.specs.Flat.{binding_of, empty_flat}
@@ -17,7 +19,7 @@ use Rattle.pass_context.proofs.Stores.{taken-left, taken-right}
 use Rattle.pass_context.proofs.Elements.{binding-at, bindings-count}
 use Rattle.pass_context.proofs.Comparisons.{comparing_start, comparing_same, comparing_differ, comparing_done}
 use Rattle.pass_context.proofs.Held.same.Goals as goal
-use Rattle.pass_context.proofs.Held.same.Goals.{After-binding, After-binding-a, After-binding-else-i-k, Start}
+use Rattle.pass_context.proofs.Held.same.Goals.{Start, After-ne, then-i-k, else-i-k}
 
 -- the arrays' sizes, and the counts of the bindings and of the two contexts
 size_self : (c : Start) → length (entries_in c.args.self) ≡ 64
@@ -35,35 +37,6 @@ count_self c = bindings-count (entries_in c.args.self) c.args.self.len (omega (a
 count_both : (c : Start) → length (context_of c.args.front ++ context_of c.args.back) ≡ c.args.front.len + c.args.back.len
 count_both c = simp (length-append, length-take) (omega (arith, size_front c, size_back c))
 
--- what is compared stands at place i of both
-one_at : (c : After-binding-a) →
-    let i = c.loop-i.i in
-    c.binding-a.result ≡ get_or (bindings (work_of c.args.self)) i empty_binding
-one_at c =
-    c.binding-a.ensures
-    ∙ ap binding_of c.flat_binding.ensures
-    ∙ binding-at c.args.self c.args.self.len c.loop-i.i c.loop-i-test.true
-
-front_at : (c : After-binding) →
-    let i = c.loop-i.i in
-    c.binding.result ≡ get_or (context_of c.args.front ++ context_of c.args.back) i empty_binding
-front_at c =
-    let i = c.loop-i.i in
-    c.binding.ensures
-    ∙ seen_at binding_of c.args.front.bindings i empty_flat
-    ∙ taken-left (bindings_in c.args.front) c.args.front.len i empty_binding (omega (arith, size_front c.before.before.before.before.before.before.before.before.before)) (context_of c.args.back) c.if-i-k.true
-
-back_at : (c : After-binding-else-i-k) →
-    let i = c.loop-i.i in
-    c.binding-else-i-k.result ≡ get_or (context_of c.args.front ++ context_of c.args.back) i empty_binding
-back_at c =
-    let i = c.loop-i.i in
-    let h = c.loop-i-test.true in
-    let e = c.if-n-k.false in
-    c.binding-else-i-k.ensures
-    ∙ seen_at binding_of c.args.back.bindings (i - c.args.front.len) empty_flat
-    ∙ taken-right (bindings_in c.args.front) c.args.front.len i empty_binding (omega (arith, size_front c.before.before.before.before.before.before.before.before.before)) (bindings_in c.args.back) c.args.back.len c.if-i-k.false (omega arith)
-
 pub returns-then-n-k : goal.returns-then-n-k
 returns-then-n-k c =
     sym (same-lengths (bindings (work_of c.args.self)) (context_of c.args.front ++ context_of c.args.back) (λ e. c.if-n-k.true (omega (arith, e, count_self (goal.at.returns-then-n-k c).Start, count_both (goal.at.returns-then-n-k c).Start))))
@@ -71,17 +44,32 @@ returns-then-n-k c =
 pub loop-i-init : goal.loop-i-init
 loop-i-init c = comparing_start _ _ _ (count_self (goal.at.loop-i-init c).Start) (count_both (goal.at.loop-i-init c).Start ∙ sym c.if-n-k.false)
 
-pub loop-i-preserved-then-same : goal.loop-i-preserved-then-same
-loop-i-preserved-then-same c = comparing_same empty_binding _ _ c.loop-i-test.true (one_at (goal.at.loop-i-preserved-then-same c).After-binding-a) (front_at (goal.at.loop-i-preserved-then-same c).After-binding) c.loop-i.invariant (sym c.same.ensures ∙ c.if-same.true)
+-- what is compared stands at place i of both
+one_at : (c : After-ne) → c.binding.result ≡ get_or (bindings (work_of c.args.self)) c.loop-i.i empty_binding
+one_at c = c.binding.ensures ∙ ap binding_of c.flat_binding-a.ensures ∙ binding-at c.args.self c.args.self.len c.loop-i.i c.loop-i-test.true
 
-pub returns-else-same : goal.returns-else-same
-returns-else-same c = sym (comparing_differ empty_binding _ _ c.loop-i-test.true (one_at (goal.at.returns-else-same c).After-binding-a) (front_at (goal.at.returns-else-same c).After-binding) c.loop-i.invariant (sym c.same.ensures ∙ c.if-same.false))
+other_at : (c : After-ne) → c.args.front.len ≤ length (bindings_in c.args.front) → c.binding-in-loop-i.result ≡ get_or (context_of c.args.front ++ context_of c.args.back) c.loop-i.i empty_binding
+other_at c h =
+    let i = c.loop-i.i in
+    let k = c.args.front.len in
+    let e = c.if-n-k.false in
+    c.binding-in-loop-i.ensures
+    ∙ elim c.if-i-k.branch [
+      | then-i-k w ↦ rw w.b-is (seen_at binding_of c.args.front.bindings i empty_flat ∙ taken-left (bindings_in c.args.front) k i empty_binding h (context_of c.args.back) w.if-i-k.true)
+      | else-i-k w ↦ rw w.b-is (seen_at binding_of c.args.back.bindings (i - k) empty_flat ∙ taken-right (bindings_in c.args.front) k i empty_binding h (bindings_in c.args.back) c.args.back.len w.if-i-k.false (omega arith))
+    ]
 
 pub loop-i-preserved : goal.loop-i-preserved
-loop-i-preserved c = comparing_same empty_binding _ _ c.loop-i-test.true (one_at (goal.at.loop-i-preserved c).After-binding-a) (back_at (goal.at.loop-i-preserved c).After-binding-else-i-k) c.loop-i.invariant (sym c.same-else-i-k.ensures ∙ c.if-same-2.true)
+loop-i-preserved c =
+    let a = (goal.at.loop-i-preserved c).After-ne in
+    let e : same_binding c.binding.result c.binding-in-loop-i.result ≡ true = search rules in
+    comparing_same empty_binding _ _ c.loop-i-test.true (one_at a) (other_at a (omega (arith, size_front (goal.at.loop-i-preserved c).Start))) c.loop-i.invariant e
 
-pub returns-else-same-2 : goal.returns-else-same-2
-returns-else-same-2 c = sym (comparing_differ empty_binding _ _ c.loop-i-test.true (one_at (goal.at.returns-else-same-2 c).After-binding-a) (back_at (goal.at.returns-else-same-2 c).After-binding-else-i-k) c.loop-i.invariant (sym c.same-else-i-k.ensures ∙ c.if-same-2.false))
+pub returns-then-ne : goal.returns-then-ne
+returns-then-ne c =
+    let a = (goal.at.returns-then-ne c).After-ne in
+    let e : same_binding c.binding.result c.binding-in-loop-i.result ≡ false = search rules in
+    sym (comparing_differ empty_binding _ _ c.loop-i-test.true (one_at a) (other_at a (omega (arith, size_front (goal.at.returns-then-ne c).Start))) c.loop-i.invariant e)
 
 pub returns : goal.returns
 returns c = sym (comparing_done c.loop-i-test.false c.loop-i.invariant)

@@ -10,6 +10,3 @@ use Rattle.pass_context.proofs.Held.same.Given as goal
 
 abbrev pub invariant-loop-i : goal.invariant-loop-i
 invariant-loop-i l = Comparing (bindings (take l.n (entries_in l.self))) (take l.k (bindings_in l.front) ++ context_of l.back) l.n l.i
-
-abbrev pub decreases-loop-i : goal.decreases-loop-i
-decreases-loop-i l = l.n - l.i

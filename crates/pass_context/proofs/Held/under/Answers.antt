@@ -15,7 +15,7 @@ use Rattle.pass_context.proofs.Stores.{built-start, built-seen}
 use Rattle.pass_context.proofs.Elements.{entry_at, under-count, under_left, under-right}
 use Rattle.pass_context.proofs.HeldLaws.{stored-all}
 use Rattle.pass_context.proofs.Held.under.Goals as goal
-use Rattle.pass_context.proofs.Held.under.Goals.{Start}
+use Rattle.pass_context.proofs.Held.under.Goals.{Start, then-i-k, else-i-k}
 
 size : (c : Start) → length (entries_in c.args.self) ≡ 64
 size c = length-map c.args.self.entries entry_in ∙ search rules
@@ -32,19 +32,20 @@ counted c = under-count (bindings_in c.args.params) c.args.params.len c.args.n (
 pub loop-i-init : goal.loop-i-init
 loop-i-init c = built-start _ (entries_in c.args.self) (size c) (omega (arith, counted c))
 
-pub loop-i-preserved-then-i-k : goal.loop-i-preserved-then-i-k
-loop-i-preserved-then-i-k c =
-    let l = c.loop-i in
-    let b = c.binding.ensures ∙ seen_at binding_of c.args.params.bindings l.i empty_flat in
-    let e = under_left (bindings_in c.args.params) c.args.params.len c.args.n (entries_in c.args.self) c.args.self.len (few (goal.at.loop-i-preserved-then-i-k c).Start) l.i c.if-i-k.true in
-    built-seen entry_in l.out.entries empty_entry c.flat.result (omega (arith, counted (goal.at.loop-i-preserved-then-i-k c).Start)) (c.flat.ensures ∙ c.owned.ensures ∙ ap (own (c.args.n + l.i)) b ∙ e) l.invariant
-
 pub loop-i-preserved : goal.loop-i-preserved
 loop-i-preserved c =
     let l = c.loop-i in
-    let h = c.loop-i-test.true in
-    let e = under-right (bindings_in c.args.params) c.args.params.len c.args.n (entries_in c.args.self) c.args.self.len (few (goal.at.loop-i-preserved c).Start) l.i c.if-i-k.false h in
-    built-seen entry_in l.out.entries empty_entry (get_or c.args.self.entries (l.i - c.args.params.len) empty_flat_entry) (omega (arith, counted (goal.at.loop-i-preserved c).Start)) (entry_at c.args.self (l.i - c.args.params.len) ∙ e) l.invariant
+    let s = (goal.at.loop-i-preserved c).Start in
+    let k = c.args.params.len in
+    elim c.if-i-k.branch [
+      | then-i-k w ↦
+          let b = w.binding.ensures ∙ seen_at binding_of c.args.params.bindings l.i empty_flat in
+          let e = under_left (bindings_in c.args.params) k c.args.n (entries_in c.args.self) c.args.self.len (few s) l.i w.if-i-k.true in
+          rw w.out-is (built-seen entry_in l.out.entries empty_entry w.flat.result (omega (arith, counted s)) (w.flat.ensures ∙ w.owned.ensures ∙ ap (own (c.args.n + l.i)) b ∙ e) l.invariant)
+      | else-i-k w ↦
+          let e = under-right (bindings_in c.args.params) k c.args.n (entries_in c.args.self) c.args.self.len (few s) l.i w.if-i-k.false c.loop-i-test.true in
+          rw w.out-is (built-seen entry_in l.out.entries empty_entry (get_or c.args.self.entries (l.i - k) empty_flat_entry) (omega (arith, counted s)) (entry_at c.args.self (l.i - k) ∙ e) l.invariant)
+    ]
 
 pub returns : goal.returns
 returns c =

@@ -10,6 +10,3 @@ use Rattle.pass_context.proofs.Held.under.Given as goal
 
 abbrev pub invariant-loop-i : goal.invariant-loop-i
 invariant-loop-i l = Built (owns l.n (take l.k (bindings_in l.params)) ++ work_of l.self) (entries_in l.initial.out) (entries_in l.out) 64 l.i
-
-abbrev pub decreases-loop-i : goal.decreases-loop-i
-decreases-loop-i l = l.count - l.i

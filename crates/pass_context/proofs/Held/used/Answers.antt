@@ -1,38 +1,24 @@
--- `Held::used` meets its contract: the entries from i on are left to look at. Assumes nothing.
-use mathlib.Core.Path.{◌≡◌, refl, sym, ap, ◌∙◌}
-use mathlib.Core.Option.{some}
-use native.Mathlib.Omega.{arith}
-use borrow.Author.Rules.{rules}
-use lib.ListN.{length, length-map}
-use Rattle.syntax.specs.Names.{same_var_id}
-use Rattle.pass_work_spec.specs.declared.Entry.{Entry}
-use Rattle.pass_work_spec.specs.Work.{spelling}
+-- `Held::used` meets its contract. Assumes nothing.
+use mathlib.Core.Path.{◌≡◌, sym, ap, ◌∙◌}
+use mathlib.Core.Option.{some, none}
+use Rattle.syntax.specs.Options.{option_of}
+use Rattle.pass_work_spec.specs.Work.{entry_of}
+use Rattle.pass_work_spec.proofs.Lists.{take-map}
 use Rattle.pass_entries.specs.Entries.{entry_in}
-use Rattle.pass_context.specs.Holding.{entries_in}
-use Rattle.pass_context.proofs.Elements.{entry_at, source-at}
-use Rattle.pass_context.proofs.UsedLoops.{used-found, used-next, used_none}
+use Rattle.pass_context.specs.Holding.{work_of}
+use Rattle.pass_context.proofs.UsedLoops.{used_by}
 use Rattle.pass_context.proofs.Held.used.Goals as goal
-use Rattle.pass_context.proofs.Held.used.Goals.{Start}
+use Rattle.pass_context.proofs.Held.used.Goals.{After-entry_of}
 
-size : (c : Start) → length (entries_in c.args.self) ≡ 64
-size c = length-map c.args.self.entries entry_in ∙ search rules
+found : (c : After-entry_of) → option_of c.entry_of.result ≡ entry_of c.args.x.id (work_of c.args.self)
+found c = c.entry_of.ensures ∙ ap (entry_of c.args.x.id) (take-map entry_in c.args.self.len c.args.self.entries)
 
-pub loop-i-init : goal.loop-i-init
-loop-i-init c = (omega arith, refl)
+pub returns-in-Some : goal.returns-in-Some
+returns-in-Some c =
+    let o = ap option_of (sym c.in-Some.is) ∙ found (goal.at.returns-in-Some c).After-entry_of in
+    c.spelled.ensures ∙ sym (used_by (work_of c.args.self) c.args.x _ o)
 
-pub returns-then-same : goal.returns-then-same
-returns-then-same c =
-    let l = c.loop-i in
-    c.spelled.ensures
-    ∙ ap (λ (e : Entry). spelling (some e) c.args.x) (c.entry.ensures ∙ entry_at c.args.self l.i)
-    ∙ sym (l.invariant.1 ∙ used-found (entries_in c.args.self) c.args.self.len l.i c.args.x c.loop-i-test.true (omega (arith, size (goal.at.returns-then-same c).Start)) (ap (same_var_id c.args.x.id) (sym (source-at c.args.self l.i)) ∙ sym c.same.ensures ∙ c.if-same.true))
-
-pub loop-i-preserved : goal.loop-i-preserved
-loop-i-preserved c =
-    let l = c.loop-i in
-    (omega arith, l.invariant.1 ∙ used-next (entries_in c.args.self) c.args.self.len l.i c.args.x c.loop-i-test.true (omega (arith, size (goal.at.loop-i-preserved c).Start)) (ap (same_var_id c.args.x.id) (sym (source-at c.args.self l.i)) ∙ sym c.same.ensures ∙ c.if-same.false))
-
-pub returns : goal.returns
-returns c =
-    let l = c.loop-i in
-    sym (l.invariant.1 ∙ used_none (entries_in c.args.self) c.args.self.len l.i c.args.x c.loop-i-test.false)
+pub returns-in-None : goal.returns-in-None
+returns-in-None c =
+    let o = ap option_of (sym c.in-None.is) ∙ found (goal.at.returns-in-None c).After-entry_of in
+    sym (used_by (work_of c.args.self) c.args.x _ o)

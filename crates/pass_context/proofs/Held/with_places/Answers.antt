@@ -14,21 +14,21 @@ use Rattle.pass_entries.specs.Masks.{with_bit_lem, is_either, with_places_lem}
 use Rattle.pass_context.specs.Holding.{entries_in, work_of}
 use Rattle.pass_context.proofs.Elements.{entry_at}
 use Rattle.pass_context.proofs.Held.with_places.Goals as goal
-use Rattle.pass_context.proofs.Held.with_places.Goals.{After-same, then-same, then-same-via-then-same, then-same-via-else-same+then-same-2, else-same+else-same-2}
+use Rattle.pass_context.proofs.Held.with_places.Goals.{After-eq, then-eq, then-eq-via-then-eq, then-eq-via-else-eq+then-eq-2, else-eq+else-eq-2}
 
 -- the entry
-abbrev looked_at : After-same → Entry
+abbrev looked_at : After-eq → Entry
 looked_at c = entry_in (get_or c.args.self.entries c.loop-i.i empty_flat_entry)
 
 -- does it stand for the first variable, or for the second?
-abbrev is_first : After-same → Bool
+abbrev is_first : After-eq → Bool
 is_first c = same_var_id (looked_at c).source c.args.fst
 
-abbrev is_second : After-same → Bool
+abbrev is_second : After-eq → Bool
 is_second c = same_var_id (looked_at c).source c.args.snd
 
 -- the mask for the entries behind it
-turn : (c : After-same) (t : Bool) {places : ℕ} → (is_first c || is_second c) ≡ t → places ≡ cond t (with_bit_lem c.loop-i.places (looked_at c).place) c.loop-i.places
+turn : (c : After-eq) (t : Bool) {places : ℕ} → (is_first c || is_second c) ≡ t → places ≡ cond t (with_bit_lem c.loop-i.places (looked_at c).place) c.loop-i.places
     → with_places_lem c.args.fst c.args.snd (work_of c.args.self) c.args.mask ≡ with_places_lem c.args.fst c.args.snd (rest (entries_in c.args.self) c.args.self.len (c.loop-i.i + 1)) places
 turn c t q p =
     let l = c.loop-i in
@@ -46,16 +46,16 @@ loop-i-init c = (omega arith, refl)
 
 pub loop-i-preserved : goal.loop-i-preserved
 loop-i-preserved c =
-    let m = (goal.at.loop-i-preserved c).After-same in (
+    let m = (goal.at.loop-i-preserved c).After-eq in (
       omega arith,
-      elim c.if-same.branch [
-        | then-same w ↦ turn m true
-            (elim w.then-same.branch [
-              | then-same-via-then-same v ↦ ap (λ (t : Bool). t || is_second m) (sym c.same.ensures ∙ v.if-same.true)
-              | then-same-via-else-same+then-same-2 v ↦ ap (λ (t : Bool). is_first m || t) (sym v.same-else-same.ensures ∙ v.if-same-2.true) ∙ or-true (is_first m)
+      elim c.if-eq.branch [
+        | then-eq w ↦ turn m true
+            (elim w.then-eq.branch [
+              | then-eq-via-then-eq v ↦ ap (λ (t : Bool). t || is_second m) (sym c.eq.ensures ∙ v.if-eq.true)
+              | then-eq-via-else-eq+then-eq-2 v ↦ ap (λ (t : Bool). is_first m || t) (sym v.eq-else-eq.ensures ∙ v.if-eq-2.true) ∙ or-true (is_first m)
             ])
             (w.places-is ∙ w.with_bit-places.ensures)
-        | else-same+else-same-2 w ↦ turn m false (ap₂ ◌||◌ (sym c.same.ensures ∙ w.if-same.false) (sym w.same-else-same.ensures ∙ w.if-same-2.false)) w.places-is
+        | else-eq+else-eq-2 w ↦ turn m false (ap₂ ◌||◌ (sym c.eq.ensures ∙ w.if-eq.false) (sym w.eq-else-eq.ensures ∙ w.if-eq-2.false)) w.places-is
       ],
     )
 

@@ -7,7 +7,4 @@ use Rattle.pass_context.specs.Holding.{entries_in, work_of}
 use Rattle.pass_context.proofs.Held.with_places.Given as goal
 
 abbrev pub invariant-loop-i : goal.invariant-loop-i
-invariant-loop-i l = (l.i ≤ l.n) × (with_places_lem l.fst l.snd (work_of l.self) l.mask ≡ with_places_lem l.fst l.snd (rest (entries_in l.self) l.n l.i) l.places)
-
-abbrev pub decreases-loop-i : goal.decreases-loop-i
-decreases-loop-i l = l.n - l.i
+invariant-loop-i l = (l.i ≤ l.i-end) × (with_places_lem l.fst l.snd (work_of l.self) l.mask ≡ with_places_lem l.fst l.snd (rest (entries_in l.self) l.i-end l.i) l.places)
