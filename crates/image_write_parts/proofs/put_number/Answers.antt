@@ -11,8 +11,7 @@ pub loop-preserved : goal.loop-preserved
 loop-preserved c =
     let l = c.loop in
     let p = c.put_byte-here.ensures in
-    let e : c.args.w - l.counter - 1 ≡ c.args.w - (l.counter + 1) = omega arith in
-    (
+    let e : c.args.w - l.counter - 1 ≡ c.args.w - (l.counter + 1) = omega arith in (
       omega (arith, p.ends),
       l.invariant.1 ∙ (put_step (c.args.w - l.counter) l.rest _ (omega arith) c.low.ensures p ∙ rw e),
     )
