@@ -30,5 +30,12 @@ fn every_given(values: &[u8], n: usize) -> bool
 pub fn are_given(values: &[u8], n: usize) -> bool
     ensures { result ≡ are_given_lem n values.now }
 {
-    values.len() % 16 == 0 && values.len() / 16 == n && every_given(values, n)
+    let len = values.len();
+    if len % 16 != 0 {
+        return false;
+    }
+    if len / 16 != n {
+        return false;
+    }
+    every_given(values, n)
 }
