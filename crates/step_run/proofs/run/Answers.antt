@@ -2,7 +2,6 @@
 use mathlib.Core.Path.{◌≡◌, refl}
 use native.Mathlib.Omega.{arith}
 use borrow.Author.Rules.{rules}
-use Rattle.std.proofs.lemmas.Grind.{common_steps}
 use Rattle.step_turn.proofs.RestLaws.{lawful_in}
 use Rattle.step_turn.proofs.SureLaws.{advance_sure}
 use Rattle.step_run.proofs.LoopLaws.{advances_as, is_full, going_next, going-stops, going-all}
@@ -11,12 +10,6 @@ use Rattle.step_run.proofs.run.Goals.{After-eq}
 
 full_is : (c : After-eq) → c.eq.result ≡ is_full c.in-Err.stop
 full_is c = search rules
-
-full_2 : (c : After-eq) → c.eq.result ≡ is_full c.in-Err.stop
-full_2 c = grind (arith, common_steps)
-
-full_3 : (c : After-eq) → c.eq.result ≡ is_full c.in-Err.stop
-full_3 c = let h = c.eq.ensures in ?
 
 pub returns-in-Err : goal.returns-in-Err
 returns-in-Err c =
