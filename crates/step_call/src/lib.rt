@@ -29,18 +29,10 @@ fn is_forged(image: &[u8], stepper: Stepper, ends: &[u32], store: &[u8], header:
     requires { Ready stepper.frame image.now × ((header.position < stepper.frame.count) × (Holds store.now header × Ends (records_in stepper.frame image.now) ends.now)) }
     ensures { Forged stepper image.now store.now header result }
 {
-    let ended = header.ended;
-    let stopped = header.stopped;
-    if ended == 1 {
+    if header.ended || header.stopped || !stepper.linear {
         return false;
     }
-    if stopped == 1 {
-        return false;
-    }
-    if stepper.linear {
-        return stops(image, stepper, ends, store, header, false);
-    }
-    false
+    stops(image, stepper, ends, store, header, false)
 }
 
 // Are the IDs of the linear machine's list distinct? It is asked once a call: steps keep them so.
@@ -79,11 +71,7 @@ fn step_on(
     ensures { StepsOn stepper image.now steps store.old events.old store.new events.new result }
 {
     let frame = stepper.frame;
-    let header = open_store(image, frame, store);
-    let ended = header.ended;
-    if 1 < ended {
-        return Err(Failure::NoState);
-    }
+    let header = open_store(image, frame, store).ok_or(Failure::NoState)?;
     let mut ends = [0u32; 4000];
     fill_ends(image, frame, &mut ends);
     if is_forged(image, stepper, &ends, store, header) {

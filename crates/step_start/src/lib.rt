@@ -18,7 +18,6 @@ ghost use Rattle.step_ask.specs.Asking.{stepper_of};
 ghost use Rattle.step_answer_spec.specs.Saying.{result_of, Accepted};
 ghost use Rattle.step_start.specs.Starting.{first_header_lem, Flags, HasDefinition, StartsIn, StartsOn};
 
-use image_fields::Found;
 use image_kinds::kinds::Kind;
 use image_spec::Layout;
 use image_write_bytes::bytes::copy;
@@ -72,8 +71,8 @@ fn first_header(position: u32, entries: u64) -> Header
 {
     Header {
         position,
-        ended: 0,
-        stopped: 0,
+        ended: false,
+        stopped: false,
         cells: 0,
         heap: 0,
         entries,
@@ -126,10 +125,8 @@ fn start_on(
     let definitions = stepper.definitions;
     let mut ends = [0u32; 4000];
     fill_ends(image, frame, &mut ends);
-    match find_definition(image, frame, &ends, definitions, definition) {
-        Found::Nothing => Err(Failure::NoState),
-        Found::At(i) => start_in(image, stepper, &ends, i, values, store),
-    }
+    let i = find_definition(image, frame, &ends, definitions, definition).ok_or(Failure::NoState)?;
+    start_in(image, stepper, &ends, i, values, store)
 }
 
 // A start of the source or the linear stepper at the definition with this place among the definitions.
