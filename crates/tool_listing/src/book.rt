@@ -41,7 +41,10 @@ fn entry(line: &[u8]) -> Option<(u16, &[u8])> {
         return None;
     }
     let name = str::from_utf8(digits).ok()?.parse().ok()?;
-    let end = spelling.iter().position(|b| *b == b'\r').unwrap_or(spelling.len());
+    let end = spelling
+        .iter()
+        .position(|b| *b == b'\r')
+        .unwrap_or(spelling.len());
     let (spelling, _) = spelling.split_at_checked(end)?;
     Some((name, spelling))
 }

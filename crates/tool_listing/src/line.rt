@@ -128,7 +128,11 @@ impl Page<'_> {
                 self.say(" {")
             }
             Record::PrintI64 { newline, variable } => {
-                self.say(if newline { "println_i64(" } else { "print_i64(" })?;
+                self.say(if newline {
+                    "println_i64("
+                } else {
+                    "print_i64("
+                })?;
                 self.variable(variable)?;
                 self.say(");")
             }

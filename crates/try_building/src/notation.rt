@@ -52,12 +52,17 @@ fn letter(record: &[u8]) -> Option<u8> {
 struct Saying<'a> {
     record: Reader<'a>,
     said: String,
-    // The ID of labels, tags and types, and whether it is that of this record already.
-    other: u16,
-    own: bool,
+    // The ID of labels, tags and types before this record, and that of its own first one.
+    before: u16,
+    own: Option<u16>,
 }
 
 impl<'a> Saying<'a> {
+    // The ID that labels, tags and types have.
+    fn other(&self) -> u16 {
+        self.own.unwrap_or(self.before)
+    }
+
     fn byte(&mut self) -> Result<u8, Unsaid> {
         self.record.byte().ok_or(Unsaid::Otherwise)
     }
@@ -85,11 +90,7 @@ impl<'a> Saying<'a> {
     fn named(&mut self, name: u16) -> Result<(), Unsaid> {
         only(self.half()? == name)?;
         let id = self.half()?;
-        if !self.own {
-            self.own = true;
-            self.other = id;
-        }
-        only(id == self.other)
+        only(id == *self.own.get_or_insert(id))
     }
 
     // A variable: its ID, and its name where that is another than usual.
@@ -121,7 +122,7 @@ impl<'a> Saying<'a> {
         if name != TYPE {
             write!(self.said, "{name}")?;
         }
-        only(self.half()? == self.other)
+        only(self.half()? == self.other())
     }
 
     // The type I64.
@@ -165,14 +166,14 @@ fn say(alloc: Global, record: &[u8], before: u16) -> Result<(String, u16), Unsai
     let mut saying = Saying {
         record: Reader::new(record),
         said: String::new(alloc),
-        other: before,
-        own: false,
+        before,
+        own: None,
     };
     for part in layout(letter).ok_or(Unsaid::Otherwise)? {
         saying.part(*part)?;
     }
     only(saying.record.rest().is_empty())?;
-    let other = saying.other;
+    let other = saying.other();
     let mut text = String::new(alloc);
     if other != before {
         write!(text, "#{other} ")?;

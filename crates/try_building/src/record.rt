@@ -1,8 +1,8 @@
 // Records, by their kinds.
-ghost use Rattle.std.specs.Prelude.{length};
 ghost use Rattle.std.specs.Iterator.{at_most};
 
 use crate::reader::Reader;
+use std::marker::PhantomData;
 
 // A name and an ID: a variable, a label, a tag or a declared type.
 #[derive(Clone, Copy, PartialEq, Eq)]
@@ -119,8 +119,15 @@ pub struct Binding {
     pub ty: Ty,
 }
 
-impl Binding {
-    const SIZE: usize = 10;
+// What a list has: its bytes.
+pub trait Item: Sized {
+    const SIZE: u8;
+
+    fn read(reader: &mut Reader<'_>) -> Option<Self>;
+}
+
+impl Item for Binding {
+    const SIZE: u8 = 10;
 
     fn read(reader: &mut Reader<'_>) -> Option<Binding> {
         Some(Binding {
@@ -138,8 +145,8 @@ pub struct Substitution {
     pub source: Identifier,
 }
 
-impl Substitution {
-    const SIZE: usize = 14;
+impl Item for Substitution {
+    const SIZE: u8 = 14;
 
     fn read(reader: &mut Reader<'_>) -> Option<Substitution> {
         Some(Substitution {
@@ -149,57 +156,55 @@ impl Substitution {
     }
 }
 
-// The bindings of a list that are still to come.
+// The items of a list that are still to come.
 #[derive(Clone, Copy)]
-pub struct Bindings<'a>(&'a [u8]);
+pub struct List<'a, T> {
+    left: u8,
+    rest: &'a [u8],
+    items: PhantomData<T>,
+}
 
-impl<'a> Bindings<'a> {
+pub type Bindings<'a> = List<'a, Binding>;
+
+// The pairs of a Substitute.
+pub type Substitutions<'a> = List<'a, Substitution>;
+
+impl<'a, T: Item> List<'a, T> {
+    fn empty() -> List<'a, T> {
+        List {
+            left: 0,
+            rest: &[],
+            items: PhantomData,
+        }
+    }
+
+    fn read(reader: &mut Reader<'a>) -> Option<List<'a, T>> {
+        let left = reader.byte()?;
+        Some(List {
+            left,
+            rest: reader.take(usize::from(left) * usize::from(T::SIZE))?,
+            items: PhantomData,
+        })
+    }
+
     pub fn len(self) -> usize {
-        self.0.len() / Binding::SIZE
-    }
-
-    fn read(reader: &mut Reader<'a>) -> Option<Bindings<'a>> {
-        let n = usize::from(reader.byte()?);
-        Some(Bindings(reader.take(n * Binding::SIZE)?))
+        usize::from(self.left)
     }
 }
 
-impl<'a> Iterator for Bindings<'a> {
-    type Item = Binding;
+impl<'a, T: Item> Iterator for List<'a, T> {
+    type Item = T;
 
-    ghost remaining = { λ s. at_most (length s.0.now) };
+    ghost remaining = { λ s. at_most s.left };
 
-    fn next(&mut self) -> Option<Binding> {
-        let (first, rest) = self.0.split_at_checked(Binding::SIZE)?;
-        self.0 = rest;
-        Binding::read(&mut Reader::new(first))
-    }
-}
-
-// The pairs of a Substitute that are still to come.
-#[derive(Clone, Copy)]
-pub struct Substitutions<'a>(&'a [u8]);
-
-impl<'a> Substitutions<'a> {
-    pub fn len(self) -> usize {
-        self.0.len() / Substitution::SIZE
-    }
-
-    fn read(reader: &mut Reader<'a>) -> Option<Substitutions<'a>> {
-        let n = usize::from(reader.byte()?);
-        Some(Substitutions(reader.take(n * Substitution::SIZE)?))
-    }
-}
-
-impl<'a> Iterator for Substitutions<'a> {
-    type Item = Substitution;
-
-    ghost remaining = { λ s. at_most (length s.0.now) };
-
-    fn next(&mut self) -> Option<Substitution> {
-        let (first, rest) = self.0.split_at_checked(Substitution::SIZE)?;
-        self.0 = rest;
-        Substitution::read(&mut Reader::new(first))
+    fn next(&mut self) -> Option<T> {
+        if self.left == 0 {
+            return None;
+        }
+        self.left -= 1;
+        let (first, rest) = self.rest.split_at_checked(usize::from(T::SIZE))?;
+        self.rest = rest;
+        T::read(&mut Reader::new(first))
     }
 }
 
@@ -297,14 +302,14 @@ impl<'a> Record<'a> {
         match kind {
             1 => Some(Record::Definition {
                 label: Identifier::read(reader)?,
-                parameters: Bindings::read(reader)?,
+                parameters: List::read(reader)?,
             }),
             2 => Some(Record::Substitute {
-                pairs: Substitutions::read(reader)?,
+                pairs: List::read(reader)?,
             }),
             3 => Some(Record::Call {
                 label: Identifier::read(reader)?,
-                arguments: Bindings::read(reader)?,
+                arguments: List::read(reader)?,
             }),
             8 => Some(Record::Literal {
                 value: reader.signed()?,
@@ -312,7 +317,7 @@ impl<'a> Record<'a> {
             }),
             11 => Some(Record::Clause {
                 tag: Identifier::read(reader)?,
-                parameters: Bindings::read(reader)?,
+                parameters: List::read(reader)?,
             }),
             12 => Some(Record::PrintI64 {
                 newline: mark(reader)?,
@@ -330,7 +335,7 @@ impl<'a> Record<'a> {
             variable: Identifier::read(reader)?,
             ty: Ty::read(reader)?,
             tag: Identifier::read(reader)?,
-            arguments: Bindings::read(reader)?,
+            arguments: List::read(reader)?,
         })
     }
 
@@ -346,7 +351,7 @@ impl<'a> Record<'a> {
         let variable = Identifier::read(reader)?;
         let ty = Ty::read(reader)?;
         let environment = if mark(reader)? {
-            Some(Bindings::read(reader)?)
+            Some(List::read(reader)?)
         } else {
             None
         };
@@ -363,7 +368,7 @@ impl<'a> Record<'a> {
             variable: Identifier::read(reader)?,
             tag: Identifier::read(reader)?,
             ty: Ty::read(reader)?,
-            arguments: Bindings::read(reader)?,
+            arguments: List::read(reader)?,
         })
     }
 
@@ -406,7 +411,7 @@ impl<'a> Record<'a> {
     pub fn parameters(self) -> Bindings<'a> {
         match self {
             Record::Definition { parameters, .. } | Record::Clause { parameters, .. } => parameters,
-            _ => Bindings(&[]),
+            _ => List::empty(),
         }
     }
 
@@ -416,7 +421,7 @@ impl<'a> Record<'a> {
             Record::Call { arguments, .. }
             | Record::Let { arguments, .. }
             | Record::Invoke { arguments, .. } => arguments,
-            _ => Bindings(&[]),
+            _ => List::empty(),
         }
     }
 

@@ -76,9 +76,7 @@ impl<'a> Text<'a> {
     // Reads up to the first byte that is no digit.
     fn digits(&mut self) -> Option<&'a str> {
         let end = self.rest.iter().position(|b| !b.is_ascii_digit());
-        let (digits, rest) = self
-            .rest
-            .split_at_checked(end.unwrap_or(self.rest.len()))?;
+        let (digits, rest) = self.rest.split_at_checked(end.unwrap_or(self.rest.len()))?;
         self.rest = rest;
         str::from_utf8(digits).ok()
     }

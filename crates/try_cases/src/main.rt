@@ -53,7 +53,8 @@ impl Function {
 }
 
 fn number(text: &str) -> io::Result<usize> {
-    text.parse().map_err(|_| malformed("a name has no number behind its @"))
+    text.parse()
+        .map_err(|_| malformed("a name has no number behind its @"))
 }
 
 impl Call {
@@ -145,7 +146,11 @@ fn left(out: &mut impl Write, answer: Answer, buffer: &[u8], lent: usize) -> io:
         }
         _ => {
             let kept = is_full(Some(buffer), MARK);
-            write!(out, "{}", if kept { ", all kept" } else { ", NOT ALL KEPT" })
+            write!(
+                out,
+                "{}",
+                if kept { ", all kept" } else { ", NOT ALL KEPT" }
+            )
         }
     }
 }
@@ -181,7 +186,9 @@ fn case(
     let image = build(alloc, line.as_bytes())?;
     let before = image.clone()?;
     let mut buffer = [MARK; BUFFER];
-    let lent = buffer.get_mut(..call.lent).ok_or(malformed("too much is lent"))?;
+    let lent = buffer
+        .get_mut(..call.lent)
+        .ok_or(malformed("too much is lent"))?;
     let answer = call.make(&image, lent);
     write!(out, "{name}: {answer}")?;
     match call.function {
@@ -190,7 +197,15 @@ fn case(
         Function::Linearize => {
             left(out, answer, &buffer, call.lent)?;
             let kept = image == before;
-            write!(out, "{}", if kept { ", image kept" } else { ", IMAGE NOT KEPT" })?;
+            write!(
+                out,
+                "{}",
+                if kept {
+                    ", image kept"
+                } else {
+                    ", IMAGE NOT KEPT"
+                }
+            )?;
             if answer.number == 0 {
                 let written = buffer.get(..answer.length).unwrap_or(&[]);
                 read(out, alloc, written)?;
@@ -210,7 +225,9 @@ fn cases(out: &mut impl Write, alloc: Global, text: &str) -> io::Result<()> {
         if let Some(name) = line.strip_prefix('=') {
             function = Function::named(name)?;
         } else {
-            let (name, rest) = line.split_once(": ").ok_or(malformed("a case has no colon"))?;
+            let (name, rest) = line
+                .split_once(": ")
+                .ok_or(malformed("a case has no colon"))?;
             case(out, alloc, function, name, rest)?;
         }
     }

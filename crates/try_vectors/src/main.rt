@@ -2,99 +2,91 @@
 // calls answer the same, by function and number. oracle/vectors/src/lib.rs says the form of the input.
 #![tactic(auto)]
 
-mod bytes;
-mod file;
+mod call;
 mod replay;
-mod report;
 mod steppers;
 mod tally;
+mod trouble;
 
-use file::{Call, HEAD, LARGEST, STEPPERS, at_end, take, take_part};
-use replay::{GUARDED, replay};
-use steppers::replay_steps;
+use call::{Call, Function};
+use replay::{LARGEST, replay};
+use std::alloc::Global;
+use std::io::{self, BufWriter, Read, Write};
+use steppers::Left;
 use tally::Tally;
-use try_building::build::plus;
-use try_building::text::{byte, wide, word};
+use trouble::Trouble;
+use try_building::reader::Reader;
 
-// A call: its head, and behind it what the lent buffer begins with after the call, of a stepper the events and what else it has.
-fn call(image: &[u8], kept: &[u8], left: &mut [u8; GUARDED], tally: Tally) -> Tally {
-    let mut head = [0u8; HEAD];
-    let mut text = io::large_buffer();
-    if take(&mut head) {
-        let call = Call::of(&head);
-        let n = plus(call.length, call.more);
-        if n <= LARGEST {
-            if take_part(&mut text, n) {
-                let seen = if call.function < STEPPERS {
-                    replay(call, image, kept, &text[0..n])
-                } else {
-                    replay_steps(call, image, kept, &text[0..n], left)
-                };
-                return tally.with(call, seen);
+// An image and its calls. A copy of the image is kept, since no call may change it.
+fn image(
+    out: &mut impl Write,
+    alloc: Global,
+    input: &mut Reader<'_>,
+    tally: &mut Tally,
+) -> Result<(), Trouble> {
+    let n = input.word().ok_or(Trouble::Broken)? as usize;
+    if LARGEST < n {
+        return Err(Trouble::Broken);
+    }
+    let image = input.take(n).ok_or(Trouble::Broken)?;
+    let kept = Vec::from_slice(alloc, image)?;
+    let mut left = Left::new(alloc)?;
+    for _ in 0..input.byte().ok_or(Trouble::Broken)? {
+        let call = Call::read(input).ok_or(Trouble::Broken)?;
+        let seen = match call.function {
+            Function::Read | Function::Check | Function::Linearize | Function::Annotate => {
+                replay(alloc, call, image, &kept)?
             }
-        }
+            _ => left.replay(alloc, call, image, &kept)?,
+        };
+        tally.add(out, call, seen)?;
     }
-    tally.broke()
-}
-
-// The calls of an image. A copy of the image is kept, since no call may change it.
-fn calls(image: &[u8], kept: &[u8], tally: Tally) -> Tally {
-    let mut count = [0u8; 1];
-    let mut left = [0u8; GUARDED];
-    let mut next = tally;
-    if !take(&mut count) {
-        return tally.broke();
-    }
-    for _ in 0..wide(byte(&count, 0)) {
-        if next.broken {
-            return next;
-        }
-        next = call(image, kept, &mut left, next);
-    }
-    next.next()
-}
-
-// An image and its calls.
-fn image(tally: Tally) -> Tally {
-    let mut length = [0u8; 4];
-    let mut image = io::large_buffer();
-    if take(&mut length) {
-        let n = word(&length, 0);
-        if n <= LARGEST {
-            if take_part(&mut image, n) {
-                let kept = image;
-                return calls(&image[0..n], &kept[0..n], tally);
-            }
-        }
-    }
-    tally.broke()
+    tally.next();
+    Ok(())
 }
 
 // A list of images: their count, and the images.
-fn images(tally: Tally) -> Tally {
-    let mut count = [0u8; 4];
-    let mut next = tally;
-    if !take(&mut count) {
-        return tally.broke();
+fn images(
+    out: &mut impl Write,
+    alloc: Global,
+    input: &mut Reader<'_>,
+    tally: &mut Tally,
+) -> Result<(), Trouble> {
+    for _ in 0..input.word().ok_or(Trouble::Broken)? {
+        image(out, alloc, input, tally)?;
     }
-    for _ in 0..word(&count, 0) {
-        if next.broken {
-            return next;
-        }
-        next = image(next);
-    }
-    next
+    Ok(())
 }
 
 // The whole input: two lists of images, and nothing behind them.
-fn all() -> Tally {
-    let tally = images(images(Tally::new()));
-    if at_end() {
-        return tally;
+fn all(
+    out: &mut impl Write,
+    alloc: Global,
+    input: &[u8],
+    tally: &mut Tally,
+) -> Result<(), Trouble> {
+    let mut input = Reader::new(input);
+    images(out, alloc, &mut input, tally)?;
+    images(out, alloc, &mut input, tally)?;
+    if input.rest().is_empty() {
+        Ok(())
+    } else {
+        Err(Trouble::Broken)
     }
-    tally.broke()
 }
 
-fn main() {
-    all().show();
+fn main(rt: HostRuntime) -> io::Result<()> {
+    let alloc = rt.alloc();
+    let mut input = Vec::new(alloc);
+    rt.reader().read_to_end(&mut input)?;
+    let mut out = BufWriter::new(alloc, rt.stdout())?;
+    let mut tally = Tally::new();
+    let ended = all(&mut out, alloc, &input, &mut tally);
+    tally.show(&mut out)?;
+    match ended {
+        Ok(()) => {}
+        Err(Trouble::Broken) => writeln!(out, "the input is broken")?,
+        Err(Trouble::Output(error)) => return Err(error),
+    }
+    out.flush()
 }

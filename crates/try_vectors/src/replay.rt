@@ -1,88 +1,83 @@
 // Making a call again, and what it leaves.
-use crate::bytes::differs;
-use crate::file::Call;
-use try_building::build::plus;
-use try_building::text::holds;
+use crate::call::{Answer, Call, Function};
+use crate::trouble::Trouble;
+use std::alloc::Global;
 
-// The lent buffer is a part of an array that goes on for at least 64 bytes.
-pub const GUARDED: usize = 65600;
+// No image and no lent buffer has more bytes.
+pub const LARGEST: usize = 65536;
+
+// The lent buffer is a part of an array that goes on for so many bytes.
+pub const GUARD: usize = 64;
 
 // What a call answered, and what it left.
 #[derive(Clone, Copy)]
 pub struct Outcome {
-    pub number: usize,
-    pub length: usize,
-    pub max_id: usize,
-    // The first place at which the lent buffer is not as expected, and of a stepper the same of the event buffer; GUARDED if there is none.
-    pub buffer: usize,
-    pub events: usize,
+    pub answer: Answer,
+    // The first place at which the lent buffer is not as expected, and of a stepper the same of the event buffer.
+    pub buffer: Option<usize>,
+    pub events: Option<usize>,
     // Whether the image is as it was.
     pub image: bool,
 }
 
 impl Outcome {
-    pub fn answered(number: u32, length: usize, max_id: usize) -> Outcome {
-        Outcome {
-            number: number as usize,
-            length,
-            max_id,
-            buffer: 0,
-            events: GUARDED,
-            image: false,
+    pub fn agrees(self, call: Call<'_>) -> bool {
+        self.answer == call.expected && self.buffer.is_none() && self.events.is_none() && self.image
+    }
+}
+
+// The first place at which a buffer has another byte than expected: the text, and behind it the rest byte.
+pub fn differs(buffer: &[u8], text: &[u8], rest: u8) -> Option<usize> {
+    for (i, b) in buffer.iter().enumerate() {
+        if *b != text.get(i).copied().unwrap_or(rest) {
+            return Some(i);
         }
     }
-
-    pub fn agrees(self, call: Call) -> bool {
-        self.number == call.number
-            && self.length == call.length
-            && self.max_id == call.max_id
-            && self.buffer == GUARDED
-            && self.events == GUARDED
-            && self.image
-    }
+    None
 }
 
-fn ask(call: Call, image: &[u8], out: &mut [u8], length: &mut usize, max_id: &mut u32) -> u32 {
-    let function = call.function;
-    match function {
-        0 => axcut::axcut_read(image, length, max_id),
-        1 => axcut::axcut_check(image, length, max_id),
-        2 => axcut::axcut_linearize(image, out, length, max_id),
-        _ => axcut::axcut_annotate(image, call.index, out, length, max_id),
-    }
-}
-
-// The call with the first bytes of an array as its buffer. Before it length and max_id hold numbers that no answer has; a buffer that is
-// larger than the array gets them all.
-fn asked(call: Call, image: &[u8], array: &mut [u8]) -> Outcome {
+// Before the call length and max_id hold numbers that no answer has.
+fn ask(call: Call<'_>, image: &[u8], out: &mut [u8]) -> Answer {
     let mut length: usize = 99999;
     let mut max_id: u32 = 99999;
-    let room = call.room;
-    if room <= array.len() {
-        let number = ask(call, image, &mut array[0..room], &mut length, &mut max_id);
-        return Outcome::answered(number, length, max_id as usize);
-    }
-    Outcome::answered(99999, length, max_id as usize)
-}
-
-// The first place at which the buffer or what lies behind it is not as expected, or the array's length.
-fn left(call: Call, array: &[u8], text: &[u8]) -> usize {
-    let room = call.room;
-    if room <= array.len() {
-        let place = differs(&array[0..room], text, call.length, call.rest());
-        if place < room {
-            return place;
+    let number = match call.function {
+        Function::Read => axcut::axcut_read(image, &mut length, &mut max_id),
+        Function::Check => axcut::axcut_check(image, &mut length, &mut max_id),
+        Function::Linearize => axcut::axcut_linearize(image, out, &mut length, &mut max_id),
+        _ => {
+            let record = call.index as usize;
+            axcut::axcut_annotate(image, record, out, &mut length, &mut max_id)
         }
-        return plus(room, differs(&array[room..], b"", 0, call.old));
+    };
+    Answer {
+        number,
+        length,
+        max_id: u64::from(max_id),
     }
-    0
 }
 
 // Makes a call, and looks at all that it could have written.
-pub fn replay(call: Call, image: &[u8], kept: &[u8], text: &[u8]) -> Outcome {
-    let mut array = [call.old; GUARDED];
-    let mut seen = asked(call, image, &mut array);
-    seen.buffer = left(call, &array, text);
-    seen.image = holds(image, kept, 0);
-    seen
+pub fn replay(
+    alloc: Global,
+    call: Call<'_>,
+    image: &[u8],
+    kept: &[u8],
+) -> Result<Outcome, Trouble> {
+    let room = call.room;
+    if LARGEST < room {
+        return Err(Trouble::Broken);
+    }
+    let mut array = vec![in alloc; call.old; room + GUARD]?;
+    let (out, behind) = array.split_at_mut(room);
+    let answer = ask(call, image, out);
+    let buffer = match differs(out, call.text, call.rest()) {
+        Some(place) => Some(place),
+        None => differs(behind, b"", call.old).map(|place| place.saturating_add(room)),
+    };
+    Ok(Outcome {
+        answer,
+        buffer,
+        events: None,
+        image: image == kept,
+    })
 }

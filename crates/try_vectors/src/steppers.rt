@@ -1,92 +1,109 @@
 // Making a call of a stepper again, and what it leaves.
-use crate::bytes::{change, differs};
-use crate::file::Call;
-use crate::replay::{GUARDED, Outcome};
-use try_building::build::plus;
-use try_building::text::{half, holds};
+use crate::call::{Answer, Call, Function};
+use crate::replay::{GUARD, LARGEST, Outcome, differs};
+use crate::trouble::Trouble;
+use std::alloc::{AllocError, Global};
+use try_building::reader::Reader;
 
-// The values of a start come so many bytes behind the events: the length of the event buffer and theirs stand before them.
-const VALUES: usize = 4;
+// What the calls of steppers on an image are expected to leave in the array that their stores are the beginning of.
+#[derive(Drop)]
+pub struct Left {
+    array: Vec<u8>,
+}
 
-// A start reports no events and no steps.
-fn ask(
-    call: Call,
-    image: &[u8],
-    values: &[u8],
-    store: &mut [u8],
-    events: &mut [u8],
-    made: &mut u64,
-    length: &mut usize,
-) -> u32 {
-    let function = call.function;
-    match function {
-        4 => {
-            *made = 0;
-            *length = 0;
-            axcut::axcut_source_start(image, call.index, values, store)
-        }
-        5 => axcut::axcut_source_step(image, call.index as u64, store, events, made, length),
-        6 => {
-            *made = 0;
-            *length = 0;
-            axcut::axcut_linear_start(image, call.index, values, store)
-        }
-        _ => axcut::axcut_linear_step(image, call.index as u64, store, events, made, length),
+// What a call of a stepper has beside the expected events: the length of the event buffer, and the values of a start.
+#[derive(Clone, Copy)]
+struct Lent<'a> {
+    events: u16,
+    values: &'a [u8],
+}
+
+impl<'a> Lent<'a> {
+    fn read(more: &mut Reader<'a>) -> Option<Lent<'a>> {
+        let events = more.half()?;
+        let n = usize::from(more.half()?);
+        Some(Lent {
+            events,
+            values: more.take(n)?,
+        })
     }
 }
 
-// The call with the first bytes of two arrays as its buffers, and the values that stand in the text up to a place. Before it made and
-// length hold numbers that no answer has; a buffer that is larger than its array gets them all.
-fn asked(
-    call: Call,
-    image: &[u8],
-    text: &[u8],
-    end: usize,
-    store: &mut [u8],
-    events: &mut [u8],
-) -> Outcome {
-    let mut made: u64 = 99999;
-    let mut length: usize = 99999;
-    let from = plus(call.length, VALUES);
-    let room = call.room;
-    let shown = half(text, call.length);
-    if from <= end && end <= text.len() {
-        if room <= store.len() && shown <= events.len() {
-            let number = ask(
-                call,
-                image,
-                &text[from..end],
-                &mut store[0..room],
-                &mut events[0..shown],
-                &mut made,
-                &mut length,
-            );
-            return Outcome::answered(number, length, made as usize);
+// A start reports no events and no steps. Before a step made and length hold numbers that no answer has.
+fn ask(call: Call<'_>, image: &[u8], values: &[u8], store: &mut [u8], events: &mut [u8]) -> Answer {
+    let index = call.index;
+    let mut made: u64 = if call.function.starts() { 0 } else { 99999 };
+    let mut length: usize = if call.function.starts() { 0 } else { 99999 };
+    let number = match call.function {
+        Function::SourceStart => { axcut::axcut_source_start(image, index as usize, values, store) }
+        Function::LinearStart => { axcut::axcut_linear_start(image, index as usize, values, store) }
+        Function::SourceStep => {
+            axcut::axcut_source_step(image, index, store, events, &mut made, &mut length)
         }
+        _ => axcut::axcut_linear_step(image, index, store, events, &mut made, &mut length),
+    };
+    Answer {
+        number,
+        length,
+        max_id: made,
     }
-    Outcome::answered(99999, length, made as usize)
 }
 
-// Makes a call and looks at all that it could have written. The array has what the call before must have left in its store, and then what
-// this one must leave: so the store goes by what is expected, whatever was answered.
-pub fn replay_steps(
-    call: Call,
-    image: &[u8],
-    kept: &[u8],
-    text: &[u8],
-    left: &mut [u8; GUARDED],
-) -> Outcome {
-    if call.starts() {
-        *left = [call.old; GUARDED];
+impl Left {
+    pub fn new(alloc: Global) -> Result<Left, AllocError> {
+        Ok(Left {
+            array: vec![in alloc; 0; LARGEST + GUARD]?,
+        })
     }
-    let end = plus(plus(call.length, VALUES), half(text, plus(call.length, 2)));
-    let at = change(text, end, left);
-    let mut store = *left;
-    change(text, at, left);
-    let mut events = [call.old; GUARDED];
-    let mut seen = asked(call, image, text, end, &mut store, &mut events);
-    seen.buffer = differs(&store, left, GUARDED, 0);
-    seen.events = differs(&events, text, call.length, call.old);
-    seen.image = holds(image, kept, 0);
-    seen
+
+    // Changes the array: a count, and for each byte its distance from the place of the one before (the first from 0) and the byte.
+    fn change(&mut self, changes: &mut Reader<'_>) -> Option<()> {
+        let mut at = 0usize;
+        for _ in 0..changes.half()? {
+            at = at.checked_add(usize::from(changes.byte()?))?;
+            *self.array.get_mut(at)? = changes.byte()?;
+        }
+        Some(())
+    }
+
+    // Makes a call and looks at all that it could have written. The array has what the call before must have left in its store, and then what
+    // this one must leave: so the store goes by what is expected, whatever was answered.
+    pub fn replay(
+        &mut self,
+        alloc: Global,
+        call: Call<'_>,
+        image: &[u8],
+        kept: &[u8],
+    ) -> Result<Outcome, Trouble> {
+        let mut more = call.more;
+        let lent = Lent::read(&mut more).ok_or(Trouble::Broken)?;
+        if call.function.starts() {
+            self.array.fill(call.old);
+        }
+        self.change(&mut more).ok_or(Trouble::Broken)?;
+        let mut array = Vec::from_slice(alloc, &self.array)?;
+        self.change(&mut more).ok_or(Trouble::Broken)?;
+        let room = usize::from(lent.events);
+        let mut events = vec![in alloc; call.old; room + GUARD]?;
+        let store = array
+            .as_mut_slice()
+            .get_mut(..call.room)
+            .ok_or(Trouble::Broken)?;
+        let shown = events
+            .as_mut_slice()
+            .get_mut(..room)
+            .ok_or(Trouble::Broken)?;
+        let answer = ask(call, image, lent.values, store, shown);
+        let buffer = if array == self.array {
+            None
+        } else {
+            differs(&array, &self.array, 0)
+        };
+        Ok(Outcome {
+            answer,
+            buffer,
+            events: differs(&events, call.text, call.old),
+            image: image == kept,
+        })
+    }
 }

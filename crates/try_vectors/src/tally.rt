@@ -1,121 +1,106 @@
 // How many calls agree.
-use crate::file::Call;
+use crate::call::{Call, Function};
 use crate::replay::Outcome;
-use crate::report::{function, mismatch};
-use try_building::show::{counted, line, say};
-
-const FUNCTIONS: usize = 8;
+use std::io::{self, Write};
 
 // The answers are 0 to 15.
 const ANSWERS: usize = 16;
 
-// The answers of all functions.
-const COUNTS: usize = 128;
-
-// Counts end at a million.
-fn one_more(n: usize) -> usize {
-    if n < 1000000 { n + 1 } else { n }
-}
-
-// Where a call is counted; COUNTS where there is no such function or no such answer.
-fn place(function: usize, answer: usize) -> usize {
-    if function < FUNCTIONS {
-        if answer < ANSWERS {
-            return function * ANSWERS + answer;
-        }
-    }
-    COUNTS
-}
-
-// A line of the summary; none where there is nothing.
-fn agreeing(place: usize, n: usize) {
-    if 0 < n {
-        function(place / ANSWERS);
-        counted(b" ", place % ANSWERS);
-        counted(b": ", n);
-        line();
-    }
-}
-
 #[derive(Clone, Copy)]
 pub struct Tally {
     // The calls that agree, by function and answer.
-    pub agree: [usize; COUNTS],
+    agree: [[u32; ANSWERS]; 8],
     // The images before the one at hand, and its calls before the one at hand.
-    pub images: usize,
-    pub own: usize,
+    images: u32,
+    own: u32,
     // All calls.
-    pub calls: usize,
-    pub mismatches: usize,
-    // The input is not as it should be: it ends early or goes on, or a size is too large.
-    pub broken: bool,
+    calls: u32,
+    mismatches: u32,
+}
+
+// A call that does not agree, by its image and its place among the calls of that.
+fn mismatch(
+    out: &mut impl Write,
+    image: u32,
+    own: u32,
+    call: Call<'_>,
+    seen: Outcome,
+) -> io::Result<()> {
+    let function = call.function;
+    write!(
+        out,
+        "image {image} call {own}: {function} answers {}",
+        seen.answer
+    )?;
+    write!(out, ", expected {}", call.expected)?;
+    if let Some(place) = seen.buffer {
+        write!(out, ", other bytes in the buffer from {place}")?;
+    }
+    if let Some(place) = seen.events {
+        write!(out, ", other bytes in the events from {place}")?;
+    }
+    if !seen.image {
+        write!(out, ", other bytes in the image")?;
+    }
+    writeln!(out)
 }
 
 impl Tally {
     pub fn new() -> Tally {
         Tally {
-            agree: [0; COUNTS],
+            agree: [[0; ANSWERS]; 8],
             images: 0,
             own: 0,
             calls: 0,
             mismatches: 0,
-            broken: false,
         }
-    }
-
-    pub fn broke(self) -> Tally {
-        let mut tally = self;
-        tally.broken = true;
-        tally
     }
 
     // The image at hand is done.
-    pub fn next(self) -> Tally {
-        let mut tally = self;
-        tally.images = one_more(self.images);
-        tally.own = 0;
-        tally
+    pub fn next(&mut self) {
+        self.images = self.images.saturating_add(1);
+        self.own = 0;
     }
 
-    // The call at hand is done.
-    fn made(self) -> Tally {
-        let mut tally = self;
-        tally.own = one_more(self.own);
-        tally.calls = one_more(self.calls);
-        tally
+    // Where calls like this are counted.
+    fn count(&mut self, call: Call<'_>) -> Option<&mut u32> {
+        let number = call.expected.number as usize;
+        self.agree.get_mut(call.function as usize)?.get_mut(number)
     }
 
     // With what the call at hand answered.
-    pub fn with(self, call: Call, seen: Outcome) -> Tally {
-        let mut tally = self.made();
-        let place = place(call.function, call.number);
-        if place < COUNTS {
-            if seen.agrees(call) {
-                tally.agree[place] = one_more(tally.agree[place]);
-                return tally;
+    pub fn add(&mut self, out: &mut impl Write, call: Call<'_>, seen: Outcome) -> io::Result<()> {
+        let own = self.own;
+        self.own = own.saturating_add(1);
+        self.calls = self.calls.saturating_add(1);
+        if seen.agrees(call) {
+            if let Some(count) = self.count(call) {
+                *count = count.saturating_add(1);
+                return Ok(());
             }
         }
-        mismatch(self.images, self.own, call, seen);
-        tally.mismatches = one_more(self.mismatches);
-        tally
+        self.mismatches = self.mismatches.saturating_add(1);
+        mismatch(out, self.images, own, call, seen)
     }
 
-    fn lines(self) {
-        for i in 0..COUNTS {
-            agreeing(i, self.agree[i]);
+    // A line for each function and answer of which there are calls, and the sums.
+    pub fn show(&self, out: &mut impl Write) -> io::Result<()> {
+        for (function, counts) in Function::ALL.iter().zip(self.agree.iter()) {
+            agreeing(out, *function, counts)?;
         }
+        writeln!(
+            out,
+            "{} images, {} calls, {} mismatches",
+            self.images, self.calls, self.mismatches
+        )
     }
+}
 
-    pub fn show(self) {
-        self.lines();
-        counted(b"", self.images);
-        counted(b" images, ", self.calls);
-        counted(b" calls, ", self.mismatches);
-        say(b" mismatches");
-        line();
-        if self.broken {
-            say(b"the input is broken");
-            line();
+fn agreeing(out: &mut impl Write, function: Function, counts: &[u32; ANSWERS]) -> io::Result<()> {
+    for (answer, n) in counts.iter().enumerate() {
+        if 0 < *n {
+            writeln!(out, "{function} {answer}: {n}")?;
         }
     }
+    Ok(())
 }
