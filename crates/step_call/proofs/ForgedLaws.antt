@@ -11,7 +11,7 @@ use Rattle.step_rule.specs.declared.Stepper.{Stepper}
 use Rattle.step_rule.specs.Rules.{ProgramOf, machine_in, Reads}
 use Rattle.step_order.specs.Stopping.{step_at, StopsBy}
 use Rattle.step_settle.proofs.SettleLaws.{ended-goes}
-use Rattle.step_turn.proofs.RestLaws.{bit-set, bit_clear, ended-bit, stopped-bit}
+use Rattle.step_rule.proofs.Views.{views}
 use Rattle.step_call.specs.Stepping.{Forged}
 
 no_stop : (b c : Bool) → c ≡ false → false ≡ (not b && c)
@@ -19,13 +19,13 @@ no_stop true c e = refl
 no_stop false c e = sym e
 
 module _ {stepper : Stepper} {bytes store : List ℕ} {h : Header} where
-  pub ended_honest : h.ended ≡ 1 → Forged stepper bytes store h false
+  pub ended_honest : h.ended ≡ true → Forged stepper bytes store h false
   ended_honest e = record { is = λ P l p o. no_stop l.has_stopped _ (ended-goes stepper.linear o e) }
 
-  pub stopped_honest : h.stopped ≡ 1 → Forged stepper bytes store h false
+  pub stopped_honest : h.stopped ≡ true → Forged stepper bytes store h false
   stopped_honest e = record {
     is = λ P l p o.
-        ap (λ (b : Bool). not b && is_stop ((machine_in stepper).step P (project P l))) (sym (bit-set l.has_stopped (sym (stopped-bit o) ∙ e)));
+        ap (λ (b : Bool). not b && is_stop ((machine_in stepper).step P (project P l))) (sym (sym (views o).stopped ∙ e));
   }
 
   pub source_honest : stepper.linear ≡ false → Forged stepper bytes store h false
@@ -34,10 +34,10 @@ module _ {stepper : Stepper} {bytes store : List ℕ} {h : Header} where
         no_stop l.has_stopped _ (ap (λ (b : Bool). is_stop ((cond b linear_machine source_machine).step P (project P l))) e ∙ source-never-stops P (project P l));
   }
 
-  pub linear_forged : stepper.linear ≡ true → (h.ended ≡ 1 → ⊥) → (h.stopped ≡ 1 → ⊥) → {b : Bool} → StopsBy step_at stepper bytes store h b → Forged stepper bytes store h b
+  pub linear_forged : stepper.linear ≡ true → h.ended ≡ false → h.stopped ≡ false → {b : Bool} → StopsBy step_at stepper bytes store h b → Forged stepper bytes store h b
   linear_forged e f g {b} s = record {
     is = λ P l p o.
-        let c = bit_clear l.has_stopped (λ k. g (stopped-bit o ∙ k)) in
-        s.is P l p o (bit_clear l.has_ended (λ k. f (ended-bit o ∙ k))) c
+        let c = sym (views o).stopped ∙ g in
+        s.is P l p o (sym (views o).ended ∙ f) c
         ∙ ap₂ {C = Bool} (λ (z y : Bool). not z && is_stop ((cond y linear_machine source_machine).step P (project P l))) (sym c) (sym e);
   }

@@ -3,13 +3,12 @@ use Prim.Native.Nat.{ℕ, ◌^◌, ◌≤◌, ◌<◌}
 use mathlib.Core.Path.{◌≡◌, refl, sym, ap, ◌∙◌, subst}
 use mathlib.Core.Bool.{Bool, true, false, not, ◌&&◌}
 use mathlib.Core.List.{List}
-use borrow.Author.Tests.{le-leb, lt-leb}
 use lib.ListN.{length}
 use Rattle.model.specs.Syntax.{Prog}
 use Rattle.step_spec.specs.Located.{Located, project, is_stop}
 use Rattle.step_spec.proofs.Stepping.{Readable}
 use Rattle.step_header.specs.declared.Header.{Header}
-use Rattle.step_header.specs.Headers.{is_header, Holds}
+use Rattle.step_header.specs.Headers.{Holds}
 use Rattle.step_scan.specs.Pass.{seen}
 use Rattle.step_open.specs.Opening.{Opens}
 use Rattle.step_rule.specs.declared.Stepper.{Stepper}
@@ -18,7 +17,7 @@ use Rattle.step_settle.proofs.Reading.{reads-holds, reads-inside}
 use Rattle.step_turn.specs.Turning.{Living, Lives}
 use Rattle.step_run.specs.declared.Ran.{Ran}
 use Rattle.step_run.specs.Runs.{Runs}
-use Rattle.std.specs.Prelude.{Result, Ok, Err}
+use Rattle.std.specs.Prelude.{Option, Some, None, Result, Ok, Err}
 use Rattle.step_answer_spec.specs.declared.Shown.{Shown}
 use Rattle.step_answer_spec.specs.declared.Failure.{Failure}
 use Rattle.step_answer_spec.specs.declared.Failure.TheVariants.{NoState}
@@ -27,14 +26,14 @@ use Rattle.step_call.specs.Stepping.{said_of, Forged, StepsOn}
 use Rattle.step_call.proofs.OpenedState.{not_opened, opened-reads}
 use Rattle.step_call.proofs.CallLaws.{forged_step, settled_flag, from_none, from-resting, from-ran}
 
-module _ {stepper : Stepper} {bytes store : List ℕ} {h : Header} (o : Opens stepper.frame bytes store h) where
+module _ {stepper : Stepper} {bytes store : List ℕ} {opened : Option Header} (o : Opens stepper.frame bytes store opened) where
   -- it is no state
-  pub none_steps : 1 < h.ended → {n : ℕ} {events : List ℕ} → StepsOn stepper bytes n store events store events (Err NoState)
-  none_steps e {n} {events} = record { steps = λ P p r. from_none (machine_in stepper) P n store events (not_opened p o (lt-leb h.ended 1 e)) }
+  pub none_steps : opened ≡ None → {n : ℕ} {events : List ℕ} → StepsOn stepper bytes n store events store events (Err NoState)
+  none_steps e {n} {events} = record { steps = λ P p r. from_none (machine_in stepper) P n store events (not_opened p o e) }
 
-  module _ (e : h.ended ≤ 1) where
+  module _ {h : Header} (e : opened ≡ Some h) where
     state-read : {P : Prog} → ProgramOf P stepper bytes → Reads P store h (seen store h)
-    state-read p = opened-reads p o (le-leb h.ended 1 e)
+    state-read p = opened-reads p o e
 
     pub opened-holds : Accepted stepper bytes → (h.position < stepper.frame.count) × Holds store h
     opened-holds a = let r = state-read a.is in (reads-inside r a.ready a.is, reads-holds r)

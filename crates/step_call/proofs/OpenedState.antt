@@ -3,34 +3,35 @@ use Prim.Native.Nat.{ℕ, ◌+◌, ◌*◌, ◌^◌, ◌<◌}
 use mathlib.Core.Path.{◌≡◌, refl, sym, ap, ◌∙◌}
 use mathlib.Core.Bool.{Bool, true, false}
 use mathlib.Core.List.{List, ◌++◌, append_assoc}
-use mathlib.Core.Option.{Option, none, some}
+use mathlib.Core.Option.{none, some}
+use Rattle.std.specs.Prelude.{Option, Some, None}
 use lib.ListN.{drop}
 use Rattle.model.specs.Syntax.{Prog}
 use Rattle.image_spec.specs.Parse.{got, each}
 use Rattle.step_slots.specs.Slots.{slot_bytes}
 use Rattle.step_spec.specs.Located.{Located}
-use Rattle.step_spec.specs.Store.{heap_of, environment_of, header_of, header_bytes, header_parser, raw_of, store_bytes, if_formed, state_from}
+use Rattle.step_spec.specs.Store.{heap_of, environment_of, header_of, header_bytes, header_parser, raw_of, store_bytes, state_from}
 use Rattle.step_spec.specs.Store as store
 use Rattle.step_spec.proofs.Slots.{header_exact}
 use Rattle.step_spec.proofs.OneToOne.{Stores, only_its_bytes}
 use Rattle.step_header.specs.declared.Header.{Header}
-use Rattle.step_header.specs.Headers.{tuple_of, is_header}
+use Rattle.step_header.specs.Headers.{tuple_of}
 use Rattle.step_scan.specs.Pass.{Of, seen}
-use Rattle.step_open.specs.Opening.{Opens}
+use Rattle.step_open.specs.Opening.{seen_in, Opens}
 use Rattle.step_rule.specs.declared.Stepper.{Stepper}
 use Rattle.step_rule.specs.Rules.{ProgramOf, Reads}
 
-module _ {P : Prog} {stepper : Stepper} {bytes s : List ℕ} {h : Header} (p : ProgramOf P stepper bytes) (o : Opens stepper.frame bytes s h) where
+module _ {P : Prog} {stepper : Stepper} {bytes s : List ℕ} {opened : Option Header} (p : ProgramOf P stepper bytes) (o : Opens stepper.frame bytes s opened) where
   of : Of P stepper.frame bytes
   of = record { records = p.records }
 
   -- question 14's no
-  pub not_opened : is_header h ≡ false → state_from P s ≡ none
-  not_opened e = o.state P of ∙ ap (λ (b : Bool). if_formed b (seen s h)) e
+  pub not_opened : opened ≡ None → state_from P s ≡ none
+  not_opened e = o.state P of ∙ ap (seen_in s) e
 
-  module _ (e : is_header h ≡ true) where
+  module _ {h : Header} (e : opened ≡ Some h) where
     found : state_from P s ≡ some (seen s h)
-    found = o.state P of ∙ ap (λ (b : Bool). if_formed b (seen s h)) e
+    found = o.state P of ∙ ap (seen_in s) e
 
     same-header : (x y : store.Header) (m n : List ℕ) → got x m ≡ got y n → x ≡ y
     same-header x y m n q = cc
@@ -42,4 +43,4 @@ module _ {P : Prog} {stepper : Stepper} {bytes s : List ℕ} {h : Header} (p : P
         let r = raw_of (seen s h) in
         let rest = each slot_bytes r.heap ++ each slot_bytes r.environment in
         let q : header_parser s ≡ got (header_of r) (rest ++ w.rest) = ap header_parser (w.bytes ∙ append_assoc (header_bytes (header_of r)) rest w.rest) ∙ header_exact.left (header_of r) w.slots.header (rest ++ w.rest) in
-        record { read = found; heads = same-header (tuple_of h) (header_of r) (drop 64 s) (rest ++ w.rest) (sym (o.header e) ∙ q) }
+        record { read = found; heads = same-header (tuple_of h) (header_of r) (drop 64 s) (rest ++ w.rest) (sym (o.header h e) ∙ q) }

@@ -70,16 +70,20 @@ fn say_subject<W: Write>(to: &mut W, subject: Subject<'_>) -> std::io::Result<()
     }
 }
 
-// Why a call failed, without the number of the system's error.
-fn say_error<W: Write>(to: &mut W, error: Error, alloc: Global) -> std::io::Result<()> {
-    let Ok(text) = format!(in alloc; "{error}") else {
-        return to.write_all(b"no memory is left");
-    };
-    let reason = match text.split_once(" (os error ") {
+// The text of an error, without the number of the system's error.
+fn reason(text: &str) -> &str {
+    match text.split_once(" (os error ") {
         Some((reason, _)) => reason,
-        None => text.as_str(),
-    };
-    to.write_all(reason.as_bytes())
+        None => text,
+    }
+}
+
+// Why a call failed.
+fn say_error<W: Write>(to: &mut W, error: Error, alloc: Global) -> std::io::Result<()> {
+    match format!(in alloc; "{error}") {
+        Ok(text) => to.write_all(reason(text.as_str()).as_bytes()),
+        Err(_) => to.write_all(b"no memory is left"),
+    }
 }
 
 fn say_wrong<W: Write>(to: &mut W, wrong: Wrong<'_>) -> std::io::Result<()> {

@@ -48,10 +48,10 @@ fn write_annotation(
     program: &Program<'_>,
     record: usize,
     output: Output,
+    book: &Book<'_>,
     found: &[u8],
 ) -> std::io::Result<()> {
-    let book = Book::empty(rt.alloc());
-    let mut page = Page::new(rt.alloc(), output, &book)?;
+    let mut page = Page::new(rt.alloc(), output, book)?;
     let record = u16::try_from(record)
         .ok()
         .and_then(|k| Image::new(program.bytes()).record(k));
@@ -75,8 +75,12 @@ fn annotate<'a>(
     if raw {
         return opened.write(rt, found);
     }
+    let book = Book::empty(rt.alloc());
     let Opened { output, known } = opened;
-    known.close(rt, write_annotation(rt, program, record, output, found))
+    known.close(
+        rt,
+        write_annotation(rt, program, record, output, &book, found),
+    )
 }
 
 fn write_listing(

@@ -15,14 +15,6 @@ use tool_steps::standing::Standing;
 use tool_steps::state;
 use tool_steps::store::{BYTES, Store};
 
-// Writes the state that a store begins with to its file.
-fn keep<'a>(rt: &HostRuntime, file: &'a [u8], store: &[u8]) -> Result<(), Failure<'a>> {
-    match Store::of(store) {
-        Some(state) => stores::save(rt, file, state.bytes),
-        None => Ok(()),
-    }
-}
-
 // A store in its file, and the machine whose states it has.
 #[derive(Clone, Copy)]
 pub struct Stepping<'a, 'p> {
@@ -81,7 +73,15 @@ impl<'a, 'p> Stepping<'a, 'p> {
                 &mut store,
             )
             .map_err(|refusal| self.program.refused(refusal, 0))?;
-        keep(rt, self.file, &store)
+        self.keep(rt, &store)
+    }
+
+    // Writes the state that a store begins with to the file.
+    fn keep(self, rt: &HostRuntime, store: &[u8]) -> Result<(), Failure<'a>> {
+        match Store::of(store) {
+            Some(state) => stores::save(rt, self.file, state.bytes),
+            None => Err(self.refused(Refusal::State)),
+        }
     }
 
     // A refusal of the store; any other than of a store or of a step is of the image.
@@ -122,7 +122,7 @@ impl<'a, 'p> Stepping<'a, 'p> {
             .write_run(rt, book, steps, store.as_mut_slice())
             .map_err(|e| Failure::Call(Subject::Output, e))?;
         if 0 < ran.made {
-            keep(rt, self.file, store.as_slice())?;
+            self.keep(rt, store.as_slice())?;
         }
         self.write_standing(rt, ran.made, store.as_mut_slice())
             .map_err(|e| Failure::Call(Subject::Output, e))?;
