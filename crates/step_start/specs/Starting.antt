@@ -26,7 +26,7 @@ use Rattle.step_answer_spec.specs.Saying.{result_of, Accepted}
 
 -- the header of a state before the first step
 abbrev pub first_header_lem : (position entries : ℕ) → Header
-first_header_lem p k = record { position = p; ended = 0; stopped = 0; cells = 0; heap = 0; entries = k }
+first_header_lem p k = record { position = p; ended = false; stopped = false; cells = 0; heap = 0; entries = k }
 
 -- document 01: a start whose parameters repeat an ID has stopped with no step made. Otherwise the flag says whether the machine stops there
 abbrev pub start_stops : (linear : Bool) → List VarId → (stops : Bool) → Bool

@@ -1,15 +1,17 @@
 -- `start_on` meets its contract. Assumes nothing.
+use mathlib.Core.Path.{◌≡◌}
+use Rattle.std.specs.Prelude.{Err}
+use Rattle.step_answer_spec.specs.declared.Failure.TheVariants.{NoState}
 use Rattle.step_start.proofs.FoundLaws.{has-definition, starts_nowhere, starts-there}
 use borrow.Author.Rules.{rules}
 use Rattle.step_start.proofs.start_on.Goals as goal
 
 pub start_in-requires : goal.start_in-requires
 start_in-requires c =
-    (has-definition c.find_definition.ensures c.in-At.is c.requires, c.fill_ends.ensures)
+    (has-definition c.find_definition.ensures (search rules) c.requires, c.fill_ends.ensures)
 
-pub returns-in-Nothing : goal.returns-in-Nothing
-returns-in-Nothing c = starts_nowhere c.find_definition.ensures c.in-Nothing.is
+pub returns-in_err-i : goal.returns-in_err-i
+returns-in_err-i c = let e : c.from_residual.result ≡ Err NoState = search rules in rw e (starts_nowhere c.find_definition.ensures (search rules))
 
-pub returns-in-At : goal.returns-in-At
-returns-in-At c =
-    starts-there c.find_definition.ensures c.in-At.is c.start_in.ensures
+pub returns : goal.returns
+returns c = starts-there c.find_definition.ensures (search rules) c.start_in.ensures
