@@ -6,13 +6,13 @@ use mathlib.Core.List.{List, [], ◌∷◌, ◌++◌, append-nil}
 use native.Mathlib.Omega.{arith}
 use lib.Dec.{leb, eqb}
 use lib.ListN.{length, drop, replicate, length-append, length-replicate, drop_of_length-le}
-use lib.Seq.{sets, length-sets}
+use lib.Seq.{length-sets}
 use Rattle.syntax.specs.declared.names.VarId.{VarId}
 use Rattle.syntax.proofs.Bools.{both_true}
 use Rattle.model.specs.Syntax.{Stmt, Substitute, Call, Let, Switch, Create, Invoke, Literal, Op, IfC, PrintI64, Exit, Clauses, end, Prog}
 use Rattle.model.specs.Sizes.{records_defs, depth_defs}
 use Rattle.model.specs.FreeVars.{free_vars, free_vars_clauses, ascending, annotations}
-use Rattle.model.specs.Questions.{asked, asked_defs, plain, any_binders, question6, question7, small}
+use Rattle.model.specs.Questions.{asked, asked_defs, plain, any_binders, question6, question7}
 use Rattle.image_spec.specs.Parse.{each, field, All}
 use Rattle.image_spec.specs.Records.{Record, definition, substitute, call, let', switch, create, invoke, literal, op, ifc, clause', print, exit, RecordOk}
 use Rattle.image_spec.specs.Kinds.{kind_of, clauses_of, bodies}
@@ -44,14 +44,14 @@ use Rattle.scope_spec.proofs.FlatLaws.{question7-flat}
 use Rattle.scope_spec.proofs.Inside.{Inside, inside, asked-parts}
 use Rattle.scope_spec.proofs.IdsFit.{stmt-ids-fit, clauses-ids-fit, two_bytes}
 use Rattle.scope_spec.proofs.MarkLaws.{FitRow, Marks, all_uses, all_uses_clauses, marks_stmt, marks_clauses, marked-ascending}
-use Rattle.image_read_nodes.specs.Nodes.{record_at}
+use Rattle.image_read_nodes.specs.Nodes.{record_at, At}
 use Rattle.scope_check.specs.Deciding.{program_in}
 use Rattle.scope_check.proofs.ReplyLaws.{opened-replies, closed-replies}
 use Rattle.annotate.specs.Annotating.{annotated_kind, Annotated, Limited, Settled}
 
 -- ── by kind ──
 
-pub has-kind : (r : Record) → has_annotation_lem r ≡ annotated_kind (kind_of r)
+has-kind : (r : Record) → has_annotation_lem r ≡ annotated_kind (kind_of r)
 has-kind (definition x Γ) = refl
 has-kind (substitute ps) = refl
 has-kind (call x Γ) = refl
@@ -65,6 +65,10 @@ has-kind (ifc c f s) = refl
 has-kind (clause' x Γ) = refl
 has-kind (print n v) = refl
 has-kind (exit v) = refl
+
+-- what code says of the kind of the record at an index
+pub has-by : {g : Frame} {s : List ℕ} {i k : ℕ} {b : Bool} → At g s i k → b ≡ annotated_kind k → has_annotation_lem (record_at g s i) ≡ b
+has-by {g} {s} {i} a e = has-kind (record_at g s i) ∙ (ap annotated_kind a.kind ∙ sym e)
 
 -- a statement with one next
 pub record HasNext (t : Stmt) : Type 0 where
@@ -153,8 +157,8 @@ module _ {g : Frame} {s : List ℕ} {i : ℕ} (a : Annotated g s i) where
   pub record_is : record_at g s i ≡ record_of t
   record_is = ap head_of (stmt-parts a.stands).head
 
-  pub in_count : i < g.count
-  in_count = omega (arith, head-within rs i (record_of t) (stmt-parts a.stands).head, records-length g s a.source.ready)
+  pub in_count : Ready g s → i < g.count
+  in_count ready = omega (arith, head-within rs i (record_of t) (stmt-parts a.stands).head, records-length g s ready)
 
   -- its sets, by the kind of its record
   pub switched : kind_of (record_at g s i) ≡ 5 → annotations t ≡ ascending (free_vars_clauses (clauses_in t)) ∷ []
@@ -181,19 +185,19 @@ module _ {g : Frame} {s : List ℕ} {i : ℕ} (a : Annotated g s i) where
     clauses-stand = subst (λ (z : Clauses). ClausesStand 127 n rs (i + 1) z × RoomForClauses [] z) (sym clauses-same)
         (clauses-here, record { scope = a.scope; longer = omega arith; room = (asked-parts t in_room any_binders a.scope a.room).0 })
 
-    clauses_marks : (k : ℕ) → k ≡ 65536 → Marks [] (free_vars_clauses (clauses_in t)) (replicate k 0) (mark_clauses (clauses_in t) [] (replicate k 0))
-    clauses_marks k q =
+    clauses_marks : Ready g s → (k : ℕ) → k ≡ 65536 → Marks [] (free_vars_clauses (clauses_in t)) (replicate k 0) (mark_clauses (clauses_in t) [] (replicate k 0))
+    clauses_marks ready k q =
         let fit : FitRow (all_uses_clauses (clauses_in t)) (length {A = ℕ} (replicate k 0)) =
-        subst (FitRow (all_uses_clauses (clauses_in t))) (sym (length-replicate {A = ℕ} k 0)) (clauses-ids-fit g.id k (omega (arith, q, two_bytes g.id a.narrow)) (clauses_in t) (begins-ok (flatten_clauses (clauses_in t)) a.source.ready clauses-here.begins)) in
+        subst (FitRow (all_uses_clauses (clauses_in t))) (sym (length-replicate {A = ℕ} k 0)) (clauses-ids-fit g.id k (omega (arith, q, two_bytes g.id a.narrow)) (clauses_in t) (begins-ok (flatten_clauses (clauses_in t)) ready clauses-here.begins)) in
         marks_clauses (clauses_in t) [] (replicate k 0) a.scope (asked-parts t plain any_binders a.scope a.plain).0 fit
 
-    pub clauses-size : (k : ℕ) → k ≡ 65536 → length (mark_clauses (clauses_at 127 n rs (i + 1)) [] (replicate k 0)) ≡ k
-    clauses-size k q = ap (λ (z : Clauses). length (mark_clauses z [] (replicate k 0))) clauses-same ∙ (clauses_marks k q).size ∙ length-replicate {A = ℕ} k 0
+    pub clauses-size : Ready g s → (k : ℕ) → k ≡ 65536 → length (mark_clauses (clauses_at 127 n rs (i + 1)) [] (replicate k 0)) ≡ k
+    clauses-size ready k q = ap (λ (z : Clauses). length (mark_clauses z [] (replicate k 0))) clauses-same ∙ (clauses_marks ready k q).size ∙ length-replicate {A = ℕ} k 0
 
-    pub clauses-marked : (k : ℕ) → k ≡ 65536 → marked_from 0 (mark_clauses (clauses_at 127 n rs (i + 1)) [] (replicate k 0)) ≡ ascending (free_vars_clauses (clauses_in t))
-    clauses-marked k q =
+    pub clauses-marked : Ready g s → (k : ℕ) → k ≡ 65536 → marked_from 0 (mark_clauses (clauses_at 127 n rs (i + 1)) [] (replicate k 0)) ≡ ascending (free_vars_clauses (clauses_in t))
+    clauses-marked ready k q =
         ap (λ (z : Clauses). marked_from 0 (mark_clauses z [] (replicate k 0))) clauses-same
-        ∙ marked-ascending k (free_vars_clauses (clauses_in t)) (mark_clauses (clauses_in t) [] (replicate k 0)) (clauses_marks k q)
+        ∙ marked-ascending k (free_vars_clauses (clauses_in t)) (mark_clauses (clauses_in t) [] (replicate k 0)) (clauses_marks ready k q)
 
   module _ (h : HasNext t) (j : ℕ) (e : j ≡ i + 1 + length (flatten_clauses (clauses_in t))) where
     next_here : StmtStands 127 rs j h.next
@@ -211,10 +215,10 @@ module _ {g : Frame} {s : List ℕ} {i : ℕ} (a : Annotated g s i) where
     next-stands = subst (λ (z : Stmt). StmtStands 127 rs j z × RoomFor [] z) (sym next-same)
         (next_here, record { scope = binders (record_of t) ++ a.scope; longer = omega arith; room = next-asked in_room a.room })
 
-    pub next-marked : (k : ℕ) → k ≡ 65536 → marked_from 0 (mark_stmt (stmt_at 127 rs j) [] (replicate k 0)) ≡ ascending (free_vars h.next)
-    next-marked k q =
+    pub next-marked : Ready g s → (k : ℕ) → k ≡ 65536 → marked_from 0 (mark_stmt (stmt_at 127 rs j) [] (replicate k 0)) ≡ ascending (free_vars h.next)
+    next-marked ready k q =
         let fit : FitRow (all_uses h.next) (length {A = ℕ} (replicate k 0)) =
-        subst (FitRow (all_uses h.next)) (sym (length-replicate {A = ℕ} k 0)) (stmt-ids-fit g.id k (omega (arith, q, two_bytes g.id a.narrow)) h.next (begins-ok (flatten h.next) a.source.ready next_here.begins)) in
+        subst (FitRow (all_uses h.next)) (sym (length-replicate {A = ℕ} k 0)) (stmt-ids-fit g.id k (omega (arith, q, two_bytes g.id a.narrow)) h.next (begins-ok (flatten h.next) ready next_here.begins)) in
         ap (λ (z : Stmt). marked_from 0 (mark_stmt z [] (replicate k 0))) next-same
         ∙ marked-ascending k (free_vars h.next) (mark_stmt h.next [] (replicate k 0)) (marks_stmt h.next [] (replicate k 0) (binders (record_of t) ++ a.scope) (next-asked plain a.plain) fit)
 
@@ -267,11 +271,11 @@ module _ {g : Frame} {s : List ℕ} {d m : ℕ} (l : Limited g s d m) (i : ℕ) 
   records : flatten_defs P.defs ≡ records_in g s
   records = sym l.defined.is
 
-  pub place-yes : i < g.count → question13 P i ≡ has_annotation_lem (record_at g s i)
-  place-yes h = ap (λ (z : List Record). first_has (drop i z)) records ∙ first-has (records_in g s) i (omega (arith, records-length g s l.ready))
+  pub place-yes : Ready g s → i < g.count → question13 P i ≡ has_annotation_lem (record_at g s i)
+  place-yes ready h = ap (λ (z : List Record). first_has (drop i z)) records ∙ first-has (records_in g s) i (omega (arith, records-length g s ready))
 
-  pub place-no : g.count ≤ i → question13 P i ≡ false
-  place-no h = ap (λ (z : List Record). first_has (drop i z)) records ∙ ap first_has (drop_of_length-le (records_in g s) {i = i} (omega (arith, records-length g s l.ready)))
+  pub place-no : Ready g s → g.count ≤ i → question13 P i ≡ false
+  place-no ready h = ap (λ (z : List Record). first_has (drop i z)) records ∙ ap first_has (drop_of_length-le (records_in g s) {i = i} (omega (arith, records-length g s ready)))
 
   pub bytes-are : annotation_bytes g.id P i ≡ each (set_bytes g.id) (annotations (stmt_at max_depth (records_in g s) i))
   unfolding annotation_bytes
@@ -282,13 +286,13 @@ module _ {g : Frame} {s : List ℕ} {d m : ℕ} (l : Limited g s d m) (i : ℕ) 
       let c = (both_true (leb (depth_defs P.defs) 64) _ (both_true (leb (records_defs P.defs) 2000) _ l.seven).1).1 in
       both_true (all_records_lem small_record_lem (flatten_defs P.defs)) _ (sym (question7-flat P) ∙ c)
 
-  pub limited_annotated : i < g.count → has_annotation_lem (record_at g s i) ≡ true → Annotated g s i
-  limited_annotated h k =
+  pub limited_annotated : Ready g s → i < g.count → has_annotation_lem (record_at g s i) ≡ true → Annotated g s i
+  limited_annotated ready h k =
       let x : Inside max_depth (records_in g s) i (λ q b. asked_defs P.defs q b ≡ true) =
-      subst (λ (z : List Record). Inside max_depth z i (λ q b. asked_defs P.defs q b ≡ true)) records (inside P i l.seven (place-yes h ∙ k)) in
+      subst (λ (z : List Record). Inside max_depth z i (λ q b. asked_defs P.defs q b ≡ true)) records (inside P i l.seven (place-yes ready h ∙ k)) in
       let e : x.stmt ≡ stmt_at max_depth (records_in g s) i = sym (stmt_is x.stands) in
       record {
-        source = record { ready = l.ready; small = ap (all_records_lem small_record_lem) (sym records) ∙ limits-apart.0 };
+        source = record { small = ap (all_records_lem small_record_lem) (sym records) ∙ limits-apart.0 };
         narrow = l.narrow;
         stands = subst (StmtStands max_depth (records_in g s) i) e x.stands;
         has = k;

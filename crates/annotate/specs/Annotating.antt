@@ -1,11 +1,11 @@
 -- What the functions of annotation need, and what they write.
-use Rattle.std.specs.Prelude.{ℕ, ◌≤◌, ◌≡◌, Bool, true, ◌&&◌, ◌||◌, cond, List, [], leb, eqb, length, replicate, Ok, Err}
+use Rattle.std.specs.Prelude.{ℕ, ◌≤◌, ◌≡◌, Bool, true, ◌&&◌, ◌||◌, cond, List, leb, eqb, length, replicate, Ok, Err}
 use Rattle.syntax.specs.declared.names.VarId.{VarId}
 use Rattle.model.specs.Questions.{asked, plain, any_binders, question6, question7}
 use Rattle.image_spec.specs.Shape.{max_depth}
 use Rattle.image_spec.specs.declared.Refusal.TheVariants.{Room}
 use Rattle.image_spec.specs.Answers.{Answer}
-use Rattle.image_directory.specs.Slots.{Ready, records_in}
+use Rattle.image_directory.specs.Slots.{records_in}
 use Rattle.image_directory.specs.declared.Frame.{Frame}
 use Rattle.image_places_spec.specs.Places.{stmt_at, StmtStands}
 use Rattle.image_write_parts.specs.Puts.{Puts}
@@ -39,7 +39,6 @@ pub record Annotated (g : Frame) (s : List ℕ) (i : ℕ) : Type 0 where
 
 -- an image of d definitions and with this max_id, whose IDs have at most two bytes, has passed questions 1 to 7
 pub record Limited (g : Frame) (s : List ℕ) (d m : ℕ) : Type 0 where
-  pub ready : Ready g s
   pub defined : Defined d (records_in g s)
   pub narrow : g.id ≤ 2
   pub six : question6 (program_in d (records_in g s) m) ≡ true

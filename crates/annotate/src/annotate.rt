@@ -4,7 +4,6 @@ ghost use Rattle.model.specs.FreeVars.{annotations};
 ghost use Rattle.model.specs.Questions.{question7};
 ghost use Rattle.image_spec.specs.Parse.{each};
 ghost use Rattle.image_spec.specs.Shape.{flatten, flatten_clauses, max_depth};
-ghost use Rattle.image_directory.specs.Slots.{Ready, records_in};
 ghost use Rattle.image_open.specs.Opening.{Known};
 ghost use Rattle.image_places_spec.specs.Places.{stmt_at, clauses_at, StmtStands, ClausesStand};
 ghost use Rattle.image_write_parts.specs.Puts.{Puts};
@@ -15,12 +14,15 @@ ghost use Rattle.scope_check.specs.Definitions.{Defined};
 ghost use Rattle.scope_check.specs.Deciding.{program_in};
 ghost use Rattle.annotate_uses.specs.Sources.{Source};
 ghost use Rattle.annotate.specs.Annotating.{annotated_kind, Wrote, Annotated, Limited, Settled};
+ghost use Rattle.image_directory.specs.Images.{records_of};
+ghost use Rattle.image_kinds.specs.Codes.{code_of};
 
 use crate::walk::{clauses, statement};
 use annotate_marks::put_set;
-use image_directory::Frame;
+use image_directory::image::Image;
 use image_kinds::kinds::Kind;
 use image_open::open;
+use image_open::opened::Opened;
 use image_read_nodes::parts_of;
 use image_spec::{Accepted, Answer, Layout, Refusal};
 use image_write_bytes::bytes::clear;
@@ -36,66 +38,58 @@ pub struct Written {
     pub end: usize,
 }
 
-fn has_annotation(kind: u8) -> bool
-    ensures { result ≡ annotated_kind kind }
+fn has_annotation(kind: Kind) -> bool
+    ensures { result ≡ annotated_kind (code_of kind) }
 {
     matches!(
         kind,
-        Kind::LET | Kind::SWITCH | Kind::CREATE | Kind::LITERAL | Kind::OP | Kind::PRINT
+        Kind::Let | Kind::Switch | Kind::Create | Kind::Literal | Kind::Op | Kind::Print
     )
 }
 
 // Writes the free variables of the statement at index i.
-fn put_statement(
-    image: &[u8],
-    frame: Frame,
-    i: usize,
-    row: &mut [u8],
-    out: &mut [u8],
-    at: usize,
-) -> Written
-    requires { Source frame image.now × (StmtStands 127 (records_in frame image.now) i (stmt_at 127 (records_in frame image.now) i) × (RoomFor [] (stmt_at 127 (records_in frame image.now) i) × ((length row.old ≡ 65536) × (at + 1000000 < 2 ^ 64)))) }
-    ensures { Wrote result out.old out.new at (i + length (flatten (stmt_at 127 (records_in frame image.now) i))) frame.id (mark_stmt (stmt_at 127 (records_in frame image.now) i) [] (replicate (length row.old) 0)) }
+fn put_statement(image: &Image<'_>, i: usize, row: &mut [u8], out: &mut [u8], at: usize) -> Written
+    requires { Source image.now.frame image.now.bytes.now × (StmtStands 127 (records_of image.now) i (stmt_at 127 (records_of image.now) i) × (RoomFor [] (stmt_at 127 (records_of image.now) i) × ((length row.old ≡ 65536) × (at + 1000000 < 2 ^ 64)))) }
+    ensures { Wrote result out.old out.new at (i + length (flatten (stmt_at 127 (records_of image.now) i))) image.now.frame.id (mark_stmt (stmt_at 127 (records_of image.now) i) [] (replicate (length row.old) 0)) }
 {
     clear(row);
-    let next = statement(image, frame, Layout::DEPTH_BELOW, i, IdSet::empty(), row);
-    let end = put_set(row, out, at, frame.id);
+    let next = statement(image, Layout::DEPTH_BELOW, i, IdSet::empty(), row);
+    let end = put_set(row, out, at, image.frame.id);
     Written { next, end }
 }
 
 // Writes the free variables of the n clauses from index i on.
 fn put_clauses(
-    image: &[u8],
-    frame: Frame,
+    image: &Image<'_>,
     n: usize,
     i: usize,
     row: &mut [u8],
     out: &mut [u8],
     at: usize,
 ) -> Written
-    requires { Source frame image.now × (ClausesStand 127 n (records_in frame image.now) i (clauses_at 127 n (records_in frame image.now) i) × (RoomForClauses [] (clauses_at 127 n (records_in frame image.now) i) × ((length row.old ≡ 65536) × (at + 1000000 < 2 ^ 64)))) }
-    ensures { Wrote result out.old out.new at (i + length (flatten_clauses (clauses_at 127 n (records_in frame image.now) i))) frame.id (mark_clauses (clauses_at 127 n (records_in frame image.now) i) [] (replicate (length row.old) 0)) }
+    requires { Source image.now.frame image.now.bytes.now × (ClausesStand 127 n (records_of image.now) i (clauses_at 127 n (records_of image.now) i) × (RoomForClauses [] (clauses_at 127 n (records_of image.now) i) × ((length row.old ≡ 65536) × (at + 1000000 < 2 ^ 64)))) }
+    ensures { Wrote result out.old out.new at (i + length (flatten_clauses (clauses_at 127 n (records_of image.now) i))) image.now.frame.id (mark_clauses (clauses_at 127 n (records_of image.now) i) [] (replicate (length row.old) 0)) }
 {
     clear(row);
-    let next = clauses(image, frame, Layout::DEPTH_BELOW, n, i, IdSet::empty(), row);
-    let end = put_set(row, out, at, frame.id);
+    let next = clauses(image, Layout::DEPTH_BELOW, n, i, IdSet::empty(), row);
+    let end = put_set(row, out, at, image.frame.id);
     Written { next, end }
 }
 
 // Writes the annotation of the record at index i: the set of its clauses, then the set of its next.
-fn put_annotation(image: &[u8], frame: Frame, i: usize, row: &mut [u8], out: &mut [u8]) -> usize
-    requires { Annotated frame image.now i × (length row.old ≡ 65536) }
-    ensures { Puts out.old out.new 0 result (each (set_bytes frame.id) (annotations (stmt_at max_depth (records_in frame image.now) i))) }
+fn put_annotation(image: &Image<'_>, i: usize, row: &mut [u8], out: &mut [u8]) -> usize
+    requires { Annotated image.now.frame image.now.bytes.now i × (length row.old ≡ 65536) }
+    ensures { Puts out.old out.new 0 result (each (set_bytes image.now.frame.id) (annotations (stmt_at max_depth (records_of image.now) i))) }
 {
-    let f = parts_of(image, frame, i);
-    if f.kind == Kind::SWITCH {
-        return put_clauses(image, frame, f.clauses, i + 1, row, out, 0).end;
+    let f = parts_of(image, i);
+    match f.kind {
+        Kind::Switch => put_clauses(image, f.clauses, i + 1, row, out, 0).end,
+        Kind::Create => {
+            let c = put_clauses(image, f.clauses, i + 1, row, out, 0);
+            put_statement(image, c.next, row, out, c.end).end
+        }
+        _ => put_statement(image, i + 1, row, out, 0).end,
     }
-    if f.kind == Kind::CREATE {
-        let c = put_clauses(image, frame, f.clauses, i + 1, row, out, 0);
-        return put_statement(image, frame, c.next, row, out, c.end).end;
-    }
-    put_statement(image, frame, i + 1, row, out, 0).end
 }
 
 // Question 12, of the bytes that were to be written.
@@ -113,54 +107,39 @@ fn settle(out: &mut [u8], written: usize, max_id: u32) -> Answer
 }
 
 // Questions 13 and 12, of an image that has passed 1 to 7.
-fn annotate_record(
-    image: &[u8],
-    frame: Frame,
-    defs: usize,
-    max_id: u32,
-    i: usize,
-    out: &mut [u8],
-) -> Answer
-    requires { Limited frame image.now defs max_id }
-    ensures { Replies (placing frame.id (program_in defs (records_in frame image.now) max_id) i (length out.old)) result out.old out.new }
+fn annotate_record(opened: &Opened<'_>, i: usize, out: &mut [u8]) -> Answer
+    requires { Limited opened.now.image.frame opened.now.image.bytes.now opened.now.definitions opened.now.max_id }
+    ensures { Replies (placing opened.now.image.frame.id (program_in opened.now.definitions (records_of opened.now.image) opened.now.max_id) i (length out.old)) result out.old out.new }
 {
-    if frame.count <= i || !has_annotation(parts_of(image, frame, i).kind) {
+    if opened.image.frame.count <= i || !has_annotation(parts_of(&opened.image, i).kind) {
         return Err(Refusal::Place);
     }
     let mut row = [0u8; Layout::IDS];
-    let written = put_annotation(image, frame, i, &mut row, out);
-    settle(out, written, max_id)
+    let written = put_annotation(&opened.image, i, &mut row, out);
+    settle(out, written, opened.max_id)
 }
 
-// Question 7, of an image that is opened, with d definitions.
-fn in_limits(image: &[u8], frame: Frame, defs: usize, max_id: u32) -> bool
-    requires { Ready frame image.now × Defined defs (records_in frame image.now) }
-    ensures { result ≡ question7 (program_in defs (records_in frame image.now) max_id) }
+// Question 7, of an opened image.
+fn in_limits(opened: &Opened<'_>) -> bool
+    requires { Defined opened.now.definitions (records_of opened.now.image) }
+    ensures { result ≡ question7 (program_in opened.now.definitions (records_of opened.now.image) opened.now.max_id) }
 {
     let mut none = [0u64; 1];
-    within_limits(image, frame, defs)
-        && walk_definitions(image, frame, defs, max_id, &mut none).room
+    within_limits(opened) && walk_definitions(opened, &mut none).room
 }
 
 // Questions 6, 7, 13 and 12.
-fn annotate_image(
-    image: &[u8],
-    frame: Frame,
-    defs: usize,
-    max_id: u32,
-    i: usize,
-    out: &mut [u8],
-) -> Answer
-    requires { Ready frame image.now × (Defined defs (records_in frame image.now) × (frame.id ≤ 2)) }
-    ensures { Replies (annotating frame.id (program_in defs (records_in frame image.now) max_id) i (length out.old)) result out.old out.new }
+fn annotate_image(opened: &Opened<'_>, i: usize, out: &mut [u8]) -> Answer
+    requires { Defined opened.now.definitions (records_of opened.now.image) × (opened.now.image.frame.id ≤ 2) }
+    ensures { Replies (annotating opened.now.image.frame.id (program_in opened.now.definitions (records_of opened.now.image) opened.now.max_id) i (length out.old)) result out.old out.new }
 {
-    if !all_records(image, frame, Alone::Plain) {
+    if !all_records(&opened.image, Alone::Plain) {
         return Err(Refusal::Linearized);
     }
-    if !in_limits(image, frame, defs, max_id) {
+    if !in_limits(opened) {
         return Err(Refusal::Limits);
     }
-    annotate_record(image, frame, defs, max_id, i, out)
+    annotate_record(opened, i, out)
 }
 
 // Annotates the record at index i of an image of a layout whose IDs have at most two bytes.
@@ -169,12 +148,5 @@ pub fn annotate(image: &[u8], layout: Layout, i: usize, out: &mut [u8]) -> Answe
     ensures { Replies (annotate_of layout image.now i (length out.old)) result out.old out.new }
 {
     let opened = open(image, layout)?;
-    annotate_image(
-        image,
-        opened.frame,
-        opened.definitions,
-        opened.max_id,
-        i,
-        out,
-    )
+    annotate_image(&opened, i, out)
 }

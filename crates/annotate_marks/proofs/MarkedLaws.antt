@@ -55,10 +55,10 @@ ends_none {w} {row} {out₀} {at} {out} {here} {i} e h z = record {
   ends = λ o n p. e.ends o n (subst (λ (xs : List VarId). Puts out o here n (id_bytes w xs)) (sym (marked_none row i h z)) p);
 }
 
-pub ends-one : {w : ℕ} {row out₀ : List ℕ} {at : ℕ} {out : List ℕ} {here i next : ℕ} {more : List ℕ} (id : ℕ) → Ends w row out₀ at out here i
-    → i < length row → ¬ (get_or row i 0 ≡ 0) → id ≡ i → Puts out more here next (field w id) → Ends w row out₀ at more next (i + 1)
-ends-one {w} {row} {out₀} {at} {out} {here} {i} id e h z s q = record {
-  ends = λ o n p. e.ends o n (subst (λ (xs : List VarId). Puts out o here n (id_bytes w xs)) (sym (marked-one row i h z)) (rw (← s) (puts_then q (rw s p))));
+pub ends-one : {w : ℕ} {row out₀ : List ℕ} {at : ℕ} {out : List ℕ} {here i next : ℕ} {more : List ℕ} → Ends w row out₀ at out here i
+    → i < length row → ¬ (get_or row i 0 ≡ 0) → Puts out more here next (field w i) → Ends w row out₀ at more next (i + 1)
+ends-one {w} {row} {out₀} {at} {out} {here} {i} e h z q = record {
+  ends = λ o n p. e.ends o n (subst (λ (xs : List VarId). Puts out o here n (id_bytes w xs)) (sym (marked-one row i h z)) (puts_then q p));
 }
 
 pub ends-past : {w : ℕ} {row out₀ : List ℕ} {at : ℕ} {out : List ℕ} {here i : ℕ} → Ends w row out₀ at out here i → length row ≤ i

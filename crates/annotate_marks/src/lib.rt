@@ -12,12 +12,6 @@ use image_write_parts::put_number;
 use syntax::names::VarId;
 use syntax::sets::IdSet;
 
-fn place(id: u32) -> usize
-    ensures { result ≡ id }
-{
-    id as usize
-}
-
 // A variable is used: it is marked, if it is not bound.
 pub fn mark_one(row: &mut [u8], bound: IdSet, id: VarId)
     requires { bound.len ≤ 128 }
@@ -26,7 +20,7 @@ pub fn mark_one(row: &mut [u8], bound: IdSet, id: VarId)
     if bound.contains(id) {
         return;
     }
-    let at = place(id.0);
+    let at = id.0 as usize;
     if at < row.len() {
         row[at] = 1;
     }
@@ -37,12 +31,8 @@ pub fn mark_all(row: &mut [u8], bound: IdSet, set: IdSet)
     requires { (bound.len ≤ 128) × (set.len ≤ 128) }
     ensures { row.new ≡ mark_all_lem (set_of bound) (set_of set) row.old }
 {
-    let n = set.len;
-    let mut i = 0;
-    while i < n {
-        let id = set.ids[i];
-        mark_one(row, bound, id);
-        i += 1;
+    for i in 0..set.len {
+        mark_one(row, bound, set.ids[i]);
     }
 }
 
@@ -51,15 +41,10 @@ pub fn count_marked(row: &[u8]) -> u32
     requires { length row.now < 2 ^ 32 }
     ensures { result ≡ length (marked_from 0 row.now) }
 {
-    let n = row.len();
-    let mut marked: u32 = 0;
-    let mut i = 0;
-    while i < n {
-        if row[i] == 0 {
-            i += 1;
-        } else {
-            marked = marked + 1;
-            i += 1;
+    let mut marked = 0;
+    for i in 0..row.len() {
+        if row[i] != 0 {
+            marked += 1;
         }
     }
     marked
@@ -70,18 +55,10 @@ pub fn put_marked(row: &[u8], out: &mut [u8], at: usize, w: usize) -> usize
     requires { (length row.now < 2 ^ 32) × ((w ≤ 8) × (at + 8 * length row.now < 2 ^ 64)) }
     ensures { Puts out.old out.new at result (each (λ (x : VarId). field w x.0) (marked_from 0 row.now)) }
 {
-    let n = row.len();
     let mut here = at;
-    let mut id: u32 = 0;
-    let mut i = 0;
-    while i < n {
-        if row[i] == 0 {
-            id = id + 1;
-            i += 1;
-        } else {
-            here = put_number(out, here, w, id);
-            id = id + 1;
-            i += 1;
+    for i in 0..row.len() {
+        if row[i] != 0 {
+            here = put_number(out, here, w, i as u32);
         }
     }
     here

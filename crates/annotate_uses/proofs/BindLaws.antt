@@ -1,15 +1,11 @@
 -- A scope with what is bound; and there is room for what a statement's record and a clause bind, where the limit on the scope was asked.
 -- Assumes nothing.
 use Prim.Native.Nat.{ℕ, ◌+◌, ◌≤◌}
-use mathlib.Core.Path.{◌≡◌, sym, ap, ◌∙◌, subst}
+use mathlib.Core.Path.{◌≡◌, sym, ap, subst}
 use mathlib.Core.List.{List, ◌++◌}
-use native.Mathlib.Omega.{arith}
-use lib.ListN.{length, drop, length-append}
-use Rattle.syntax.specs.Arrays.{set_of, SetHolds}
-use Rattle.syntax.specs.Context.{Context, ids}
+use lib.ListN.{length, drop}
+use Rattle.syntax.specs.Context.{ids}
 use Rattle.syntax.specs.declared.names.VarId.{VarId}
-use Rattle.syntax.specs.declared.sets.IdSet.{IdSet}
-use Rattle.syntax.proofs.Filters.{ids-length}
 use Rattle.model.specs.Syntax.{Clauses, clause}
 use Rattle.image_spec.specs.Records.{Record}
 use Rattle.image_read_parts.specs.Standing.{head_of}
@@ -18,18 +14,7 @@ use Rattle.image_places_spec.specs.Places.{stmt_at, StmtStands}
 use Rattle.image_places_spec.proofs.Steps.{ClauseNext}
 use Rattle.scope_spec.specs.Rooms.{RoomFor, RoomForClauses}
 use Rattle.scope_spec.proofs.RoomLaws.{room-here, room-clause, room-binders}
-use Rattle.scope_places.specs.Scoping.{Scope}
 use Rattle.image_read_nodes.proofs.StepLaws.{head_is}
-use Rattle.annotate_uses.specs.Sets.{Room}
-use Rattle.annotate_uses.specs.Sources.{BoundBy}
-
--- a set that holds the scope and what is bound
-pub bound_by : (B : List VarId) {x : IdSet} {xs ys : List VarId} → xs ≡ ys → length (B ++ xs) ≤ 64 → SetHolds x (B ++ ys) → BoundBy x (B ++ xs)
-bound_by B e h s = rw e (record { is = s.list; scope = record { count = s.count ∙ ap length (sym s.list); small = omega (arith, s.count, rw e at h) } })
-
--- a scope has room for a list that it binds
-pub scope-room : {b : IdSet} {xs : List VarId} (Γ : Context) → xs ≡ ids Γ → Scope b → length (set_of b ++ xs) ≤ 64 → Room b (length Γ)
-scope-room {b} {xs} Γ e s h = record { count = s.count; small = omega (arith, s.count, length-append (set_of b) xs, ap length e, ids-length Γ) }
 
 -- ── room for what a record binds ──
 

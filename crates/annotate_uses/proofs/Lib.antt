@@ -1,6 +1,5 @@
--- The laws of sets with room, of counts, of what a record uses and binds, and of scopes.
+-- The laws of sets with room, of counts, of an IfC's second operand, and of scopes.
 pub mod SetLaws
 pub mod CountLaws
-pub mod KindLaws
 pub mod SecondLaws
 pub mod BindLaws

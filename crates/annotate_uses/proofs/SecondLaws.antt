@@ -9,13 +9,14 @@ use Rattle.model.specs.FreeVars.{optional_id}
 use Rattle.image_spec.specs.Fields.{identifier_bytes, IdentifierOk}
 use Rattle.image_spec.specs.Records.{record_bytes}
 use Rattle.image_spec.specs.Kinds.{fixed, tail_bytes}
+use Rattle.image_directory.specs.Slots.{Ready}
 use Rattle.image_directory.specs.declared.Frame.{Frame}
 use Rattle.image_read_parts.specs.Standing.{Stands, ReadsAs, RoomIn}
 use Rattle.image_read_nodes.specs.Nodes.{record_at, At, second_of}
 use Rattle.image_read_nodes.proofs.TailLaws.{tail-byte, tail-room, tail_some}
 use Rattle.image_read_nodes.proofs.NodeLaws.{record_ok, identifier-room, second_none, Second, second_some}
 
-module _ {g : Frame} {s : List ℕ} {i mark : ℕ} (a : At g s i 10) (m : mark ≡ fixed g.id 10) where
+module _ {g : Frame} {s : List ℕ} {i mark : ℕ} (ready : Ready g s) (a : At g s i 10) (m : mark ≡ fixed g.id 10) where
   some : 0 < length (tail_bytes g.id (record_at g s i))
   some = tail_some g.id (record_at g s i) (λ q. omega (arith, a.kind)) (λ q. omega (arith, a.kind)) (λ q. omega (arith, a.kind)) (λ q. omega (arith, a.kind))
 
@@ -31,7 +32,7 @@ module _ {g : Frame} {s : List ℕ} {i mark : ℕ} (a : At g s i 10) (m : mark �
 
     module _ (z : b ≡ 0 → ⊥) where
       second : Second g.id (record_at g s i)
-      second = second_some g.id (record_at g s i) a.kind (record_ok g s i 10 a) (λ q. z (marked ∙ q))
+      second = second_some g.id (record_at g s i) a.kind (record_ok g s i 10 ready a) (λ q. z (marked ∙ q))
 
       there : Stands (identifier_bytes g.id) (IdentifierOk g.id) (record_bytes g.id (record_at g s i)) (mark + 1) second.var
       there = subst (λ (p : ℕ). Stands (identifier_bytes g.id) (IdentifierOk g.id) (record_bytes g.id (record_at g s i)) (p + 1) second.var) (sym m) second.stands

@@ -3,14 +3,13 @@ use Rattle.std.specs.Prelude.{ℕ, ◌≡◌, true, List}
 use Rattle.syntax.specs.Arrays.{set_of}
 use Rattle.syntax.specs.declared.names.VarId.{VarId}
 use Rattle.syntax.specs.declared.sets.IdSet.{IdSet}
-use Rattle.image_directory.specs.Slots.{Ready, records_in}
+use Rattle.image_directory.specs.Slots.{records_in}
 use Rattle.image_directory.specs.declared.Frame.{Frame}
 use Rattle.scope_spec.specs.Flat.{all_records_lem, small_record_lem}
 use Rattle.scope_places.specs.Scoping.{Scope}
 
 -- an accepted image whose counts have passed question 7
 pub record Source (g : Frame) (s : List ℕ) : Type 0 where
-  pub ready : Ready g s
   pub small : all_records_lem small_record_lem (records_in g s) ≡ true
 
 -- the struct holds this scope

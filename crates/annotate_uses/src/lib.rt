@@ -8,12 +8,14 @@ ghost use Rattle.model.specs.FreeVars.{optional_id};
 ghost use Rattle.image_places_spec.specs.Views.{binders, uses_of};
 ghost use Rattle.scope_spec.specs.Flat.{small_record_lem};
 ghost use Rattle.image_read_parts.specs.Parts.{list_of};
-ghost use Rattle.image_read_nodes.specs.Nodes.{record_at, At, has_list, operand_of, second_of};
+ghost use Rattle.image_read_nodes.specs.Nodes.{has_list, operand_of, second_of};
 ghost use Rattle.scope_places.specs.Scoping.{Scope};
 ghost use Rattle.annotate_uses.specs.Sets.{Room};
 ghost use Rattle.annotate_uses.specs.Sources.{BoundBy};
+ghost use Rattle.image_read_nodes.specs.Opened.{record_of, IsAt};
+ghost use Rattle.image_kinds.specs.Codes.{code_of};
 
-use image_directory::Frame;
+use image_directory::image::Image;
 use image_fields::count;
 use image_kinds::kinds::Kind;
 use image_read_nodes::{first, list_at, operand, target};
@@ -22,24 +24,17 @@ use syntax::names::Identifier;
 use syntax::sets::IdSet;
 
 // The set, with the bindings of a record's list behind.
-fn add_list(image: &[u8], frame: Frame, i: usize, kind: u8, set: IdSet) -> IdSet
-    requires { At frame image.now i kind × ((has_list kind ≡ true) × Room set (length (list_of (record_at frame image.now i)))) }
-    ensures { SetHolds result (set_of set ++ ids (list_of (record_at frame image.now i))) }
+fn add_list(image: &Image<'_>, i: usize, kind: Kind, set: IdSet) -> IdSet
+    requires { IsAt image.now i (code_of kind) × ((has_list (code_of kind) ≡ true) × Room set (length (list_of (record_of image.now i)))) }
+    ensures { SetHolds result (set_of set ++ ids (list_of (record_of image.now i))) }
 {
-    let w = frame.id;
-    let size = 6 + (w + w);
-    let start = list_at(image, frame, i, kind);
-    let mut left = count(image[start]);
+    let w = image.frame.id;
+    let start = list_at(image, i, kind);
     let mut at = start + 1;
     let mut all = set;
-    while 0 < left {
-        let x = identifier_at(image, frame.id, at);
-        let id = x.id;
-        let end = all.len;
-        all.ids[end] = id;
-        all.len = end + 1;
-        at = at + size;
-        left = left - 1;
+    for _ in 0..count(image.bytes[start]) {
+        all = all.add(identifier_at(image.bytes, w, at).id);
+        at += 6 + (w + w);
     }
     all
 }
@@ -47,92 +42,53 @@ fn add_list(image: &[u8], frame: Frame, i: usize, kind: u8, set: IdSet) -> IdSet
 fn only(id: Identifier) -> IdSet
     ensures { SetHolds result (id.id ∷ []) }
 {
-    let none = IdSet::empty();
-    none.add(id.id)
+    IdSet::empty().add(id.id)
 }
 
 // The set, with the second operand of the Op at index i behind.
-fn add_operand(image: &[u8], frame: Frame, i: usize, set: IdSet) -> IdSet
-    requires { At frame image.now i 9 × Room set 1 }
-    ensures { SetHolds result (set_of set ++ ((operand_of (record_at frame image.now i)).id ∷ [])) }
+fn add_operand(image: &Image<'_>, i: usize, set: IdSet) -> IdSet
+    requires { IsAt image.now i 9 × Room set 1 }
+    ensures { SetHolds result (set_of set ++ ((operand_of (record_of image.now i)).id ∷ [])) }
 {
-    let x = operand(image, frame, i);
-    set.add(x.id)
+    set.add(operand(image, i).id)
 }
 
 // The set, with the second operand of the IfC at index i behind, if there is one.
-fn add_second(image: &[u8], frame: Frame, i: usize, set: IdSet) -> IdSet
-    requires { At frame image.now i 10 × Room set 1 }
-    ensures { SetHolds result (set_of set ++ optional_id (second_of (record_at frame image.now i))) }
+fn add_second(image: &Image<'_>, i: usize, set: IdSet) -> IdSet
+    requires { IsAt image.now i 10 × Room set 1 }
+    ensures { SetHolds result (set_of set ++ optional_id (second_of (record_of image.now i))) }
 {
-    let w = frame.id;
-    let mark = Kind::fixed(Kind::IFC, w);
-    if byte(image, frame, i, mark) == 0 {
+    let mark = Kind::IfC.fixed(image.frame.id);
+    if byte(image, i, mark) == 0 {
         return set;
     }
-    let x = identifier(image, frame, i, mark + 1);
-    set.add(x.id)
+    set.add(identifier(image, i, mark + 1).id)
 }
 
 // The IDs that the record at index i uses. (Its counts have passed question 7.)
-pub fn uses(image: &[u8], frame: Frame, i: usize, kind: u8) -> IdSet
-    requires { At frame image.now i kind × (small_record_lem (record_at frame image.now i) ≡ true) }
-    ensures { SetHolds result (uses_of (record_at frame image.now i)) }
+pub fn uses(image: &Image<'_>, i: usize, kind: Kind) -> IdSet
+    requires { IsAt image.now i (code_of kind) × (small_record_lem (record_of image.now i) ≡ true) }
+    ensures { SetHolds result (uses_of (record_of image.now i)) }
 {
-    if kind == Kind::CALL {
-        return add_list(image, frame, i, Kind::CALL, IdSet::empty());
+    match kind {
+        Kind::Call | Kind::Let => add_list(image, i, kind, IdSet::empty()),
+        Kind::Switch | Kind::Print | Kind::Exit => only(first(image, i, kind)),
+        Kind::Invoke => add_list(image, i, kind, only(first(image, i, kind))),
+        Kind::Op => add_operand(image, i, only(first(image, i, kind))),
+        Kind::IfC => add_second(image, i, only(first(image, i, kind))),
+        _ => IdSet::empty(),
     }
-    if kind == Kind::LET {
-        return add_list(image, frame, i, Kind::LET, IdSet::empty());
-    }
-    if kind == Kind::SWITCH {
-        return only(first(image, frame, i, Kind::SWITCH));
-    }
-    if kind == Kind::INVOKE {
-        let var = only(first(image, frame, i, Kind::INVOKE));
-        return add_list(image, frame, i, Kind::INVOKE, var);
-    }
-    if kind == Kind::OP {
-        return add_operand(image, frame, i, only(first(image, frame, i, Kind::OP)));
-    }
-    if kind == Kind::IFC {
-        return add_second(image, frame, i, only(first(image, frame, i, Kind::IFC)));
-    }
-    if kind == Kind::PRINT {
-        return only(first(image, frame, i, Kind::PRINT));
-    }
-    if kind == Kind::EXIT {
-        return only(first(image, frame, i, Kind::EXIT));
-    }
-    IdSet::empty()
 }
 
 // Binds what the record at index i binds.
-pub fn bind(image: &[u8], frame: Frame, i: usize, kind: u8, bound: IdSet) -> IdSet
-    requires { At frame image.now i kind × (Scope bound × (length (set_of bound ++ binders (record_at frame image.now i)) ≤ 64)) }
-    ensures { BoundBy result (set_of bound ++ binders (record_at frame image.now i)) }
+pub fn bind(image: &Image<'_>, i: usize, kind: Kind, bound: IdSet) -> IdSet
+    requires { IsAt image.now i (code_of kind) × (Scope bound × (length (set_of bound ++ binders (record_of image.now i)) ≤ 64)) }
+    ensures { BoundBy result (set_of bound ++ binders (record_of image.now i)) }
 {
-    if kind == Kind::LET {
-        let x = first(image, frame, i, Kind::LET);
-        return bound.add(x.id);
+    match kind {
+        Kind::Let | Kind::Create | Kind::Literal => bound.add(first(image, i, kind).id),
+        Kind::Op => bound.add(target(image, i).id),
+        Kind::Definition | Kind::Clause => add_list(image, i, kind, bound),
+        _ => bound,
     }
-    if kind == Kind::CREATE {
-        let x = first(image, frame, i, Kind::CREATE);
-        return bound.add(x.id);
-    }
-    if kind == Kind::LITERAL {
-        let x = first(image, frame, i, Kind::LITERAL);
-        return bound.add(x.id);
-    }
-    if kind == Kind::OP {
-        let x = target(image, frame, i);
-        return bound.add(x.id);
-    }
-    if kind == Kind::DEFINITION {
-        return add_list(image, frame, i, Kind::DEFINITION, bound);
-    }
-    if kind == Kind::CLAUSE {
-        return add_list(image, frame, i, Kind::CLAUSE, bound);
-    }
-    bound
 }

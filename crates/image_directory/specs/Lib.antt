@@ -1,2 +1,3 @@
 -- The directory of an image.
 pub mod Slots
+pub mod Images

@@ -5,6 +5,8 @@ ghost use Rattle.std.specs.Prelude.{◌≡◌, true, ◌+◌, ◌≤◌, ◌<◌
 ghost use Rattle.image_spec.specs.Image.{tiled_from};
 ghost use Rattle.image_directory.specs.Slots.{Width, slot_at, formed_from};
 
+pub mod image;
+
 use image_fields::number;
 use image_kinds::form::record_formed;
 

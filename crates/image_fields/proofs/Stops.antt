@@ -13,13 +13,13 @@ use native.Mathlib.Omega.{arith}
 use native.Mathlib.Nat.{add-zero, add-suc, suc-add, pow-le-pow_right}
 use native.Mathlib.Numerals.{add-one}
 use borrow.Author.Rules.{rules}
-use borrow.Author.Tests.{le-leb, lt-leb, leb-true, leb-false}
-use lib.Dec.{leb}
+use borrow.Author.Tests.{le-leb, lt-leb, leb-true, leb-false, ltb-true, ltb-false, eqb-true, eqb-false}
+use lib.Dec.{leb, ltb, eqb}
 use lib.ListN.{length, drop, get_or, length-drop, length-append, drop_of_length-le}
 use lib.Seq.{drop-cons, drop-drop, drop-append_seam}
 use Rattle.image_spec.specs.Parse.{Parsed, refused, got, Parser, and_then, only_if, via, both, times, code, number, field, numbered, or_refused, one_of, counted, marked, zeros}
 use Rattle.image_spec.proofs.ParseLaws.{Sound, none_read, one-read, Exact, number_exact, code_exact}
-use Rattle.image_fields.specs.Found.{found_in, stop}
+use Rattle.image_fields.specs.Found.{found_in, stop, mark_at}
 
 -- a suffix of s is at its length's distance from the end
 suffix : {X : Type 0} (s u m : List X) (at : ℕ) → at ≤ length s → drop at s ≡ u ++ m → m ≡ drop (length s - length m) s
@@ -306,13 +306,13 @@ got_some s at (Some v) b h e =
     (i, sym (get_or_read s at v.now i g 0) ∙ ap (λ (x : Bor ℕ). x.now) k)
 
 module _ {A : Type 0} (p : Parser ℕ A) (s : List ℕ) (at : ℕ) where
-  pub marked_none : at < length s → get_or s at 0 ≡ 0 → stop (marked p) s at ≡ Some (at + 1)
+  marked_none : at < length s → get_or s at 0 ≡ 0 → stop (marked p) s at ≡ Some (at + 1)
   marked_none h b = stop-head {B = ℕ} (marked p) (λ l. got 0 l) s at h (λ l. rw b) ∙ stop_none {A = ℕ} 0 s (at + 1) (omega arith)
 
-  pub marked_some : at < length s → get_or s at 0 ≡ 1 → stop (marked p) s at ≡ stop p s (at + 1)
+  marked_some : at < length s → get_or s at 0 ≡ 1 → stop (marked p) s at ≡ stop p s (at + 1)
   marked_some h b = stop-head (marked p) p s at h (λ l. rw b (found-via _ (length s) (p l)))
 
-  pub marked_bad : at < length s → (get_or s at 0 ≡ 0 → ⊥) → (get_or s at 0 ≡ 1 → ⊥) → stop (marked p) s at ≡ None
+  marked_bad : at < length s → (get_or s at 0 ≡ 0 → ⊥) → (get_or s at 0 ≡ 1 → ⊥) → stop (marked p) s at ≡ None
   marked_bad h z o = stop_bad (marked p) s at h (λ l. other (get_or s at 0) l z o)
     where
       other : (b : ℕ) (l : List ℕ) → (b ≡ 0 → ⊥) → (b ≡ 1 → ⊥) → marked p (b ∷ l) ≡ refused
@@ -320,8 +320,16 @@ module _ {A : Type 0} (p : Parser ℕ A) (s : List ℕ) (at : ℕ) where
       other (suc zero) l z o = absurd (o refl)
       other (suc (suc b)) l z o = refl
 
-  pub marked-past : length s ≤ at → stop (marked p) s at ≡ None
-  marked-past h = stop-past (marked p) s at h refl
+  -- past a mark, and past what follows it where something does
+  pub stop-marked : stop (marked p) s at ≡ option_and_then (λ more. cond more (stop p s (at + 1)) (Some (at + 1))) (mark_at s at)
+  stop-marked = go (ltb at (length s)) refl (eqb (get_or s at 0) 0) refl (eqb (get_or s at 0) 1) refl
+    where
+      go : (t : Bool) → ltb at (length s) ≡ t → (z : Bool) → eqb (get_or s at 0) 0 ≡ z → (o : Bool) → eqb (get_or s at 0) 1 ≡ o
+          → stop (marked p) s at ≡ option_and_then (λ more. cond more (stop p s (at + 1)) (Some (at + 1))) (cond t (cond z (Some false) (cond o (Some true) None)) None)
+      go true t true z o k = marked_none (ltb-true at (length s) t) (eqb-true (get_or s at 0) 0 z)
+      go true t false z true k = marked_some (ltb-true at (length s) t) (eqb-true (get_or s at 0) 1 k)
+      go true t false z false k = marked_bad (ltb-true at (length s) t) (eqb-false (get_or s at 0) 0 z) (eqb-false (get_or s at 0) 1 k)
+      go false t z e o k = stop-past (marked p) s at (ltb-false at (length s) t) refl
 
 pub never-stops : (X A : Type 0) (s : List X) (at : ℕ) → stop {X = X} {A = A} (λ _. refused) s at ≡ None
 unfolding stop

@@ -4,7 +4,7 @@
 ghost use Rattle.std.specs.Prelude.{◌≡◌, true, ◌+◌, ◌≤◌, ◌<◌, length, drop, Some};
 ghost use Rattle.image_spec.specs.Parse.{got, number, code, zeros, times, counted, marked};
 ghost use Rattle.image_spec.specs.Fields.{max_count, identifier, type, binding, pair, list};
-ghost use Rattle.image_fields.specs.Found.{stop};
+ghost use Rattle.image_fields.specs.Found.{stop, mark_at};
 
 use image_spec::Layout;
 
@@ -152,15 +152,26 @@ pub fn skip_substitution(bytes: &[u8], w: usize, at: usize) -> Option<usize>
     skip_pairs(bytes, w, usize::from(bytes[at]), pairs)
 }
 
+// The mark at a place: does something follow it? None where no mark is there.
+fn mark(bytes: &[u8], at: usize) -> Option<bool>
+    ensures { result ≡ mark_at bytes.now at }
+{
+    match *bytes.get(at)? {
+        0 => Some(false),
+        1 => Some(true),
+        _ => None,
+    }
+}
+
 // Past the mark of an environment, and its list where it has one.
 pub fn skip_environment(bytes: &[u8], w: usize, at: usize) -> Option<usize>
     requires { w ≤ 8 }
     ensures { result ≡ stop (marked (list w)) bytes.now at }
 {
-    match *bytes.get(at)? {
-        0 => Some(at + 1),
-        1 => skip_list(bytes, w, at + 1),
-        _ => None,
+    if mark(bytes, at)? {
+        skip_list(bytes, w, at + 1)
+    } else {
+        Some(at + 1)
     }
 }
 
@@ -169,9 +180,9 @@ pub fn skip_second(bytes: &[u8], w: usize, at: usize) -> Option<usize>
     requires { w ≤ 8 }
     ensures { result ≡ stop (marked (identifier w)) bytes.now at }
 {
-    match *bytes.get(at)? {
-        0 => Some(at + 1),
-        1 => skip_identifier(bytes, w, at + 1),
-        _ => None,
+    if mark(bytes, at)? {
+        skip_identifier(bytes, w, at + 1)
+    } else {
+        Some(at + 1)
     }
 }

@@ -121,11 +121,14 @@ formed w (k ∷ l) h =
     go (got a []) = let e : suc (length l) - 0 ≡ suc (length l) = omega arith in sym (eq-eqb _ _ e)
     go (got a (b ∷ m)) = let e : suc (length l) - suc (length m) ≡ suc (length l) → ⊥ = omega arith in sym (ne_eqb _ _ e)
 
--- a kind past the last
-pub formed-other : (w : ℕ) (s : List ℕ) → kinds ≤ get_or s 0 0 → is_some (decode_record w s) ≡ false
+-- no kind
+pub formed-other : (w : ℕ) (s : List ℕ) → (0 < get_or s 0 0 → kinds ≤ get_or s 0 0) → is_some (decode_record w s) ≡ false
 unfolding decode_record one_record content contents
 formed-other w [] h = refl
-formed-other w (k ∷ l) h = rw (get_or-eq_default (contents w) (λ _. refused) h)
+formed-other w (zero ∷ l) h = refl
+formed-other w (suc k ∷ l) h =
+    let n : kinds ≤ suc k = h (omega arith) in
+    rw (get_or-eq_default (contents w) (λ _. refused) n)
 
 -- fewer bytes than the fixed part of the kind
 pub formed-short : (w : ℕ) (s : List ℕ) → length s < fixed w (get_or s 0 0) → is_some (decode_record w s) ≡ false

@@ -1,2 +1,3 @@
--- What the table of kinds says.
+-- The kinds by their bytes, and what their table says.
 pub mod Table
+pub mod Codes

@@ -3,6 +3,7 @@ ghost use Rattle.std.specs.Prelude.{◌≡◌, ◌≤◌};
 ghost use Rattle.image_spec.specs.Image.{is_some};
 ghost use Rattle.image_spec.specs.Records.{content, decode_record};
 ghost use Rattle.image_fields.specs.Found.{stop};
+ghost use Rattle.image_kinds.specs.Codes.{code_of};
 
 use crate::kinds::Kind;
 use image_fields::{
@@ -11,26 +12,26 @@ use image_fields::{
 };
 use image_spec::Layout;
 
-// Past what follows the kind byte k in a record.
+// Past what follows the kind byte in a record.
 #[tactic(auto, using(crate::proofs::RecordStops::record_stops))]
-pub fn skip_content(bytes: &[u8], w: usize, k: u8) -> Option<usize>
+pub fn skip_content(bytes: &[u8], w: usize, kind: Kind) -> Option<usize>
     requires { w ≤ 8 }
-    ensures { result ≡ stop (content w k) bytes.now 1 }
+    ensures { result ≡ stop (content w (code_of kind)) bytes.now 1 }
 {
-    match k {
-        1 => skip_list(bytes, w, skip_identifier(bytes, w, 1)?),
-        2 => skip_substitution(bytes, w, 1),
-        3 => skip_list(bytes, w, skip_identifier(bytes, w, 1)?),
-        4 => {
+    match kind {
+        Kind::Definition => skip_list(bytes, w, skip_identifier(bytes, w, 1)?),
+        Kind::Substitute => skip_substitution(bytes, w, 1),
+        Kind::Call => skip_list(bytes, w, skip_identifier(bytes, w, 1)?),
+        Kind::Let => {
             let ty = skip_identifier(bytes, w, 1)?;
             let tag = skip_type(bytes, w, ty)?;
             skip_list(bytes, w, skip_identifier(bytes, w, tag)?)
         }
-        5 => {
+        Kind::Switch => {
             let ty = skip_identifier(bytes, w, 1)?;
             skip_code(bytes, Layout::MAX_COUNT, skip_type(bytes, w, ty)?)
         }
-        6 => {
+        Kind::Create => {
             let ty = skip_identifier(bytes, w, 1)?;
             let environment = skip_type(bytes, w, ty)?;
             skip_code(
@@ -39,25 +40,24 @@ pub fn skip_content(bytes: &[u8], w: usize, k: u8) -> Option<usize>
                 skip_environment(bytes, w, environment)?,
             )
         }
-        7 => {
+        Kind::Invoke => {
             let tag = skip_identifier(bytes, w, 1)?;
             let ty = skip_identifier(bytes, w, tag)?;
             skip_list(bytes, w, skip_type(bytes, w, ty)?)
         }
-        8 => skip_identifier(bytes, w, skip(bytes, 8, 1)?),
-        9 => {
+        Kind::Literal => skip_identifier(bytes, w, skip(bytes, 8, 1)?),
+        Kind::Op => {
             let op = skip_identifier(bytes, w, 1)?;
             let second = skip_code(bytes, 4, op)?;
             skip_identifier(bytes, w, skip_identifier(bytes, w, second)?)
         }
-        10 => {
+        Kind::IfC => {
             let first = skip_code(bytes, 5, 1)?;
             skip_second(bytes, w, skip_identifier(bytes, w, first)?)
         }
-        11 => skip_list(bytes, w, skip_identifier(bytes, w, 1)?),
-        12 => skip_identifier(bytes, w, skip_code(bytes, 1, 1)?),
-        13 => skip_identifier(bytes, w, 1),
-        _ => None,
+        Kind::Clause => skip_list(bytes, w, skip_identifier(bytes, w, 1)?),
+        Kind::Print => skip_identifier(bytes, w, skip_code(bytes, 1, 1)?),
+        Kind::Exit => skip_identifier(bytes, w, 1),
     }
 }
 
@@ -69,8 +69,10 @@ pub fn record_formed(bytes: &[u8], w: usize) -> bool
     if bytes.is_empty() {
         return false;
     }
-    let kind = bytes[0];
-    if Kind::COUNT <= kind || bytes.len() < Kind::fixed(kind, w) {
+    let Ok(kind) = Kind::try_from(bytes[0]) else {
+        return false;
+    };
+    if bytes.len() < kind.fixed(w) {
         return false;
     }
     skip_content(bytes, w, kind) == Some(bytes.len())

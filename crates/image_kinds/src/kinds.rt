@@ -1,10 +1,30 @@
-// What the kind of a record decides: its fixed part, and the bodies that follow.
-ghost use Rattle.std.specs.Prelude.{◌≡◌, ◌≤◌, ◌<◌};
-ghost use Rattle.image_spec.specs.Kinds.{kinds, fixed, bodies};
-ghost use Rattle.image_kinds.specs.Table.{IsKind};
+// The kinds of records, and what a kind decides: the fixed part of a record, and the bodies that follow it.
+ghost use Rattle.std.specs.Prelude.{◌≡◌, ◌≤◌};
+ghost use Rattle.image_spec.specs.Kinds.{fixed, bodies};
+ghost use Rattle.image_kinds.specs.Codes.{code_of};
+ghost use Rattle.image_kinds.specs.Table.{IsRow};
 
+// Document 01's kinds, in the order of their bytes.
 #[derive(Clone, Copy, PartialEq, Eq)]
-pub struct Kind {
+pub enum Kind {
+    Definition = 1,
+    Substitute = 2,
+    Call = 3,
+    Let = 4,
+    Switch = 5,
+    Create = 6,
+    Invoke = 7,
+    Literal = 8,
+    Op = 9,
+    IfC = 10,
+    Clause = 11,
+    Print = 12,
+    Exit = 13,
+}
+
+// What a kind decides.
+#[derive(Clone, Copy, PartialEq, Eq)]
+pub struct KindRow {
     // The bytes of the fixed part (what stands before a list, a mark or a count, the kind byte too) without its IDs, and its IDs.
     pub plain: u8,
     pub ids: u8,
@@ -13,144 +33,112 @@ pub struct Kind {
 }
 
 impl Kind {
-    // The kind bytes.
-    pub const DEFINITION: u8 = 1;
-
-    pub const SUBSTITUTE: u8 = 2;
-
-    pub const CALL: u8 = 3;
-
-    pub const LET: u8 = 4;
-
-    pub const SWITCH: u8 = 5;
-
-    pub const CREATE: u8 = 6;
-
-    pub const INVOKE: u8 = 7;
-
-    pub const LITERAL: u8 = 8;
-
-    pub const OP: u8 = 9;
-
-    pub const IFC: u8 = 10;
-
-    pub const CLAUSE: u8 = 11;
-
-    pub const PRINT: u8 = 12;
-
-    pub const EXIT: u8 = 13;
-
-    // One more than the last.
-    pub const COUNT: u8 = 14;
-
-    // By the kind byte; 0 is no kind.
-    pub const TABLE: [Kind; 14] = [
+    // By the kind's byte; 0 is no kind.
+    pub const TABLE: [KindRow; 14] = [
         // none
-        Kind {
+        KindRow {
             plain: 0,
             ids: 0,
             bodies: 0,
         },
         // definition
-        Kind {
+        KindRow {
             plain: 3,
             ids: 1,
             bodies: 1,
         },
         // Substitute
-        Kind {
+        KindRow {
             plain: 1,
             ids: 0,
             bodies: 1,
         },
         // Call
-        Kind {
+        KindRow {
             plain: 3,
             ids: 1,
             bodies: 0,
         },
         // Let
-        Kind {
+        KindRow {
             plain: 8,
             ids: 3,
             bodies: 1,
         },
         // Switch
-        Kind {
+        KindRow {
             plain: 6,
             ids: 2,
             bodies: 0,
         },
         // Create
-        Kind {
+        KindRow {
             plain: 6,
             ids: 2,
             bodies: 1,
         },
         // Invoke
-        Kind {
+        KindRow {
             plain: 8,
             ids: 3,
             bodies: 0,
         },
         // Literal
-        Kind {
+        KindRow {
             plain: 11,
             ids: 1,
             bodies: 1,
         },
         // Op
-        Kind {
+        KindRow {
             plain: 8,
             ids: 3,
             bodies: 1,
         },
         // IfC
-        Kind {
+        KindRow {
             plain: 4,
             ids: 1,
             bodies: 2,
         },
         // clause
-        Kind {
+        KindRow {
             plain: 3,
             ids: 1,
             bodies: 1,
         },
         // PrintI64
-        Kind {
+        KindRow {
             plain: 4,
             ids: 1,
             bodies: 1, // its next
         },
         // Exit
-        Kind {
+        KindRow {
             plain: 3,
             ids: 1,
             bodies: 0,
         },
     ];
 
-    pub fn of(kind: u8) -> Kind
-        requires { kind < kinds }
-        ensures { IsKind result kind }
+    fn row(self) -> KindRow
+        ensures { IsRow result (code_of self) }
     {
-        Kind::TABLE[usize::from(kind)]
+        Kind::TABLE[usize::from(self as u8)]
     }
 
     // The bytes of the fixed part, with IDs of w bytes.
-    pub fn fixed(kind: u8, w: usize) -> usize
-        requires { (kind < kinds) × (w ≤ 8) }
-        ensures { result ≡ «fixed» w kind }
+    pub fn fixed(self, w: usize) -> usize
+        requires { w ≤ 8 }
+        ensures { result ≡ «fixed» w (code_of self) }
     {
-        let row = Kind::of(kind);
+        let row = self.row();
         usize::from(row.plain) + usize::from(row.ids) * w
     }
 
-    pub fn bodies(kind: u8) -> usize
-        requires { kind < kinds }
-        ensures { result ≡ «bodies» kind }
+    pub fn bodies(self) -> usize
+        ensures { result ≡ «bodies» (code_of self) }
     {
-        usize::from(Kind::of(kind).bodies)
+        usize::from(self.row().bodies)
     }
 }

@@ -1,5 +1,6 @@
 // The records of an image: the table of their kinds, and question 4 of one record.
 #![tactic(auto)]
 
+pub mod codes;
 pub mod form;
 pub mod kinds;

@@ -2,7 +2,7 @@
 -- Assumes nothing.
 use Prim.Native.Nat.{ℕ}
 use mathlib.Core.List.{List, []}
-use mathlib.Core.Path.{◌≡◌, refl, ap, ◌∙◌}
+use mathlib.Core.Path.{◌≡◌, refl, ap, sym, ◌∙◌}
 use native.Mathlib.Omega.{arith}
 use borrow.Author.Tests.{leb-true}
 use lib.Dec.{leb}
@@ -19,15 +19,16 @@ use Rattle.image_spec.proofs.DirectoryLaws.{and_left, and_right}
 use Rattle.image_spec.proofs.OneToOne.{accepts, accepted}
 use Rattle.image_directory.specs.Slots.{formed_from, records_in, Ready}
 use Rattle.image_directory.specs.declared.Frame.{Frame}
-use Rattle.image_open.specs.Opening.{Known, frame_of, opened_by, opened_of}
-use Rattle.image_open.specs.declared.Opened.{Opened}
+use Rattle.image_open.specs.Opening.{Known, frame_of, Contents, opened_by, opened_of}
+use Rattle.image_open.specs.Opens.{Opens, closed, opened, contents_of}
+use Rattle.image_open.specs.declared.opened.Opened.{Opened}
 use Rattle.std.specs.Prelude.{Result, Ok, Err}
 
 pub layout1-known : Known layout1
 layout1-known = record { id = (omega arith, omega arith); place = (omega arith, omega arith) }
 
 -- the answer of reading, of what was opened
-abbrev pub answer_for : Result Opened Refusal → Answer
+abbrev pub answer_for : Result Contents Refusal → Answer
 answer_for (Ok o) = Ok (record { length = 0; max_id = o.max_id })
 answer_for (Err q) = Err q
 
@@ -63,23 +64,42 @@ frame-ready L s p k e =
       formed = a.yes4;
     }
 
-pub opened-image : (L : Layout) (s : List ℕ) (g : Frame) (D m : ℕ) → Known L → opened_of L s ≡ Ok (record { frame = g; definitions = D; max_id = m }) → IsOpened L s g D m
+is-opened : (L : Layout) (s : List ℕ) (g : Frame) (D m : ℕ) → Known L → opened_of L s ≡ Ok (record { frame = g; definitions = D; max_id = m }) → IsOpened L s g D m
 unfolding opened_of records_in records_of
-opened-image L s g D m k e = go (reading L s) refl e
+is-opened L s g D m k e = go (reading L s) refl e
   where
     go : (r : Reading) → reading L s ≡ r → opened_by L s r ≡ Ok (record { frame = g; definitions = D; max_id = m }) → IsOpened L s g D m
     go (refuse q) h e = let z : ◌≡◌ {A = ℕ} 0 1 = cc (e) in absurd (omega arith)
     go (accept p) h e =
         let x = accepted L s p h in
-        let o : ◌≡◌ {A = Opened} (record { frame = g; definitions = D; max_id = m }) (record { frame = frame_of L (record_count L s); definitions = definition_count L s; max_id = p.max_id }) = cc (e) in
-        rw (ap (λ (x : Opened). x.frame) o) record {
+        let o : ◌≡◌ {A = Contents} (record { frame = g; definitions = D; max_id = m }) (record { frame = frame_of L (record_count L s); definitions = definition_count L s; max_id = p.max_id }) = cc (e) in
+        rw (ap (λ (x : Contents). x.frame) o) record {
           program = p;
           reads = h;
           ok = x.ok;
           written = x.written;
-          max_id = ap (λ (x : Opened). x.max_id) o;
-          count = ap (λ (x : Opened). x.definitions) o ∙ x.count;
+          max_id = ap (λ (x : Contents). x.max_id) o;
+          count = ap (λ (x : Contents). x.definitions) o ∙ x.count;
           frame = refl;
           records = ap (λ o. if_some o [] (λ rs. rs)) x.records;
           ready = frame-ready L s p k h;
         }
+
+-- what code has opened is such an image, and its bytes are those given
+pub opened-image : {L : Layout} {s : List ℕ} {o : Opened} → Known L → Opens L s (Ok o) → IsOpened L o.image.bytes.now o.image.frame o.definitions o.max_id
+opened-image {L} {s} {o} k (opened e b) = is-opened L o.image.bytes.now o.image.frame o.definitions o.max_id k (ap (opened_of L) b ∙ e)
+
+pub opened-bytes : {L : Layout} {s : List ℕ} {o : Opened} → Opens L s (Ok o) → o.image.bytes.now ≡ s
+opened-bytes (opened e b) = b
+
+pub opened-refused : {L : Layout} {s : List ℕ} {q : Refusal} → Opens L s (Err q) → opened_of L s ≡ Err q
+opened-refused (closed e) = e
+
+-- the answer of code that opens, which says no more
+abbrev pub told_of : Result Opened Refusal → Answer
+told_of (Ok o) = Ok (record { length = 0; max_id = o.max_id })
+told_of (Err q) = Err q
+
+pub opens-answer : {L : Layout} {s : List ℕ} {r : Result Opened Refusal} → Opens L s r → told_of r ≡ answer_of (reading L s)
+opens-answer {L} {s} (closed e) = ap answer_for (sym e) ∙ answer-opened L s
+opens-answer {L} {s} (opened e b) = ap answer_for (sym e) ∙ answer-opened L s

@@ -1,2 +1,3 @@
 -- What opening an image answers.
 pub mod Opening
+pub mod Opens

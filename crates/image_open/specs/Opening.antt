@@ -1,4 +1,4 @@
--- What opening an image answers: the frame, the definitions and the max_id of what reading accepts, or reading's refusal.
+-- What opening an image finds: the frame, the definitions and the max_id of what reading accepts, or reading's refusal.
 use Rattle.std.specs.Prelude.{ℕ, ◌+◌, ◌≤◌, ◌≡◌, length, drop, List, Result, Ok, Err}
 use Rattle.image_spec.specs.Parse.{got, number}
 use Rattle.image_spec.specs.declared.Layout.{Layout}
@@ -7,7 +7,6 @@ use Rattle.image_spec.specs.Layout.{header_size, body_at}
 use Rattle.image_spec.specs.Reading.{definition_count, record_count, Reading, refuse, accept, reading}
 use Rattle.image_directory.specs.Slots.{Width}
 use Rattle.image_directory.specs.declared.Frame.{Frame}
-use Rattle.image_open.specs.declared.Opened.{Opened}
 
 -- a layout whose fields the code reads
 pub record Known (L : Layout) : Type 0 where
@@ -27,9 +26,15 @@ pub record Head (L : Layout) (s : List ℕ) (D m n : ℕ) : Type 0 where
 abbrev pub frame_of : Layout → ℕ → Frame
 frame_of L n = record { id = L.id; place = L.place; count = n; from = header_size L; start = body_at L n }
 
-abbrev pub opened_by : Layout → List ℕ → Reading → Result Opened Refusal
+-- what the header of an accepted image says, with its frame
+pub record Contents : Type 0 where
+  pub frame : Frame
+  pub definitions : ℕ
+  pub max_id : ℕ
+
+abbrev pub opened_by : Layout → List ℕ → Reading → Result Contents Refusal
 opened_by L s (refuse q) = Err q
 opened_by L s (accept p) = Ok (record { frame = frame_of L (record_count L s); definitions = definition_count L s; max_id = p.max_id })
 
-unfoldable pub opened_of : Layout → List ℕ → Result Opened Refusal
+unfoldable pub opened_of : Layout → List ℕ → Result Contents Refusal
 opened_of L s = opened_by L s (reading L s)

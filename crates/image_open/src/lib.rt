@@ -1,28 +1,25 @@
 // Questions 1 to 5 of an image.
 #![tactic(auto)]
 
+pub mod opened;
+
 ghost use Rattle.std.specs.Prelude.{◌≡◌};
 ghost use Rattle.image_spec.specs.Layout.{layout1};
 ghost use Rattle.image_spec.specs.Reading.{reading, answer_of};
-ghost use Rattle.image_open.specs.Opening.{Known, Head, opened_of};
+ghost use Rattle.image_open.specs.Opening.{Known, Head};
+ghost use Rattle.image_open.specs.Opens.{Opens};
 
+use crate::opened::Opened;
+use image_directory::image::Image;
 use image_directory::{Frame, all_formed, tiled};
 use image_fields::number;
 use image_shape::shaped;
 use image_spec::{Accepted, Answer, Layout, Refusal};
 
-// An image that is accepted: where its records are, how many definitions they are, and its max_id.
-#[derive(Clone, Copy)]
-pub struct Opened {
-    pub frame: Frame,
-    pub definitions: usize,
-    pub max_id: u32,
-}
-
 // Asks the questions of an image of a layout, in their order.
-pub fn open(image: &[u8], layout: Layout) -> Result<Opened, Refusal>
+pub fn open(image: &[u8], layout: Layout) -> Result<Opened<'_>, Refusal>
     requires { Known layout }
-    ensures { result ≡ opened_of layout image.now }
+    ensures { Opens layout image.now result }
 {
     let id = layout.id;
     let place = layout.place;
@@ -45,9 +42,9 @@ fn open_records(
     definitions: usize,
     max_id: u32,
     count: usize,
-) -> Result<Opened, Refusal>
+) -> Result<Opened<'_>, Refusal>
     requires { Known layout × Head layout image.now definitions max_id count }
-    ensures { result ≡ opened_of layout image.now }
+    ensures { Opens layout image.now result }
 {
     if Layout::MAX_RECORDS < count {
         return Err(Refusal::Directory);
@@ -69,11 +66,15 @@ fn open_records(
         from,
         start,
     };
-    if !shaped(image, frame, definitions) {
+    let image = Image {
+        bytes: image,
+        frame,
+    };
+    if !shaped(&image, definitions) {
         return Err(Refusal::Shape);
     }
     Ok(Opened {
-        frame,
+        image,
         definitions,
         max_id,
     })

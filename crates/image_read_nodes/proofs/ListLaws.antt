@@ -16,6 +16,7 @@ use Rattle.image_spec.specs.Records.{Record, definition, substitute, call, let',
 use Rattle.image_spec.specs.Kinds.{kind_of, fixed, tail_bytes}
 use Rattle.image_spec.proofs.FieldLaws.{binding-length}
 use Rattle.image_spec.proofs.KindLaws.{fixed_le}
+use Rattle.image_directory.specs.Slots.{Ready}
 use Rattle.image_directory.specs.declared.Frame.{Frame}
 use Rattle.image_read_parts.specs.Standing.{Stands, ReadsAs}
 use Rattle.image_read_parts.proofs.StandingLaws.{byte-run, first_run, second_run, stands_in, stands-room}
@@ -99,11 +100,11 @@ module _ (w : ℕ) where
 
 -- the list of the record at an index
 module _ (g : Frame) (s : List ℕ) (i : ℕ) where
-  pub list-there : (k o : ℕ) → At g s i k → has_list k ≡ true → Stands (record_bytes g.id) (RecordOk g.id) s o (record_at g s i)
+  pub list-there : (k o : ℕ) → Ready g s → At g s i k → has_list k ≡ true → Stands (record_bytes g.id) (RecordOk g.id) s o (record_at g s i)
       → Stands (list_bytes g.id) (ListOk g.id) s (o + fixed g.id k) (list_of (record_at g s i))
-  list-there k o a h t =
+  list-there k o ready a h t =
       let r = record_at g s i in
-      stands_in (subst (λ (z : ℕ). fixed g.id z ≤ length (record_bytes g.id r)) a.kind (fixed_le g.id r)) t (list-stands g.id r k a.kind h (record_ok g s i k a))
+      stands_in (subst (λ (z : ℕ). fixed g.id z ≤ length (record_bytes g.id r)) a.kind (fixed_le g.id r)) t (list-stands g.id r k a.kind h (record_ok g s i k ready a))
 
 -- a loop over a list, with a state: what is left from here gives what the whole gives
 module _ {S : Type 0} (F : List VarId → S → S) where

@@ -1,45 +1,28 @@
--- Where the identifiers of a record stand in its bytes, and what a record uses and binds, by its kind. Assumes nothing.
-use Rattle.std.specs.Prelude.{Some}
-use Prim.Native.Nat.{ℕ, ◌+◌, ◌-◌, ◌<◌}
+-- Where the identifiers of a record stand in its bytes, by its kind. Assumes nothing.
+use Prim.Native.Nat.{ℕ, ◌+◌}
 use mathlib.Core.Path.{◌≡◌, refl, sym, ap, ◌∙◌, subst}
-use mathlib.Core.Bool.{cond}
 use mathlib.Core.List.{List, [], ◌∷◌, ◌++◌, append-nil, append_assoc}
 use mathlib.Core.Option.{none, some}
 use native.Mathlib.Omega.{arith}
-use lib.Dec.{eqb}
 use lib.ListN.{drop, get_or, length-append}
 use lib.Seq.{drop-drop, drop_at}
-use Rattle.syntax.specs.Context.{ids}
 use Rattle.syntax.specs.declared.names.Identifier.{Identifier}
 use Rattle.model.specs.FreeVars.{optional_id}
 use Rattle.image_spec.specs.Fields.{operator_code_lem, identifier_bytes, IdentifierOk}
 use Rattle.image_spec.specs.Records.{Record, definition, substitute, call, let', switch, create, invoke, literal, op, ifc, clause', print, exit, record_bytes, RecordOk}
-use Rattle.image_spec.specs.Kinds.{kind_of, kinds, clauses_of, fixed, tail_bytes}
+use Rattle.image_spec.specs.Kinds.{kind_of, fixed, tail_bytes}
 use Rattle.image_spec.proofs.FieldLaws.{field-length, identifier-length}
 use Rattle.image_spec.proofs.KindLaws.{tail_at}
-use Rattle.image_directory.specs.Slots.{records_in}
+use Rattle.image_directory.specs.Slots.{Ready}
 use Rattle.image_directory.specs.declared.Frame.{Frame}
-use Rattle.image_directory.proofs.Places.{seen}
-use Rattle.image_shape.specs.Nodes.{node_of}
-use Rattle.image_shape.proofs.Heads.{kind-small}
-use Rattle.image_read_parts.specs.Standing.{Stands, RoomIn, head_of}
+use Rattle.image_read_parts.specs.Standing.{Stands, RoomIn}
 use Rattle.image_read_parts.proofs.StandingLaws.{stands-room}
-use Rattle.image_places_spec.specs.Views.{binders, uses_of}
-use Rattle.image_read_parts.specs.Parts.{list_of}
+use Rattle.image_read_parts.proofs.TailPlaces.{record_ok as within}
 use Rattle.image_read_nodes.specs.Nodes.{record_at, At, first_at, first_of, operand_of, target_of, second_of}
 
 -- the record at an index is within the limits of the layout
-pub record_ok : (g : Frame) (s : List ℕ) (i k : ℕ) → At g s i k → RecordOk g.id (record_at g s i)
-record_ok g s i k a =
-    let v = seen g s i a.ready a.inside in
-    subst (λ (l : List Record). RecordOk g.id (head_of l)) (sym v.list) v.ok
-
-pub kind-below : (g : Frame) (s : List ℕ) (i k : ℕ) → At g s i k → k < kinds
-kind-below g s i k a =
-    let v = seen g s i a.ready a.inside in
-    let r = record_at g s i in
-    let e : node_of (drop i (records_in g s)) ≡ Some (record { kind = kind_of r; clauses = clauses_of r }) = rw v.list refl in
-    subst (λ (n : ℕ). n < kinds) a.kind (kind-small (records_in g s) i _ e)
+pub record_ok : (g : Frame) (s : List ℕ) (i k : ℕ) → Ready g s → At g s i k → RecordOk g.id (record_at g s i)
+record_ok g s i k ready a = within g s i ready a.inside
 
 -- ── identifiers ──
 
@@ -165,51 +148,14 @@ module _ (w : ℕ) where
 
 -- the same, of the record at an index
 module _ (g : Frame) (s : List ℕ) (i : ℕ) where
-  pub first-there : (k : ℕ) {p : ℕ} → At g s i k → (k ≡ 2 → ⊥) → p ≡ first_at k → Stands (identifier_bytes g.id) (IdentifierOk g.id) (record_bytes g.id (record_at g s i)) p (first_of (record_at g s i))
-  first-there k a n e =
+  pub first-there : (k : ℕ) {p : ℕ} → Ready g s → At g s i k → (k ≡ 2 → ⊥) → p ≡ first_at k → Stands (identifier_bytes g.id) (IdentifierOk g.id) (record_bytes g.id (record_at g s i)) p (first_of (record_at g s i))
+  first-there k ready a n e =
       let r = record_at g s i in
       subst (λ (z : ℕ). Stands (identifier_bytes g.id) (IdentifierOk g.id) (record_bytes g.id r) z (first_of r)) (ap first_at a.kind ∙ sym e)
-      (first-stands g.id r (λ q. n (sym a.kind ∙ q)) (record_ok g s i k a))
+      (first-stands g.id r (λ q. n (sym a.kind ∙ q)) (record_ok g s i k ready a))
 
-  pub operand-there : At g s i 9 → Stands (identifier_bytes g.id) (IdentifierOk g.id) (record_bytes g.id (record_at g s i)) (4 + g.id) (operand_of (record_at g s i))
-  operand-there a = operand-stands g.id (record_at g s i) a.kind (record_ok g s i 9 a)
+  pub operand-there : Ready g s → At g s i 9 → Stands (identifier_bytes g.id) (IdentifierOk g.id) (record_bytes g.id (record_at g s i)) (4 + g.id) (operand_of (record_at g s i))
+  operand-there ready a = operand-stands g.id (record_at g s i) a.kind (record_ok g s i 9 ready a)
 
-  pub target_there : At g s i 9 → Stands (identifier_bytes g.id) (IdentifierOk g.id) (record_bytes g.id (record_at g s i)) (6 + (g.id + g.id)) (target_of (record_at g s i))
-  target_there a = target_stands g.id (record_at g s i) a.kind (record_ok g s i 9 a)
-
--- ── what a record uses and binds ──
-
-pub uses-are : (r : Record)
-    → uses_of r ≡ cond (eqb (kind_of r) 3) (ids (list_of r)) (cond (eqb (kind_of r) 4) (ids (list_of r)) (cond (eqb (kind_of r) 5) ((first_of r).id ∷ [])
-    (cond (eqb (kind_of r) 7) ((first_of r).id ∷ ids (list_of r)) (cond (eqb (kind_of r) 9) ((first_of r).id ∷ (operand_of r).id ∷ [])
-    (cond (eqb (kind_of r) 10) ((first_of r).id ∷ optional_id (second_of r)) (cond (eqb (kind_of r) 12) ((first_of r).id ∷ []) (cond (eqb (kind_of r) 13) ((first_of r).id ∷ []) [])))))))
-uses-are (definition x Γ) = refl
-uses-are (substitute ps) = refl
-uses-are (call x Γ) = refl
-uses-are (let' v t h Γ) = refl
-uses-are (switch v t n) = refl
-uses-are (create v t e n) = refl
-uses-are (invoke v h t Γ) = refl
-uses-are (literal z v) = refl
-uses-are (op f o j v) = refl
-uses-are (ifc c f j) = refl
-uses-are (clause' x Γ) = refl
-uses-are (print n v) = refl
-uses-are (exit v) = refl
-
-pub binders-are : (r : Record)
-    → binders r ≡ cond (eqb (kind_of r) 4) ((first_of r).id ∷ []) (cond (eqb (kind_of r) 6) ((first_of r).id ∷ []) (cond (eqb (kind_of r) 8) ((first_of r).id ∷ [])
-    (cond (eqb (kind_of r) 9) ((target_of r).id ∷ []) (cond (eqb (kind_of r) 1) (ids (list_of r)) (cond (eqb (kind_of r) 11) (ids (list_of r)) [])))))
-binders-are (definition x Γ) = refl
-binders-are (substitute ps) = refl
-binders-are (call x Γ) = refl
-binders-are (let' v t h Γ) = refl
-binders-are (switch v t n) = refl
-binders-are (create v t e n) = refl
-binders-are (invoke v h t Γ) = refl
-binders-are (literal z v) = refl
-binders-are (op f o j v) = refl
-binders-are (ifc c f j) = refl
-binders-are (clause' x Γ) = refl
-binders-are (print n v) = refl
-binders-are (exit v) = refl
+  pub target_there : Ready g s → At g s i 9 → Stands (identifier_bytes g.id) (IdentifierOk g.id) (record_bytes g.id (record_at g s i)) (6 + (g.id + g.id)) (target_of (record_at g s i))
+  target_there ready a = target_stands g.id (record_at g s i) a.kind (record_ok g s i 9 ready a)

@@ -7,38 +7,36 @@ use mathlib.Core.Option.{none, some}
 use native.Mathlib.Omega.{arith}
 use lib.ListN.{length, drop, get_or, length-drop}
 use lib.Seq.{drop-drop, drop-cons}
-use Rattle.image_spec.specs.Records.{Record, definition, substitute, call, let', switch, create, invoke, literal, op, ifc, clause', print, exit, record_bytes, RecordOk}
-use Rattle.image_spec.specs.Kinds.{kind_of, kinds, clauses_of, fixed, tail_bytes}
+use Rattle.image_spec.specs.Records.{Record, definition, substitute, call, let', switch, create, invoke, literal, op, ifc, clause', print, exit, record_bytes}
+use Rattle.image_spec.specs.Kinds.{kind_of, clauses_of, fixed, tail_bytes}
 use Rattle.image_spec.proofs.KindLaws.{tail_at}
 use Rattle.image_directory.specs.Slots.{Ready, records_in}
 use Rattle.image_directory.specs.declared.Frame.{Frame}
 use Rattle.image_directory.proofs.Places.{records-length}
+use Rattle.image_kinds.specs.Codes.{code_of}
 use Rattle.image_shape.specs.Nodes.{node_of}
 use Rattle.image_shape.specs.declared.Node.{Node}
-use Rattle.image_shape.proofs.Heads.{place, kind-small}
-use Rattle.image_read_parts.specs.Standing.{Stands, ReadsAs, RoomIn, head_of}
-use Rattle.image_read_parts.proofs.StandingLaws.{part_room, part-reads, byte_reads, kind-stands}
+use Rattle.image_shape.proofs.Heads.{place}
+use Rattle.image_read_parts.specs.Standing.{ReadsAs, RoomIn, head_of}
 use Rattle.image_read_nodes.specs.Nodes.{record_at, At}
 
 -- ── the record that was looked at ──
 
 module _ (g : Frame) (s : List ℕ) (i : ℕ) where
   pub record Looked (n : Node) : Type 0 where
-    pub at : At g s i n.kind
+    pub at : At g s i (code_of n.kind)
     pub count : clauses_of (record_at g s i) ≡ n.clauses
-    pub small : n.kind < kinds
 
   pub looked : (n : Node) → Ready g s → node_of (drop i (records_in g s)) ≡ Some n → Looked n
   looked n h e =
       let p = place (records_in g s) i n e in
       record {
-        at = record { ready = h; inside = omega (arith, p.fits, records-length g s h); kind = ap (λ (l : List Record). kind_of (head_of l)) p.list ∙ sym p.kind };
+        at = record { inside = omega (arith, p.fits, records-length g s h); kind = ap (λ (l : List Record). kind_of (head_of l)) p.list ∙ sym p.kind };
         count = ap (λ (l : List Record). clauses_of (head_of l)) p.list ∙ sym p.count;
-        small = kind-small (records_in g s) i n e;
       }
 
   pub of-kind : {k m : ℕ} → At g s i k → k ≡ m → At g s i m
-  of-kind a e = record { ready = a.ready; inside = a.inside; kind = a.kind ∙ e }
+  of-kind a e = record { inside = a.inside; kind = a.kind ∙ e }
 
 -- ── a byte of the tail ──
 
@@ -60,20 +58,6 @@ tail-room g s i k j p a q h =
     let r = record_at g s i in
     let e : length (record_bytes w r) - fixed w k ≡ length (tail_bytes w r) = sym (length-drop (fixed w k) (record_bytes w r)) ∙ ap length (tail_from w k r a.kind) in
     record { inside = omega arith }
-
--- the first byte of the tail of the record at index i stands at this place of the image
-pub record TailAt (g : Frame) (s : List ℕ) (i place : ℕ) : Type 0 where
-  pub inside : place < length s
-  pub byte : get_or s place 0 ≡ get_or (tail_bytes g.id (record_at g s i)) 0 0
-
-module _ (g : Frame) (s : List ℕ) (i : ℕ) {o : ℕ} (t : Stands (record_bytes g.id) (RecordOk g.id) s o (record_at g s i)) where
-  pub kind-there : Ready g s → i < g.count → At g s i (get_or s o 0)
-  kind-there h n = record { ready = h; inside = n; kind = sym (kind-stands g.id t).0 }
-
-  pub tail-there : (k p : ℕ) → At g s i k → p ≡ fixed g.id k → 0 < length (tail_bytes g.id (record_at g s i)) → TailAt g s i (o + p)
-  tail-there k p a q h =
-      let m = tail-room g s i k 0 p a (q ∙ omega arith) h in
-      record { inside = omega (arith, (part_room a.ready.id.1 t m).inside); byte = tail-byte g.id k (record_at g s i) 0 p a.kind (q ∙ omega arith) h (part-reads t m byte_reads) }
 
 -- every kind but Literal, Op, PrintI64 and Exit has a tail
 pub tail_some : (w : ℕ) (r : Record) → (kind_of r ≡ 8 → ⊥) → (kind_of r ≡ 9 → ⊥) → (kind_of r ≡ 12 → ⊥) → (kind_of r ≡ 13 → ⊥) → 0 < length (tail_bytes w r)

@@ -1,2 +1,3 @@
 -- The record at an index of an image that was opened.
 pub mod Nodes
+pub mod Opened

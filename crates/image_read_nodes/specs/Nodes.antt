@@ -5,9 +5,10 @@ use Rattle.syntax.specs.Context.{empty_binding}
 use Rattle.syntax.specs.declared.names.Identifier.{Identifier}
 use Rattle.image_spec.specs.Records.{Record, definition, substitute, call, let', switch, create, invoke, literal, op, ifc, clause', print, exit}
 use Rattle.image_spec.specs.Kinds.{kind_of, clauses_of, bodies}
-use Rattle.image_directory.specs.Slots.{Ready, records_in}
+use Rattle.image_directory.specs.Slots.{records_in}
 use Rattle.image_directory.specs.declared.Frame.{Frame}
 use Rattle.image_read_parts.specs.Standing.{head_of}
+use Rattle.image_kinds.specs.Codes.{code_of}
 use Rattle.image_read_nodes.specs.declared.Follows.{Follows}
 
 abbrev pub record_at : Frame → List ℕ → ℕ → Record
@@ -15,13 +16,12 @@ record_at g s i = head_of (drop i (records_in g s))
 
 -- the record at index i is of kind k
 pub record At (g : Frame) (s : List ℕ) (i k : ℕ) : Type 0 where
-  pub ready : Ready g s
   pub inside : i < g.count
   pub kind : kind_of (record_at g s i) ≡ k
 
 -- what is said to follow the record at index i: its clauses, then its bodies
 pub record Followed (g : Frame) (s : List ℕ) (i : ℕ) (f : Follows) : Type 0 where
-  pub at : At g s i f.kind
+  pub at : At g s i (code_of f.kind)
   pub clauses : f.clauses ≡ clauses_of (record_at g s i)
   pub bodies : f.bodies ≡ bodies (kind_of (record_at g s i))
 

@@ -3,12 +3,13 @@
 
 ghost use Rattle.std.specs.Prelude.{◌≡◌, true, ◌<◌};
 ghost use Rattle.image_spec.specs.Fields.{list_bytes, ListOk};
-ghost use Rattle.image_directory.specs.Slots.{Ready};
 ghost use Rattle.image_read_parts.specs.Standing.{Stands};
 ghost use Rattle.image_read_parts.specs.Parts.{list_of};
-ghost use Rattle.image_read_nodes.specs.Nodes.{record_at, At, Followed, has_list, first_at, first_of, operand_of, target_of};
+ghost use Rattle.image_read_nodes.specs.Nodes.{Followed, has_list, first_at, first_of, operand_of, target_of};
+ghost use Rattle.image_read_nodes.specs.Opened.{record_of, IsAt};
+ghost use Rattle.image_kinds.specs.Codes.{code_of};
 
-use image_directory::Frame;
+use image_directory::image::Image;
 use image_kinds::kinds::Kind;
 use image_read_parts::{identifier, offset};
 use image_shape::look;
@@ -17,65 +18,63 @@ use syntax::names::Identifier;
 // The kind of a record, and what follows it: clauses, then bodies.
 #[derive(Clone, Copy, PartialEq, Eq)]
 pub struct Follows {
-    pub kind: u8,
+    pub kind: Kind,
     pub clauses: usize,
     pub bodies: usize,
 }
 
 // What follows the record at index i.
-pub fn parts_of(image: &[u8], frame: Frame, i: usize) -> Follows
-    requires { Ready frame image.now × (i < frame.count) }
-    ensures { Followed frame image.now i result }
+pub fn parts_of(image: &Image<'_>, i: usize) -> Follows
+    requires { i < image.now.frame.count }
+    ensures { Followed image.now.frame image.now.bytes.now i result }
 {
-    let node = look(image, frame, i).unwrap();
+    let node = look(image, i).unwrap();
     Follows {
         kind: node.kind,
         clauses: usize::from(node.clauses),
-        bodies: Kind::bodies(node.kind),
+        bodies: node.kind.bodies(),
     }
 }
 
 // Where the list of the record at index i begins, with its count.
-pub fn list_at(image: &[u8], frame: Frame, i: usize, kind: u8) -> usize
-    requires { At frame image.now i kind × (has_list kind ≡ true) }
-    ensures { Stands (list_bytes frame.id) (ListOk frame.id) image.now result (list_of (record_at frame image.now i)) }
+pub fn list_at(image: &Image<'_>, i: usize, kind: Kind) -> usize
+    requires { IsAt image.now i (code_of kind) × (has_list (code_of kind) ≡ true) }
+    ensures { Stands (list_bytes image.now.frame.id) (ListOk image.now.frame.id) image.now.bytes.now result (list_of (record_of image.now i)) }
 {
-    let w = frame.id;
-    offset(image, frame, i) + Kind::fixed(kind, w)
+    offset(image, i) + kind.fixed(image.frame.id)
 }
 
-fn first_at(kind: u8) -> usize
-    ensures { result ≡ first_at kind }
+fn first_at(kind: Kind) -> usize
+    ensures { result ≡ first_at (code_of kind) }
 {
     match kind {
-        Kind::LITERAL => 9,
-        Kind::IFC | Kind::PRINT => 2,
+        Kind::Literal => 9,
+        Kind::IfC | Kind::Print => 2,
         _ => 1,
     }
 }
 
 // The first identifier of the record at index i. (A Substitute has none.)
-pub fn first(image: &[u8], frame: Frame, i: usize, kind: u8) -> Identifier
-    requires { At frame image.now i kind × (kind ≡ 2 → ⊥) }
-    ensures { result ≡ first_of (record_at frame image.now i) }
+pub fn first(image: &Image<'_>, i: usize, kind: Kind) -> Identifier
+    requires { IsAt image.now i (code_of kind) × (code_of kind ≡ 2 → ⊥) }
+    ensures { result ≡ first_of (record_of image.now i) }
 {
-    identifier(image, frame, i, first_at(kind))
+    identifier(image, i, first_at(kind))
 }
 
 // The second operand of the Op at index i.
-pub fn operand(image: &[u8], frame: Frame, i: usize) -> Identifier
-    requires { At frame image.now i 9 }
-    ensures { result ≡ operand_of (record_at frame image.now i) }
+pub fn operand(image: &Image<'_>, i: usize) -> Identifier
+    requires { IsAt image.now i 9 }
+    ensures { result ≡ operand_of (record_of image.now i) }
 {
-    let w = frame.id;
-    identifier(image, frame, i, 4 + w)
+    identifier(image, i, 4 + image.frame.id)
 }
 
 // The var of the Op at index i.
-pub fn target(image: &[u8], frame: Frame, i: usize) -> Identifier
-    requires { At frame image.now i 9 }
-    ensures { result ≡ target_of (record_at frame image.now i) }
+pub fn target(image: &Image<'_>, i: usize) -> Identifier
+    requires { IsAt image.now i 9 }
+    ensures { result ≡ target_of (record_of image.now i) }
 {
-    let w = frame.id;
-    identifier(image, frame, i, 6 + (w + w))
+    let w = image.frame.id;
+    identifier(image, i, 6 + (w + w))
 }

@@ -1,20 +1,18 @@
 // Reads the parts of records: at a place of the bytes, and of the record at an index of an image that was opened.
 #![tactic(auto)]
 
-ghost use Rattle.std.specs.Prelude.{◌≡◌, ◌∷◌, [], ℕ, ◌+◌, ◌*◌, ◌≤◌, ◌<◌, ◌^◌, length, drop, get_or};
+ghost use Rattle.std.specs.Prelude.{◌∷◌, [], ℕ, ◌+◌, ◌≤◌, ◌<◌, length, drop};
 ghost use Rattle.std.specs.Int.{w64};
 ghost use Rattle.std.proofs.Common.{SFits};
 ghost use Rattle.image_spec.specs.Fields.{newlines, integer_bytes, identifier_bytes, type_bytes, binding_bytes, IdentifierOk, TypeOk, BindingOk};
 ghost use Rattle.image_spec.specs.Records.{record_bytes, RecordOk};
-ghost use Rattle.image_directory.specs.Slots.{Ready, records_in};
-ghost use Rattle.syntax.specs.Context.{empty_binding};
-ghost use Rattle.image_read_parts.specs.Parts.{list_of, HasList};
 ghost use Rattle.image_read_parts.specs.Standing.{Stands, ReadsAs, IsCode, head_of, Room, RoomIn};
+ghost use Rattle.image_directory.specs.Images.{records_of};
 
-use image_directory::{Frame, read_slot};
+use image_directory::image::Image;
+use image_directory::read_slot;
 use image_fields::number;
 use image_integers::from_bits;
-use image_kinds::kinds::Kind;
 use syntax::context::{Chirality, ContextBinding};
 use syntax::names::{Identifier, Name, VarId};
 use syntax::types::Ty;
@@ -69,73 +67,44 @@ pub fn integer_at(image: &[u8], at: usize) -> i64
 }
 
 // Where the bytes of the record at index i begin.
-pub fn offset(image: &[u8], frame: Frame, i: usize) -> usize
-    requires { Ready frame image.now × (i < frame.count) }
-    ensures { Stands (record_bytes frame.id) (RecordOk frame.id) image.now result (head_of (drop i (records_in frame image.now))) }
+pub fn offset(image: &Image<'_>, i: usize) -> usize
+    requires { i < image.now.frame.count }
+    ensures { Stands (record_bytes image.now.frame.id) (RecordOk image.now.frame.id) image.now.bytes.now result (head_of (drop i (records_of image.now))) }
 {
-    let place = frame.place;
-    read_slot(image, place, frame.from + i * (place + place))
+    let place = image.frame.place;
+    read_slot(image.bytes, place, image.frame.from + i * (place + place))
         .unwrap()
         .offset
 }
 
 // The byte at a place of the record at index i: a code, a mark or a count.
-pub fn byte(image: &[u8], frame: Frame, i: usize, at: usize) -> u8
-    requires { Ready frame image.now × ((i < frame.count) × RoomIn frame i at 1 image.now) }
-    ensures { ReadsAs (λ (b : ℕ). b ∷ []) (λ _. Unit {0}) (record_bytes frame.id (head_of (drop i (records_in frame image.now)))) at result }
+pub fn byte(image: &Image<'_>, i: usize, at: usize) -> u8
+    requires { (i < image.now.frame.count) × RoomIn image.now.frame i at 1 image.now.bytes.now }
+    ensures { ReadsAs (λ (b : ℕ). b ∷ []) (λ _. Unit {0}) (record_bytes image.now.frame.id (head_of (drop i (records_of image.now)))) at result }
 {
-    let start = offset(image, frame, i);
-    image[start + at]
+    image.bytes[offset(image, i) + at]
 }
 
 // The identifier at a place of the record at index i.
-pub fn identifier(image: &[u8], frame: Frame, i: usize, at: usize) -> Identifier
-    requires { Ready frame image.now × ((i < frame.count) × RoomIn frame i at (2 + frame.id) image.now) }
-    ensures { ReadsAs (identifier_bytes frame.id) (IdentifierOk frame.id) (record_bytes frame.id (head_of (drop i (records_in frame image.now)))) at result }
+pub fn identifier(image: &Image<'_>, i: usize, at: usize) -> Identifier
+    requires { (i < image.now.frame.count) × RoomIn image.now.frame i at (2 + image.now.frame.id) image.now.bytes.now }
+    ensures { ReadsAs (identifier_bytes image.now.frame.id) (IdentifierOk image.now.frame.id) (record_bytes image.now.frame.id (head_of (drop i (records_of image.now)))) at result }
 {
-    let w = frame.id;
-    let start = offset(image, frame, i);
-    identifier_at(image, w, start + at)
+    identifier_at(image.bytes, image.frame.id, offset(image, i) + at)
 }
 
 // The type at a place of the record at index i.
-pub fn ty(image: &[u8], frame: Frame, i: usize, at: usize) -> Ty
-    requires { Ready frame image.now × ((i < frame.count) × RoomIn frame i at (3 + frame.id) image.now) }
-    ensures { ReadsAs (type_bytes frame.id) (TypeOk frame.id) (record_bytes frame.id (head_of (drop i (records_in frame image.now)))) at result }
+pub fn ty(image: &Image<'_>, i: usize, at: usize) -> Ty
+    requires { (i < image.now.frame.count) × RoomIn image.now.frame i at (3 + image.now.frame.id) image.now.bytes.now }
+    ensures { ReadsAs (type_bytes image.now.frame.id) (TypeOk image.now.frame.id) (record_bytes image.now.frame.id (head_of (drop i (records_of image.now)))) at result }
 {
-    let w = frame.id;
-    let start = offset(image, frame, i);
-    type_at(image, w, start + at)
+    type_at(image.bytes, image.frame.id, offset(image, i) + at)
 }
 
 // The binding at a place of the record at index i.
-pub fn binding(image: &[u8], frame: Frame, i: usize, at: usize) -> ContextBinding
-    requires { Ready frame image.now × ((i < frame.count) × RoomIn frame i at (6 + (frame.id + frame.id)) image.now) }
-    ensures { ReadsAs (binding_bytes frame.id) (BindingOk frame.id) (record_bytes frame.id (head_of (drop i (records_in frame image.now)))) at result }
+pub fn binding(image: &Image<'_>, i: usize, at: usize) -> ContextBinding
+    requires { (i < image.now.frame.count) × RoomIn image.now.frame i at (6 + (image.now.frame.id + image.now.frame.id)) image.now.bytes.now }
+    ensures { ReadsAs (binding_bytes image.now.frame.id) (BindingOk image.now.frame.id) (record_bytes image.now.frame.id (head_of (drop i (records_of image.now)))) at result }
 {
-    let w = frame.id;
-    let start = offset(image, frame, i);
-    binding_at(image, w, start + at)
-}
-
-// How many bindings the list of the record at index i has, which is a definition, Call, Let, Invoke or clause.
-pub fn list_count(image: &[u8], frame: Frame, i: usize) -> usize
-    requires { Ready frame image.now × ((i < frame.count) × HasList (head_of (drop i (records_in frame image.now)))) }
-    ensures { result ≡ length (list_of (head_of (drop i (records_in frame image.now)))) }
-{
-    let w = frame.id;
-    let start = offset(image, frame, i);
-    let at = Kind::fixed(image[start], w);
-    usize::from(image[start + at])
-}
-
-// The binding at place j of that list.
-pub fn list_binding(image: &[u8], frame: Frame, i: usize, j: usize) -> ContextBinding
-    requires { Ready frame image.now × ((i < frame.count) × (HasList (head_of (drop i (records_in frame image.now))) × (j < length (list_of (head_of (drop i (records_in frame image.now))))))) }
-    ensures { result ≡ get_or (list_of (head_of (drop i (records_in frame image.now)))) j empty_binding }
-{
-    let w = frame.id;
-    let start = offset(image, frame, i);
-    let at = Kind::fixed(image[start], w);
-    binding_at(image, w, start + (at + (1 + j * (6 + (w + w)))))
+    binding_at(image.bytes, image.frame.id, offset(image, i) + at)
 }

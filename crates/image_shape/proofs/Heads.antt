@@ -1,45 +1,58 @@
 -- A record at a place of a list: its kind decides what the walk reads there. Assumes nothing.
 use Rattle.std.specs.Prelude.{Some, None}
-use Prim.Native.Nat.{ℕ, ◌+◌, ◌-◌, ◌≤◌, ◌<◌}
+use Prim.Native.Nat.{ℕ, ◌+◌, ◌-◌, ◌≤◌}
 use mathlib.Core.List.{List, [], ◌∷◌}
 use mathlib.Core.Bool.{Bool, true, false, cond}
 use mathlib.Core.Path.{◌≡◌, refl, ap, sym, ◌∙◌}
-use mathlib.Core.Logic.{inl, inr}
+use mathlib.Core.Logic.{◌⊎◌, inl, inr}
 use native.Mathlib.Omega.{arith}
-use borrow.Author.Tests.{le-leb}
+use borrow.Author.Tests.{le-leb, ne_eqb}
 use lib.Dec.{leb, eqb}
 use lib.ListN.{length, drop, get_or, length-drop}
 use lib.Seq.{drop-drop}
 use Rattle.image_spec.specs.Parse.{refused, got, Parser}
 use Rattle.image_spec.specs.Records.{Record, definition, substitute, call, let', switch, create, invoke, literal, op, ifc, clause', print, exit}
-use Rattle.image_spec.specs.Kinds.{kind_of, kinds, clauses_of}
+use Rattle.image_spec.specs.Kinds.{kind_of, clauses_of}
 use Rattle.image_fields.specs.Found.{found_in, stop}
 use Rattle.image_spec.specs.Shape.{clause_head, definition_head}
-use Rattle.image_spec.proofs.KindLaws.{kind-below}
 use Rattle.image_fields.proofs.Stops.{stop_none, never-stops}
 use Rattle.image_directory.specs.Slots.{records_in, Ready}
 use Rattle.image_directory.specs.declared.Frame.{Frame}
 use Rattle.image_directory.specs.declared.Slot.{Slot}
 use Rattle.image_directory.proofs.Places.{records-length, Spot}
+use Rattle.image_kinds.specs.Codes.{code_of, named_kind}
+use Rattle.image_kinds.specs.declared.kinds.Kind.{Kind}
+use Rattle.image_kinds.specs.declared.kinds.Kind.TheVariants.{Switch, Create}
+use Rattle.image_kinds.proofs.KindNames.{kind-code, code-kind, same_code}
 use Rattle.image_shape.specs.Nodes.{node_of, IsHead, head_parser}
 use Rattle.image_shape.specs.declared.Node.{Node}
 
-abbrev node : ℕ → ℕ → Node
+abbrev node : Kind → ℕ → Node
 node k c = record { kind = k; clauses = c }
 
--- the node of the record at a place of an image
-pub spot_node : {g : Frame} {s : List ℕ} {i : ℕ} {v : Slot} → Spot g s i v
+-- the node of the record at a place of an image, by its kind
+spot_node : {g : Frame} {s : List ℕ} {i : ℕ} {v : Slot} → Spot g s i v → (k : Kind) → code_of k ≡ get_or s v.offset 0
     → node_of (drop i (records_in g s))
-    ≡ Some (record { kind = get_or s v.offset 0; clauses = cond (eqb (get_or s v.offset 0) 5) (get_or s (v.offset + v.size - 1) 0) (cond (eqb (get_or s v.offset 0) 6) (get_or s (v.offset + v.size - 1) 0) 0) })
-spot_node {s = s} {v = v} t =
-    ap node_of t.list ∙ (ap (λ k. Some (node k (clauses_of t.head))) (sym t.says.kind) ∙ ap (λ c. Some (node (get_or s v.offset 0) c)) t.says.count)
+    ≡ Some (record { kind = k; clauses = cond (eqb (code_of k) 5) (get_or s (v.offset + v.size - 1) 0) (cond (eqb (code_of k) 6) (get_or s (v.offset + v.size - 1) 0) 0) })
+spot_node {s = s} {v = v} t k e =
+    ap node_of t.list ∙ (ap (λ k. Some (node k (clauses_of t.head))) (sym (code-kind k t.head (e ∙ t.says.kind))) ∙ ap (λ c. Some (node k c)) (rw (← e) at t.says.count))
+
+-- .. of a Switch or a Create, and of any other
+pub spot_counted : {g : Frame} {s : List ℕ} {i : ℕ} {v : Slot} → Spot g s i v → (k : Kind) → code_of k ≡ get_or s v.offset 0 → (k ≡ Switch) ⊎ (k ≡ Create)
+    → node_of (drop i (records_in g s)) ≡ Some (record { kind = k; clauses = get_or s (v.offset + v.size - 1) 0 })
+spot_counted t k e (inl q) = spot_node t k e ∙ rw q refl
+spot_counted t k e (inr q) = spot_node t k e ∙ rw q refl
+
+pub spot_plain : {g : Frame} {s : List ℕ} {i : ℕ} {v : Slot} → Spot g s i v → (k : Kind) → code_of k ≡ get_or s v.offset 0 → (k ≡ Switch → ⊥) → (k ≡ Create → ⊥)
+    → node_of (drop i (records_in g s)) ≡ Some (record { kind = k; clauses = 0 })
+spot_plain t k e a b = spot_node t k e ∙ rw (ne_eqb (code_of k) 5 (λ q. a (same_code k Switch q)), ne_eqb (code_of k) 6 (λ q. b (same_code k Create q))) refl
 
 -- what a list has at a place
 pub record Place (rs : List Record) (i : ℕ) (n : Node) : Type 0 where
   pub head : Record
   pub fits : i + 1 ≤ length rs
   pub list : drop i rs ≡ head ∷ drop (i + 1) rs
-  pub kind : n.kind ≡ kind_of head
+  pub kind : code_of n.kind ≡ kind_of head
   pub count : n.clauses ≡ clauses_of head
 
 pub place : (rs : List Record) (i : ℕ) (n : Node) → node_of (drop i rs) ≡ Some n → Place rs i n
@@ -48,12 +61,12 @@ place rs i n h = go (drop i rs) refl h
     go : (l : List Record) → drop i rs ≡ l → node_of l ≡ Some n → Place rs i n
     go [] e h = absurd (cc)
     go (r ∷ l) e h =
-        let q : node (kind_of r) (clauses_of r) ≡ n = cc in
+        let q : node (named_kind r) (clauses_of r) ≡ n = cc in
         record {
           head = r;
           fits = omega (arith, sym (length-drop i rs) ∙ ap length e);
           list = e ∙ ap (λ z. r ∷ z) (sym (ap (drop 1) e) ∙ drop-drop 1 i rs);
-          kind = ap (λ (x : Node). x.kind) (sym q);
+          kind = ap (λ (x : Node). code_of x.kind) (sym q) ∙ kind-code r;
           count = ap (λ (x : Node). x.clauses) (sym q);
         }
 
@@ -73,9 +86,6 @@ at-end p rs i e h = go (drop i rs) refl h (leb i (length rs))
     go [] q h true = rw (q, e)
     go [] q h false = refl
     go (r ∷ l) q h t = absurd (cc)
-
-pub kind-small : (rs : List Record) (i : ℕ) (n : Node) → node_of (drop i rs) ≡ Some n → n.kind < kinds
-kind-small rs i n h = let p = place rs i n h in rw p.kind (kind-below p.head)
 
 clause-yes : (r : Record) → kind_of r ≡ 11 → (n : ℕ) (l : List Record) → found_in n (clause_head (r ∷ l)) ≡ found_in {A = ℕ} n (got 0 l)
 clause-yes (definition i bs) h n l = absurd (omega arith)
@@ -151,12 +161,12 @@ head-empty k (inl e) = rw e refl
 head-empty k (inr e) = rw e refl
 
 module _ (w : ℕ) (o : IsHead w) (rs : List Record) (i : ℕ) where
-  pub head-here : (n : Node) → node_of (drop i rs) ≡ Some n → n.kind ≡ w → stop (head_parser w) rs i ≡ Some (i + 1)
+  pub head-here : (n : Node) → node_of (drop i rs) ≡ Some n → code_of n.kind ≡ w → stop (head_parser w) rs i ≡ Some (i + 1)
   head-here n h e =
       let v = place rs i n h in
       at_record {B = ℕ} (head_parser w) (λ l. got 0 l) rs i v.head v.fits v.list (head-yes w o v.head (sym v.kind ∙ e)) ∙ stop_none {A = ℕ} 0 rs (i + 1) v.fits
 
-  pub head-other : (n : Node) → node_of (drop i rs) ≡ Some n → (n.kind ≡ w → ⊥) → stop (head_parser w) rs i ≡ None
+  pub head-other : (n : Node) → node_of (drop i rs) ≡ Some n → (code_of n.kind ≡ w → ⊥) → stop (head_parser w) rs i ≡ None
   head-other n h e =
       let v = place rs i n h in
       at_record {B = ℕ} (head_parser w) (λ l. refused) rs i v.head v.fits v.list (head_not w o v.head (λ q. e (v.kind ∙ q))) ∙ never-stops Record ℕ rs (i + 1)

@@ -20,13 +20,14 @@ use Rattle.image_spec.specs.Image.{is_some}
 use Rattle.image_spec.proofs.ParseLaws.{Sound, none_read, one-read, Exact}
 use Rattle.image_spec.proofs.ShapeLaws.{stmt_exact, clauses_exact, clause_head_exact, definition_head_exact, definition_exact, definitions_exact, Within as Depth}
 use Rattle.image_fields.proofs.Stops.{stop-via, stop-both, stop_none, stop-times, stop-within, found-via, never-stops, onward, alike, kept}
+use Rattle.image_kinds.specs.Codes.{code_of}
 use Rattle.image_shape.specs.Nodes.{node_of, parts_of, parts_at}
 use Rattle.image_shape.specs.declared.Node.{Node}
 use Rattle.image_shape.specs.declared.Parts.{Parts}
 use Rattle.image_shape.proofs.Heads.{place, at_record, at-end}
 
 abbrev follows : ℕ → Node → Parts
-follows i n = record { clauses = n.clauses; bodies = bodies n.kind; next = i + 1 }
+follows i n = record { clauses = n.clauses; bodies = bodies (code_of n.kind); next = i + 1 }
 
 -- the bodies and the clauses of a statement, with p for their statements
 module _ (d : ℕ) (p : Parser Record Stmt) (x : Exact flatten (Depth d) p) (rs : List Record) where
@@ -106,7 +107,7 @@ module _ (rs : List Record) where
   stmt-end zero i h = stmt_zero 0 i refl
   stmt-end (suc d) i h = at-end (step (stmt d)) rs i refl h
 
-  pub stmt-never : (d i : ℕ) (n : Node) → node_of (drop i rs) ≡ Some n → (n.kind ≡ 1) ⊎ (n.kind ≡ 11) → stop (stmt d) rs i ≡ None
+  pub stmt-never : (d i : ℕ) (n : Node) → node_of (drop i rs) ≡ Some n → (code_of n.kind ≡ 1) ⊎ (code_of n.kind ≡ 11) → stop (stmt d) rs i ≡ None
   unfolding stmt
   stmt-never zero i n h e = stmt_zero 0 i refl
   stmt-never (suc d) i n h e =
@@ -114,8 +115,8 @@ module _ (rs : List Record) where
       never d (stmt d) (stmt_exact d) rs i v.head v.fits v.list (subst (λ z. (z ≡ 1) ⊎ (z ≡ 11)) v.kind e)
 
   -- the clauses and the bodies that follow a statement's record
-  pub stmt_node : (d i : ℕ) (n : Node) → node_of (drop i rs) ≡ Some n → (d ≡ 0 → ⊥) → (n.kind ≡ 1 → ⊥) → (n.kind ≡ 11 → ⊥)
-      → stop (stmt d) rs i ≡ option_and_then (stop (times (bodies n.kind) (stmt (d - 1))) rs) (stop (clauses (stmt (d - 1)) n.clauses) rs (i + 1))
+  pub stmt_node : (d i : ℕ) (n : Node) → node_of (drop i rs) ≡ Some n → (d ≡ 0 → ⊥) → (code_of n.kind ≡ 1 → ⊥) → (code_of n.kind ≡ 11 → ⊥)
+      → stop (stmt d) rs i ≡ option_and_then (stop (times (bodies (code_of n.kind)) (stmt (d - 1))) rs) (stop (clauses (stmt (d - 1)) n.clauses) rs (i + 1))
   unfolding stmt past-clauses past-bodies
   stmt_node zero i n h z a b = absurd (z refl)
   stmt_node (suc d) i n h z a b =
@@ -128,15 +129,15 @@ module _ (rs : List Record) where
   unfolding parts_at
   parts-missing d i h = go (node_of (drop i rs)) refl h
     where
-      some : (n : Node) → node_of (drop i rs) ≡ Some n → (t : Bool) → eqb n.kind 1 ≡ t → (u : Bool) → eqb n.kind 11 ≡ u
+      some : (n : Node) → node_of (drop i rs) ≡ Some n → (t : Bool) → eqb (code_of n.kind) 1 ≡ t → (u : Bool) → eqb (code_of n.kind) 11 ≡ u
           → cond t None (cond u None (Some (follows i n))) ≡ None → stop (stmt d) rs i ≡ None
-      some n e true x u y h = stmt-never d i n e (inl (eqb-true n.kind 1 x))
-      some n e false x true y h = stmt-never d i n e (inr (eqb-true n.kind 11 y))
+      some n e true x u y h = stmt-never d i n e (inl (eqb-true (code_of n.kind) 1 x))
+      some n e false x true y h = stmt-never d i n e (inr (eqb-true (code_of n.kind) 11 y))
       some n e false x false y h = absurd (cc)
 
       go : (o : Option Node) → node_of (drop i rs) ≡ o → parts_of i o ≡ None → stop (stmt d) rs i ≡ None
       go None e h = stmt-end d i e
-      go (Some n) e h = some n e (eqb n.kind 1) refl (eqb n.kind 11) refl h
+      go (Some n) e h = some n e (eqb (code_of n.kind) 1) refl (eqb (code_of n.kind) 11) refl h
 
   pub parts-follow : (d i : ℕ) (v : Parts) → (d ≡ 0 → ⊥) → parts_at rs i ≡ Some v
       → (v.next ≤ length rs) × (stop (stmt d) rs i ≡ option_and_then (stop (times v.bodies (stmt (d - 1))) rs) (stop (clauses (stmt (d - 1)) v.clauses) rs v.next))
@@ -146,26 +147,26 @@ module _ (rs : List Record) where
       found : Parts → Type 0
       found v = (v.next ≤ length rs) × (stop (stmt d) rs i ≡ option_and_then (stop (times v.bodies (stmt (d - 1))) rs) (stop (clauses (stmt (d - 1)) v.clauses) rs v.next))
 
-      some : (n : Node) → node_of (drop i rs) ≡ Some n → (t : Bool) → eqb n.kind 1 ≡ t → (u : Bool) → eqb n.kind 11 ≡ u
+      some : (n : Node) → node_of (drop i rs) ≡ Some n → (t : Bool) → eqb (code_of n.kind) 1 ≡ t → (u : Bool) → eqb (code_of n.kind) 11 ≡ u
           → cond t None (cond u None (Some (follows i n))) ≡ Some v → found v
       some n e true x u y h = absurd (cc)
       some n e false x true y h = absurd (cc)
       some n e false x false y h =
           let q : follows i n ≡ v = cc in
-          subst found q ((place rs i n e).fits, stmt_node d i n e z (eqb-false n.kind 1 x) (eqb-false n.kind 11 y))
+          subst found q ((place rs i n e).fits, stmt_node d i n e z (eqb-false (code_of n.kind) 1 x) (eqb-false (code_of n.kind) 11 y))
 
       go : (o : Option Node) → node_of (drop i rs) ≡ o → parts_of i o ≡ Some v → found v
       go None e h = absurd (cc)
-      go (Some n) e h = some n e (eqb n.kind 1) refl (eqb n.kind 11) refl h
+      go (Some n) e h = some n e (eqb (code_of n.kind) 1) refl (eqb (code_of n.kind) 11) refl h
 
-  pub parts-of : (i : ℕ) (n : Node) → node_of (drop i rs) ≡ Some n → (n.kind ≡ 1 → ⊥) → (n.kind ≡ 11 → ⊥)
-      → parts_at rs i ≡ Some (record { clauses = n.clauses; bodies = bodies n.kind; next = i + 1 })
+  pub parts-of : (i : ℕ) (n : Node) → node_of (drop i rs) ≡ Some n → (code_of n.kind ≡ 1 → ⊥) → (code_of n.kind ≡ 11 → ⊥)
+      → parts_at rs i ≡ Some (record { clauses = n.clauses; bodies = bodies (code_of n.kind); next = i + 1 })
   unfolding parts_at
-  parts-of i n h a b = rw (h, ne_eqb n.kind 1 a, ne_eqb n.kind 11 b)
+  parts-of i n h a b = rw (h, ne_eqb (code_of n.kind) 1 a, ne_eqb (code_of n.kind) 11 b)
 
-  pub parts-other : (i : ℕ) (n : Node) → node_of (drop i rs) ≡ Some n → (n.kind ≡ 1) ⊎ (n.kind ≡ 11) → parts_at rs i ≡ None
+  pub parts-other : (i : ℕ) (n : Node) → node_of (drop i rs) ≡ Some n → (code_of n.kind ≡ 1) ⊎ (code_of n.kind ≡ 11) → parts_at rs i ≡ None
   unfolding parts_at
-  parts-other i n h a = rw h (⊎_elim (λ (q : n.kind ≡ 1). rw (eq-eqb n.kind 1 q)) (λ (q : n.kind ≡ 11). rw (eq-eqb n.kind 11 q) (same (eqb n.kind 1))) a)
+  parts-other i n h a = rw h (⊎_elim (λ (q : code_of n.kind ≡ 1). rw (eq-eqb (code_of n.kind) 1 q)) (λ (q : code_of n.kind ≡ 11). rw (eq-eqb (code_of n.kind) 11 q) (same (eqb (code_of n.kind) 1))) a)
     where
       same : (t : Bool) → cond {A = Option Parts} t None None ≡ None
       same true = refl

@@ -4,7 +4,8 @@ use Rattle.syntax.specs.Context.{Context}
 use Rattle.syntax.specs.declared.names.Identifier.{Identifier}
 use Rattle.image_spec.specs.Parse.{Parser}
 use Rattle.image_spec.specs.Records.{Record}
-use Rattle.image_spec.specs.Kinds.{kind_of, clauses_of, bodies}
+use Rattle.image_spec.specs.Kinds.{clauses_of, bodies}
+use Rattle.image_kinds.specs.Codes.{code_of, named_kind}
 use Rattle.image_spec.specs.Shape.{clause_head, definition_head}
 use Rattle.image_shape.specs.declared.Node.{Node}
 use Rattle.image_shape.specs.declared.Parts.{Parts}
@@ -12,7 +13,7 @@ use Rattle.image_shape.specs.declared.Parts.{Parts}
 -- the first record
 abbrev pub node_of : List Record → Option Node
 node_of [] = None
-node_of (r ∷ rs) = Some (record { kind = kind_of r; clauses = clauses_of r })
+node_of (r ∷ rs) = Some (record { kind = named_kind r; clauses = clauses_of r })
 
 -- the kinds of a record with one body and no more: of a definition and of a clause
 abbrev pub IsHead : ℕ → Type 0
@@ -24,7 +25,7 @@ head_parser k = cond (eqb k 1) definition_head clause_head
 -- the parts of the statement whose record is at a place, where there is one
 abbrev pub parts_of : ℕ → Option Node → Option Parts
 parts_of i None = None
-parts_of i (Some n) = cond (eqb n.kind 1) None (cond (eqb n.kind 11) None (Some (record { clauses = n.clauses; bodies = bodies n.kind; next = i + 1 })))
+parts_of i (Some n) = cond (eqb (code_of n.kind) 1) None (cond (eqb (code_of n.kind) 11) None (Some (record { clauses = n.clauses; bodies = bodies (code_of n.kind); next = i + 1 })))
 
 unfoldable pub parts_at : List Record → ℕ → Option Parts
 parts_at rs i = parts_of i (node_of (drop i rs))

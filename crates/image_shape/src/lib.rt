@@ -6,45 +6,45 @@ ghost use Rattle.image_spec.specs.Parse.{times};
 ghost use Rattle.image_spec.specs.Shape.{stmt, clauses, one_def, definitions};
 ghost use Rattle.image_spec.specs.Image.{is_some};
 ghost use Rattle.image_fields.specs.Found.{stop};
-ghost use Rattle.image_directory.specs.Slots.{Ready, records_in};
 ghost use Rattle.image_shape.specs.Nodes.{node_of, IsHead, head_parser, parts_at};
+ghost use Rattle.image_directory.specs.Images.{records_of};
+ghost use Rattle.image_kinds.specs.Codes.{code_of};
 
-use image_directory::{Frame, read_slot};
+use image_directory::image::Image;
+use image_directory::read_slot;
 use image_kinds::kinds::Kind;
 use image_spec::Layout;
 
 // A record as the walk sees it.
 #[derive(Clone, Copy, PartialEq, Eq)]
 pub struct Node {
-    pub kind: u8,
+    pub kind: Kind,
     pub clauses: u8,
 }
 
 // The record at place i; none past the last.
-pub fn look(image: &[u8], frame: Frame, i: usize) -> Option<Node>
-    requires { Ready frame image.now }
-    ensures { result ≡ node_of (drop i (records_in frame image.now)) }
+pub fn look(image: &Image<'_>, i: usize) -> Option<Node>
+    ensures { result ≡ node_of (drop i (records_of image.now)) }
 {
-    if frame.count <= i {
+    if image.frame.count <= i {
         return None;
     }
-    let place = frame.place;
-    let slot = read_slot(image, place, frame.from + i * (place + place))?;
-    let kind = image[slot.offset];
-    let clauses = if kind == Kind::SWITCH || kind == Kind::CREATE {
-        image[slot.offset + slot.size - 1]
-    } else {
-        0
+    let place = image.frame.place;
+    let slot = read_slot(image.bytes, place, image.frame.from + i * (place + place))?;
+    let kind = Kind::try_from(image.bytes[slot.offset]).unwrap();
+    let clauses = match kind {
+        Kind::Switch | Kind::Create => image.bytes[slot.offset + slot.size - 1],
+        _ => 0,
     };
     Some(Node { kind, clauses })
 }
 
 // Past the record of a definition, or of a clause.
-fn head(image: &[u8], frame: Frame, wanted: u8, at: usize) -> Option<usize>
-    requires { Ready frame image.now × IsHead wanted }
-    ensures { result ≡ stop (head_parser wanted) (records_in frame image.now) at }
+fn head(image: &Image<'_>, wanted: Kind, at: usize) -> Option<usize>
+    requires { IsHead (code_of wanted) }
+    ensures { result ≡ stop (head_parser (code_of wanted)) (records_of image.now) at }
 {
-    if look(image, frame, at)?.kind == wanted {
+    if look(image, at)?.kind == wanted {
         Some(at + 1)
     } else {
         None
@@ -59,79 +59,75 @@ pub struct Parts {
     pub next: usize,
 }
 
-fn statement_parts(image: &[u8], frame: Frame, at: usize) -> Option<Parts>
-    requires { Ready frame image.now }
-    ensures { result ≡ parts_at (records_in frame image.now) at }
+fn statement_parts(image: &Image<'_>, at: usize) -> Option<Parts>
+    ensures { result ≡ parts_at (records_of image.now) at }
 {
-    let node = look(image, frame, at)?;
-    if node.kind == Kind::DEFINITION || node.kind == Kind::CLAUSE {
-        return None;
+    let node = look(image, at)?;
+    match node.kind {
+        Kind::Definition | Kind::Clause => None,
+        _ => Some(Parts {
+            clauses: usize::from(node.clauses),
+            bodies: node.kind.bodies(),
+            next: at + 1,
+        }),
     }
-    Some(Parts {
-        clauses: usize::from(node.clauses),
-        bodies: Kind::bodies(node.kind),
-        next: at + 1,
-    })
 }
 
 // Past a statement of depth at most `depth`.
 #[cycle(skip_bodies_skip_clauses_statement)]
-pub fn statement(image: &[u8], frame: Frame, depth: usize, at: usize) -> Option<usize>
-    requires { Ready frame image.now }
-    ensures { result ≡ stop (stmt depth) (records_in frame image.now) at }
+pub fn statement(image: &Image<'_>, depth: usize, at: usize) -> Option<usize>
+    ensures { result ≡ stop (stmt depth) (records_of image.now) at }
 {
     if depth == 0 {
         return None;
     }
-    let parts = statement_parts(image, frame, at)?;
-    let bodies = skip_clauses(image, frame, depth - 1, parts.clauses, parts.next)?;
-    skip_bodies(image, frame, depth - 1, parts.bodies, bodies)
+    let parts = statement_parts(image, at)?;
+    let bodies = skip_clauses(image, depth - 1, parts.clauses, parts.next)?;
+    skip_bodies(image, depth - 1, parts.bodies, bodies)
 }
 
 // Past n statements, of depth at most `depth` each.
 #[cycle(skip_bodies_skip_clauses_statement)]
-fn skip_bodies(image: &[u8], frame: Frame, depth: usize, n: usize, at: usize) -> Option<usize>
-    requires { Ready frame image.now × (at ≤ length (records_in frame image.now)) }
-    ensures { result ≡ stop (times n (stmt depth)) (records_in frame image.now) at }
+fn skip_bodies(image: &Image<'_>, depth: usize, n: usize, at: usize) -> Option<usize>
+    requires { at ≤ length (records_of image.now) }
+    ensures { result ≡ stop (times n (stmt depth)) (records_of image.now) at }
 {
     let mut here = at;
     for _ in 0..n {
-        here = statement(image, frame, depth, here)?;
+        here = statement(image, depth, here)?;
     }
     Some(here)
 }
 
 // Past n clauses, with bodies of depth at most `depth` each.
 #[cycle(skip_bodies_skip_clauses_statement)]
-fn skip_clauses(image: &[u8], frame: Frame, depth: usize, n: usize, at: usize) -> Option<usize>
-    requires { Ready frame image.now × (at ≤ length (records_in frame image.now)) }
-    ensures { result ≡ stop (clauses (stmt depth) n) (records_in frame image.now) at }
+fn skip_clauses(image: &Image<'_>, depth: usize, n: usize, at: usize) -> Option<usize>
+    requires { at ≤ length (records_of image.now) }
+    ensures { result ≡ stop (clauses (stmt depth) n) (records_of image.now) at }
 {
     let mut here = at;
     for _ in 0..n {
-        let body = head(image, frame, Kind::CLAUSE, here)?;
-        here = statement(image, frame, depth, body)?;
+        let body = head(image, Kind::Clause, here)?;
+        here = statement(image, depth, body)?;
     }
     Some(here)
 }
 
 // Past n definitions, from the first record on.
-fn skip_definitions(image: &[u8], frame: Frame, n: usize) -> Option<usize>
-    requires { Ready frame image.now }
-    ensures { result ≡ stop (times n one_def) (records_in frame image.now) 0 }
+fn skip_definitions(image: &Image<'_>, n: usize) -> Option<usize>
+    ensures { result ≡ stop (times n one_def) (records_of image.now) 0 }
 {
     let mut here = 0;
     for _ in 0..n {
-        let body = head(image, frame, Kind::DEFINITION, here)?;
-        here = statement(image, frame, Layout::MAX_DEPTH, body)?;
+        let body = head(image, Kind::Definition, here)?;
+        here = statement(image, Layout::MAX_DEPTH, body)?;
     }
     Some(here)
 }
 
 // Question 5: are the records of the image d definitions, and nothing more?
-pub fn shaped(image: &[u8], frame: Frame, defs: usize) -> bool
-    requires { Ready frame image.now }
-    ensures { result ≡ is_some (definitions defs (records_in frame image.now)) }
+pub fn shaped(image: &Image<'_>, defs: usize) -> bool
+    ensures { result ≡ is_some (definitions defs (records_of image.now)) }
 {
-    skip_definitions(image, frame, defs) == Some(frame.count)
+    skip_definitions(image, defs) == Some(image.frame.count)
 }

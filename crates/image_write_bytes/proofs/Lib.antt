@@ -1,3 +1,3 @@
--- Laws of bytes that are moved, and of bytes that are put over others.
-pub mod Moving
+-- Laws of bytes that are copied, and of bytes that are put over others.
+pub mod Copying
 pub mod Covering

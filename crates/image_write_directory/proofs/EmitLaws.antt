@@ -1,5 +1,5 @@
 -- Laws of records that are written: none, one, some after others, and some at a place that was kept free for them. Assumes nothing.
-use Prim.Native.Nat.{ℕ, ◌+◌, ◌-◌, ◌≤◌}
+use Prim.Native.Nat.{ℕ, ◌+◌, ◌-◌}
 use mathlib.Core.Path.{◌≡◌, refl, sym, ap, ◌∙◌, subst}
 use mathlib.Core.List.{List, [], ◌∷◌, ◌++◌, append-nil}
 use native.Mathlib.Omega.{arith}
@@ -10,7 +10,7 @@ use Rattle.image_spec.specs.Image.{entries_of}
 use Rattle.image_spec.specs.declared.Layout.{Layout}
 use Rattle.image_spec.proofs.ListLaws.{each_append}
 use Rattle.image_write_parts.specs.Puts.{Puts}
-use Rattle.image_write_parts.proofs.Putting.{set_past, puts_none, puts_as, puts_then, puts_reserved}
+use Rattle.image_write_parts.proofs.Putting.{puts_none, puts_as, puts_then, puts_reserved}
 use Rattle.image_write_directory.specs.Emitting.{sizes_of, Emits, Noted, entries_from}
 use Rattle.image_write_directory.specs.declared.progress.Progress.{Progress}
 
@@ -53,7 +53,3 @@ emits_reserved {w} {a} {b} {c} {d} {e} {f} {p} {free} {q} {r} {R} {S} x y s t = 
 pub entries_sizes : (L : Layout) (at : ℕ) (R : List Record) → entries_of L at R ≡ entries_from at (sizes_of L.id R)
 entries_sizes L at [] = refl
 entries_sizes L at (r ∷ R) = ap (λ z. (at, length (record_bytes L.id r)) ∷ z) (entries_sizes L (at + length (record_bytes L.id r)) R)
-
--- a length that is left out past the end
-pub noted-past : (l : List ℕ) (i x : ℕ) → length l ≤ i → Puts l l i (i + 1) (x ∷ [])
-noted-past l i x h = record { holds = sym (set_past l i x h); ends = refl }

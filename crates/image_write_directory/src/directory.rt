@@ -46,13 +46,10 @@ pub fn put_directory(
 {
     let mut place = start;
     let mut here = at;
-    let mut i = 0;
-    while i < n {
-        let size = lengths[i];
-        let next = put_number(out, here, w, narrow(place));
-        here = put_number(out, next, w, narrow(size));
-        place = place + size;
-        i += 1;
+    for &size in &lengths[..n] {
+        let next = put_number(out, here, w, place as u32);
+        here = put_number(out, next, w, size as u32);
+        place += size;
     }
     here
 }

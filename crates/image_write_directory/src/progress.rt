@@ -16,20 +16,13 @@ pub fn note(lengths: &mut [usize], so_far: Progress, next: usize) -> Progress
     ensures { Noted result so_far next lengths.old lengths.new }
 {
     let count = so_far.count;
-    let max_id = so_far.max_id;
     let length = next - so_far.at;
-    let next_count = count + 1;
     if count < lengths.len() {
         lengths[count] = length;
-        return Progress {
-            at: next,
-            count: next_count,
-            max_id,
-        };
     }
     Progress {
         at: next,
-        count: next_count,
-        max_id,
+        count: count + 1,
+        max_id: so_far.max_id,
     }
 }

@@ -1,5 +1,5 @@
 // Lists of bindings, and the parts of a Substitute.
-ghost use Rattle.std.specs.Prelude.{◌≡◌, [], ◌∷◌, ◌+◌, ◌≤◌, ◌<◌, ◌^◌};
+ghost use Rattle.std.specs.Prelude.{[], ◌∷◌, ◌+◌, ◌≤◌, ◌<◌, ◌^◌};
 ghost use Rattle.syntax.specs.Arrays.{context_of};
 ghost use Rattle.image_spec.specs.Fields.{list_bytes, pair_bytes};
 ghost use Rattle.image_write_parts.specs.Puts.{Puts};
@@ -10,26 +10,15 @@ use image_write_parts::{put_binding, put_byte, put_identifier};
 use syntax::context::TypingContext;
 use syntax_substitution::FlatPair;
 
-// The count of a list or of pairs.
-fn count_byte(n: usize) -> u8
-    requires { n ≤ 128 }
-    ensures { result ≡ n }
-{
-    n as u8
-}
-
 // A list: its count, then its bindings.
 pub fn put_list(out: &mut [u8], at: usize, w: usize, context: TypingContext) -> usize
     requires { (at + 2048 < 2 ^ 64) × ((w ≤ 8) × (context.len ≤ 64)) }
     ensures { Puts out.old out.new at result (list_bytes w (context_of context)) }
 {
     let n = context.len;
-    let mut here = put_byte(out, at, count_byte(n));
-    let mut i = 0;
-    while i < n {
-        let b = context.bindings[i];
+    let mut here = put_byte(out, at, n as u8);
+    for b in &context.bindings[..n] {
         here = put_binding(out, here, w, b.binding());
-        i += 1;
     }
     here
 }
@@ -39,8 +28,8 @@ pub fn put_substitute(out: &mut [u8], at: usize, n: usize) -> usize
     requires { (at + 2 < 2 ^ 64) × (n ≤ 128) }
     ensures { Puts out.old out.new at result (2 ∷ (n ∷ [])) }
 {
-    let next = put_byte(out, at, Kind::SUBSTITUTE);
-    put_byte(out, next, count_byte(n))
+    let next = put_byte(out, at, Kind::Substitute as u8);
+    put_byte(out, next, n as u8)
 }
 
 // A pair: a binding and an identifier.

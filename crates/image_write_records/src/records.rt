@@ -7,6 +7,7 @@ ghost use Rattle.image_spec.specs.Parse.{mark};
 ghost use Rattle.image_spec.specs.Fields.{identifier_bytes, type_bytes, list_bytes};
 ghost use Rattle.image_spec.specs.Records.{call, let', switch, create, invoke, literal, op, ifc, print, exit, record_bytes};
 ghost use Rattle.image_write_parts.specs.Puts.{Puts};
+ghost use Rattle.image_kinds.specs.Codes.{code_of};
 
 use crate::lists::put_list;
 use image_kinds::kinds::Kind;
@@ -18,18 +19,18 @@ use syntax::op::BinOp;
 use syntax::types::Ty;
 
 // A kind and an identifier.
-fn put_named(out: &mut [u8], at: usize, w: usize, kind: u8, x: Identifier) -> usize
+fn put_named(out: &mut [u8], at: usize, w: usize, kind: Kind, x: Identifier) -> usize
     requires { (at + (3 + w) < 2 ^ 64) × (w ≤ 8) }
-    ensures { Puts out.old out.new at result (kind ∷ identifier_bytes w x) }
+    ensures { Puts out.old out.new at result (code_of kind ∷ identifier_bytes w x) }
 {
-    let next = put_byte(out, at, kind);
+    let next = put_byte(out, at, kind as u8);
     put_identifier(out, next, w, x)
 }
 
 // A kind, a var and its type.
-fn put_typed(out: &mut [u8], at: usize, w: usize, kind: u8, var: Identifier, ty: Ty) -> usize
+fn put_typed(out: &mut [u8], at: usize, w: usize, kind: Kind, var: Identifier, ty: Ty) -> usize
     requires { (at + (6 + (w + w)) < 2 ^ 64) × (w ≤ 8) }
-    ensures { Puts out.old out.new at result (kind ∷ (identifier_bytes w var ++ type_bytes w ty)) }
+    ensures { Puts out.old out.new at result (code_of kind ∷ (identifier_bytes w var ++ type_bytes w ty)) }
 {
     let next = put_named(out, at, w, kind, var);
     put_type(out, next, w, ty)
@@ -40,12 +41,12 @@ pub fn put_headed(
     out: &mut [u8],
     at: usize,
     w: usize,
-    kind: u8,
+    kind: Kind,
     x: Identifier,
     context: TypingContext,
 ) -> usize
     requires { (at + 8192 < 2 ^ 64) × ((w ≤ 8) × (context.len ≤ 64)) }
-    ensures { Puts out.old out.new at result (kind ∷ (identifier_bytes w x ++ list_bytes w (context_of context))) }
+    ensures { Puts out.old out.new at result (code_of kind ∷ (identifier_bytes w x ++ list_bytes w (context_of context))) }
 {
     let next = put_named(out, at, w, kind, x);
     put_list(out, next, w, context)
@@ -55,7 +56,7 @@ pub fn put_call(out: &mut [u8], at: usize, w: usize, label: Identifier) -> usize
     requires { (at + 8192 < 2 ^ 64) × (w ≤ 8) }
     ensures { Puts out.old out.new at result (record_bytes w (call label [])) }
 {
-    let next = put_named(out, at, w, Kind::CALL, label);
+    let next = put_named(out, at, w, Kind::Call, label);
     put_byte(out, next, 0)
 }
 
@@ -71,7 +72,7 @@ pub fn put_let(
     requires { (at + 8192 < 2 ^ 64) × ((w ≤ 8) × (args.len ≤ 64)) }
     ensures { Puts out.old out.new at result (record_bytes w (let' var ty tag (context_of args))) }
 {
-    let next = put_typed(out, at, w, Kind::LET, var, ty);
+    let next = put_typed(out, at, w, Kind::Let, var, ty);
     let after = put_identifier(out, next, w, tag);
     put_list(out, after, w, args)
 }
@@ -87,7 +88,7 @@ pub fn put_switch(
     requires { (at + 8192 < 2 ^ 64) × (w ≤ 8) }
     ensures { Puts out.old out.new at result (record_bytes w (switch var ty clauses)) }
 {
-    let next = put_typed(out, at, w, Kind::SWITCH, var, ty);
+    let next = put_typed(out, at, w, Kind::Switch, var, ty);
     put_byte(out, next, clauses)
 }
 
@@ -103,7 +104,7 @@ pub fn put_create(
     requires { (at + 8192 < 2 ^ 64) × ((w ≤ 8) × (environment.len ≤ 64)) }
     ensures { Puts out.old out.new at result (record_bytes w (create var ty (some (context_of environment)) clauses)) }
 {
-    let next = put_typed(out, at, w, Kind::CREATE, var, ty);
+    let next = put_typed(out, at, w, Kind::Create, var, ty);
     let after = put_byte(out, next, 1);
     let last = put_list(out, after, w, environment);
     put_byte(out, last, clauses)
@@ -120,7 +121,7 @@ pub fn put_invoke(
     requires { (at + 8192 < 2 ^ 64) × (w ≤ 8) }
     ensures { Puts out.old out.new at result (record_bytes w (invoke var tag ty [])) }
 {
-    let next = put_named(out, at, w, Kind::INVOKE, var);
+    let next = put_named(out, at, w, Kind::Invoke, var);
     let after = put_identifier(out, next, w, tag);
     let last = put_type(out, after, w, ty);
     put_byte(out, last, 0)
@@ -130,7 +131,7 @@ pub fn put_literal(out: &mut [u8], at: usize, w: usize, lit: i64, var: Identifie
     requires { (at + 8192 < 2 ^ 64) × (w ≤ 8) }
     ensures { Puts out.old out.new at result (record_bytes w (literal lit var)) }
 {
-    let next = put_byte(out, at, Kind::LITERAL);
+    let next = put_byte(out, at, Kind::Literal as u8);
     let after = put_integer(out, next, lit);
     put_identifier(out, after, w, var)
 }
@@ -147,7 +148,7 @@ pub fn put_op(
     requires { (at + 8192 < 2 ^ 64) × (w ≤ 8) }
     ensures { Puts out.old out.new at result (record_bytes w (op fst operator snd var)) }
 {
-    let next = put_named(out, at, w, Kind::OP, fst);
+    let next = put_named(out, at, w, Kind::Op, fst);
     let after = put_byte(out, next, operator as u8);
     let last = put_identifier(out, after, w, snd);
     put_identifier(out, last, w, var)
@@ -160,7 +161,10 @@ fn put_marked(out: &mut [u8], at: usize, w: usize, x: Option<Identifier>) -> usi
 {
     match x {
         None => put_byte(out, at, 0),
-        Some(x) => put_named(out, at, w, 1, x),
+        Some(x) => {
+            let next = put_byte(out, at, 1);
+            put_identifier(out, next, w, x)
+        }
     }
 }
 
@@ -175,7 +179,7 @@ pub fn put_ifc(
     requires { (at + 8192 < 2 ^ 64) × (w ≤ 8) }
     ensures { Puts out.old out.new at result (record_bytes w (ifc sort fst (option_of snd))) }
 {
-    let next = put_byte(out, at, Kind::IFC);
+    let next = put_byte(out, at, Kind::IfC as u8);
     let after = put_byte(out, next, sort as u8);
     let last = put_identifier(out, after, w, fst);
     put_marked(out, last, w, snd)
@@ -185,7 +189,7 @@ pub fn put_print(out: &mut [u8], at: usize, w: usize, newline: bool, var: Identi
     requires { (at + 8192 < 2 ^ 64) × (w ≤ 8) }
     ensures { Puts out.old out.new at result (record_bytes w (print newline var)) }
 {
-    let next = put_byte(out, at, Kind::PRINT);
+    let next = put_byte(out, at, Kind::Print as u8);
     let after = put_byte(out, next, newline_code(newline));
     put_identifier(out, after, w, var)
 }
@@ -194,5 +198,5 @@ pub fn put_exit(out: &mut [u8], at: usize, w: usize, var: Identifier) -> usize
     requires { (at + 8192 < 2 ^ 64) × (w ≤ 8) }
     ensures { Puts out.old out.new at result (record_bytes w (exit var)) }
 {
-    put_named(out, at, w, Kind::EXIT, var)
+    put_named(out, at, w, Kind::Exit, var)
 }

@@ -101,10 +101,7 @@ pub fn arrange_one(
 fn place(behind: bool, n: usize) -> usize
     ensures { result ≡ cond behind n 0 }
 {
-    if behind {
-        return n;
-    }
-    0
+    if behind { n } else { 0 }
 }
 
 // The targets before what is kept, or behind it. The pairs are built and then written in one function: given to another they would be copied.
@@ -134,27 +131,20 @@ pub fn arrange(
         pairs: [none; Substitution::MAX],
         len: n,
     };
-    let mut i = 0;
-    while i < n {
-        if (i < front) == targets_first {
+    for i in 0..n {
+        all.pairs[i] = if (i < front) == targets_first {
             let at = i - targets_at;
             let target = targets.bindings[at];
             let b = wanted.bindings[at];
-            all.pairs[i] = FlatPair::of(target, b);
-            i += 1;
+            FlatPair::of(target, b)
         } else {
-            let e = kept.entries[i - kept_at];
-            let b = e.flat_binding();
-            all.pairs[i] = FlatPair::of(b, b);
-            i += 1;
-        }
+            let b = kept.entries[i - kept_at].flat_binding();
+            FlatPair::of(b, b)
+        };
     }
     let mut here = put_substitute(out, so_far.at, n);
-    let mut j = 0;
-    while j < n {
-        let pair = all.pairs[j];
-        here = put_pair(out, here, w, pair);
-        j += 1;
+    for j in 0..n {
+        here = put_pair(out, here, w, all.pairs[j]);
     }
     note(lengths, so_far, here)
 }

@@ -1,16 +1,12 @@
--- One entry stored behind the others; the loops that store entries, from the first place on and behind the others. For callers: from what the
--- struct holds to the list, and the room that question 7 gives. Assumes nothing.
-use mathlib.Core.Path.{◌≡◌, subst}
-use mathlib.Core.List.{List, [], ◌∷◌, ◌++◌}
+-- One entry stored behind the others; the loops that store entries, from the first place on and behind the others. Assumes nothing.
+use mathlib.Core.Path.{◌≡◌}
+use mathlib.Core.List.{[], ◌∷◌, ◌++◌}
 use Prim.Native.Nat.{ℕ, ◌+◌, ◌≤◌, ◌<◌}
-use native.Mathlib.Omega.{arith}
 use lib.ListN.{length, set}
-use Rattle.syntax.specs.declared.names.VarId.{VarId}
 use Rattle.syntax.proofs.Lists.{stored-count}
 use Rattle.syntax.proofs.Flats.{seen_stored}
 use Rattle.pass_work_spec.specs.declared.Entry.{Entry}
 use Rattle.pass_work_spec.specs.Work.{Work}
-use Rattle.pass_work_spec.specs.Placed.{Fits}
 use Rattle.pass_entries.specs.Entries.{entry_in}
 use Rattle.pass_context.specs.Holding.{entries_in, work_of, HoldsWork}
 use Rattle.pass_context.specs.declared.Held.{Held}
@@ -36,13 +32,3 @@ pub record Appending (whole : Work) (start count : ℕ) (out₀ out : Held) (at 
 
 pub stored-all : {whole l₀ : Work} {i : ℕ} {h : Held} → h.len ≡ length whole → h.len ≤ i → Built whole l₀ (entries_in h) 64 i → HoldsWork h whole
 stored-all q k s = record { count = q; list = built-done _ q k s }
-
--- ── for callers ──
-
--- what a contract says of the entries held, it says of the list that they are
-pub of-held : {h : Held} {W : Work} (P : Work → Type 0) → HoldsWork h W → P (work_of h) → P W
-of-held P k x = subst P k.list x
-
--- with n variables in scope there are at most n entries. (`Fits` has n ≤ 64.)
-pub held-room : {h : Held} {Δ : List VarId} {W : Work} {n : ℕ} → HoldsWork h W → Fits Δ W n → h.len ≤ n
-held-room k f = omega (arith, k.count, f.placed.fits, f.count)

@@ -7,7 +7,7 @@ use Prim.Native.Nat.{ℕ, ◌+◌, ◌-◌, ◌≤◌, ◌<◌}
 use native.Mathlib.Omega.{arith}
 use native.Mathlib.Nat.{add-zero}
 use lib.ListN.{length, take, drop, get_or, set, length-set, length-append, length-map, get_or-map, get_or-append}
-use lib.Seq.{take_at, take-length, drop-drop, drop-set-lt, get_or-drop, get_or-take, get_or-append-add, set-get_or, length-take-le}
+use lib.Seq.{take_at, take-length, drop-drop, drop-set-lt, get_or-drop, get_or-take, get_or-append-add, length-take-le}
 use Rattle.syntax.proofs.Lists.{take_next, take-stored}
 use Rattle.syntax.proofs.Flats.{seen-set}
 
@@ -45,10 +45,6 @@ module _ {A : Type 0} where
     front = rw (take-stored l i a (omega (arith, s.size, s.within)), s.front, e, take_next whole i d h);
     left = drop-set-lt (i + 1) l i a (omega arith) ∙ sym (drop-drop 1 i l) ∙ ap (drop 1) s.left ∙ drop-drop 1 i l₀;
   }
-
-  -- the one at i stands there already
-  pub built-stays : {whole l₀ l : List A} {room i : ℕ} (d e : A) → i < length whole → get_or l i e ≡ get_or whole i d → Built whole l₀ l room i → Built whole l₀ l room (i + 1)
-  built-stays {whole} {l₀} {l} {room} {i} d e h q s = subst (λ (k : List A). Built whole l₀ k room (i + 1)) (set-get_or l i e) (built-next d (get_or l i e) h q s)
 
   -- the loop has ended
   pub built-done : {whole l₀ l : List A} {room i : ℕ} (n : ℕ) → n ≡ length whole → n ≤ i → Built whole l₀ l room i → take n l ≡ whole

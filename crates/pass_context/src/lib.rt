@@ -86,6 +86,7 @@ impl Held {
         let mut out = self;
         let mut n = self.len;
         let mut i = 0;
+        // no range: the end falls with each entry that goes, and the index stays
         while i < n {
             let e = out.entries[i];
             if bit(mask, e.place) {

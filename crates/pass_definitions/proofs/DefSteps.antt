@@ -12,7 +12,7 @@ use Rattle.model.specs.FreeVars.{free_vars}
 use Rattle.image_spec.specs.Records.{Record, definition}
 use Rattle.image_spec.specs.Kinds.{kind_of}
 use Rattle.image_spec.specs.Shape.{flatten, flatten_defs}
-use Rattle.image_directory.specs.Slots.{records_in}
+use Rattle.image_directory.specs.Slots.{Ready, records_in}
 use Rattle.image_directory.specs.declared.Frame.{Frame}
 use Rattle.image_directory.proofs.Places.{records-length}
 use Rattle.image_write_directory.specs.Emitting.{Emits}
@@ -97,8 +97,8 @@ module _ {g : Frame} {s rows : List ℕ} {i : ℕ} {p : Progress} (h : DefsAhead
   pub def-inside : i + 1 ≤ length (records_in g s)
   def-inside = omega (arith, head-within (records_in g s) i (definition one.name one.context) parts.head)
 
-  pub def-source : SourceAt g s i 1
-  def-source = source-at h.sources (record { ready = h.sources.ready; inside = omega (arith, def-inside, records-length g s h.sources.ready); kind = ap kind_of is_definition })
+  pub def-source : Ready g s → SourceAt g s i 1
+  def-source ready = source-at ready h.sources (record { inside = omega (arith, def-inside, records-length g s ready); kind = ap kind_of is_definition })
 
   pub def-room : RoomAt p
   def-room = room-here h.room (defs_rise (one ∷ []) m)

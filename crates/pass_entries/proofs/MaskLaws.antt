@@ -5,14 +5,14 @@ use mathlib.Core.Logic.{◌⊎◌, inl, inr}
 use mathlib.Core.Bool.{Bool, true, false, ◌&&◌, ◌||◌, cond, and-true, and-false, or-true, or-false}
 use mathlib.Core.List.Memᴰ
 use mathlib.Core.List.{List, [], ◌∷◌}
-use Prim.Native.Nat.{ℕ, zero, suc, ◌+◌, ◌*◌, ◌/◌, ◌%◌, ◌^◌, ◌≤◌, ◌<◌}
-use native.Mathlib.Nat.{lt_of_lt_of_le, div-eq_of_lt, div-one, one-mul, pow-suc, mul-mod_left, mul-div_cancel}
+use Prim.Native.Nat.{ℕ, zero, suc, ◌+◌, ◌/◌, ◌%◌, ◌^◌, ◌≤◌, ◌<◌}
+use native.Mathlib.Nat.{lt_of_lt_of_le, div-eq_of_lt, div-one, pow-suc, mul-mod_left, mul-div_cancel}
 use native.Mathlib.Omega.{arith}
-use borrow.Author.Tests.{lt-ltb, le-ltb, eq-eqb, eqb-true}
+use borrow.Author.Tests.{lt-ltb, eq-eqb, eqb-true}
 use lib.Bits.{bit_or, or_shr, or_mod}
 use lib.Dec.{eqb, eqb-zero-suc, eqb-suc-zero, eqb-suc-suc}
 use lib.ListN.{length, get_or}
-use lib.Pow.{pow_mono, shl_exact, shr-shr}
+use lib.Pow.{pow_mono, shr-shr}
 use Rattle.syntax.specs.Names.{same_var_id}
 use Rattle.syntax.specs.Sets.{elem}
 use Rattle.syntax.specs.declared.names.VarId.{VarId}
@@ -35,13 +35,6 @@ pub mask_fewer : (mask : ℕ) (W : Work) → length (kept_by_mask mask W) ≤ le
 mask_fewer mask W = filtered-fewer (in_mask mask) W
 
 -- ── one bit more ──
-
--- the bit of place p, as a shift gives it, is set
-pub bit-set : (mask p : ℕ) → p < 64 → bit_or mask ((1 * 2 ^ p) % 2 ^ 64) ≡ with_bit_lem mask p
-bit-set mask p h = rw (lt-ltb p 64 h) (ap (bit_or mask) (shl_exact {a = 1} 1 p 64 (omega arith) (omega arith) ∙ one-mul (2 ^ p)))
-
-pub bit_past : (mask p : ℕ) → 64 ≤ p → mask ≡ with_bit_lem mask p
-bit_past mask p h = rw (le-ltb p 64 h) refl
 
 -- alone it is set at its place and nowhere else
 one-marked : (p q : ℕ) → marked (2 ^ p) q ≡ eqb q p

@@ -28,23 +28,15 @@ pub fn flat(e: Entry) -> FlatEntry
     ensures { entry_in result ≡ e }
 {
     let b = e.binding.flat();
-    let id = b.id;
-    let source = e.source;
-    let ty_id = b.ty_id;
-    let name = b.name;
-    let ty_name = b.ty_name;
-    let chi = b.chi;
-    let declared = b.declared;
-    let place = e.place;
     FlatEntry {
-        id,
-        source,
-        ty_id,
-        name,
-        ty_name,
-        chi,
-        declared,
-        place,
+        id: b.id,
+        source: e.source,
+        ty_id: b.ty_id,
+        name: b.name,
+        ty_name: b.ty_name,
+        chi: b.chi,
+        declared: b.declared,
+        place: e.place,
         spelled: e.spelled,
     }
 }
@@ -53,19 +45,13 @@ impl FlatEntry {
     pub fn flat_binding(self) -> FlatBinding
         ensures { result ≡ flat_of self }
     {
-        let id = self.id;
-        let ty_id = self.ty_id;
-        let name = self.name;
-        let ty_name = self.ty_name;
-        let chi = self.chi;
-        let declared = self.declared;
         FlatBinding {
-            id,
-            ty_id,
-            name,
-            ty_name,
-            chi,
-            declared,
+            id: self.id,
+            ty_id: self.ty_id,
+            name: self.name,
+            ty_name: self.ty_name,
+            chi: self.chi,
+            declared: self.declared,
             unused: 0,
         }
     }
@@ -73,13 +59,10 @@ impl FlatEntry {
     pub fn entry(self) -> Entry
         ensures { result ≡ entry_in self }
     {
-        let binding = self.flat_binding().binding();
-        let source = self.source;
-        let place = self.place;
         Entry {
-            binding,
-            source,
-            place,
+            binding: self.flat_binding().binding(),
+            source: self.source,
+            place: self.place,
             spelled: self.spelled,
         }
     }
@@ -89,27 +72,26 @@ impl FlatEntry {
 pub fn spelled(e: Entry, x: Identifier) -> Identifier
     ensures { result ≡ spelling (some e) x }
 {
-    let b = e.binding;
-    if e.spelled { b.var } else { x }
+    if e.spelled { e.binding.var } else { x }
 }
 
 pub fn used_binding(e: Entry, b: ContextBinding) -> ContextBinding
     ensures { result ≡ rebound b (spelling (some e) b.var) }
 {
-    let var = spelled(e, b.var);
-    let chi = b.chi;
-    let ty = b.ty;
-    ContextBinding { var, chi, ty }
+    ContextBinding {
+        var: spelled(e, b.var),
+        chi: b.chi,
+        ty: b.ty,
+    }
 }
 
 // A binder at the n-th place in scope stands for itself.
 pub fn owned(n: u8, b: ContextBinding) -> Entry
     ensures { result ≡ own n b }
 {
-    let source = b.var.id;
     Entry {
         binding: b,
-        source,
+        source: b.var.id,
         place: n,
         spelled: false,
     }
@@ -119,12 +101,10 @@ pub fn owned(n: u8, b: ContextBinding) -> Entry
 pub fn respell(e: Entry, b: ContextBinding) -> Entry
     ensures { result ≡ respell e b }
 {
-    let source = e.source;
-    let place = e.place;
     Entry {
         binding: b,
-        source,
-        place,
+        source: e.source,
+        place: e.place,
         spelled: true,
     }
 }

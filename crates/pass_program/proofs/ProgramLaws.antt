@@ -27,7 +27,7 @@ use Rattle.image_spec.specs.Records.{record_bytes}
 use Rattle.image_spec.specs.Shape.{flatten, flatten_defs}
 use Rattle.image_spec.specs.Reading.{accept, if_yes, answer_of}
 use Rattle.image_spec.proofs.FlatLengths.{flatten_defs-length}
-use Rattle.image_directory.specs.Slots.{records_in}
+use Rattle.image_directory.specs.Slots.{Ready, records_in}
 use Rattle.image_directory.specs.declared.Frame.{Frame}
 use Rattle.image_directory.proofs.Places.{records-length}
 use Rattle.image_write_directory.specs.Emitting.{Emits}
@@ -83,7 +83,7 @@ stored l xs h = record { rest = drop (0 + length xs) l; split = sets-eq xs l 0 (
 
 -- ── a checked image ──
 
-module _ {L : Layout} {g : Frame} {s : List ℕ} {d m : ℕ} (c : Checked L g s d m) where
+module _ {L : Layout} {g : Frame} {s : List ℕ} {d m : ℕ} (ready : Ready g s) (c : Checked L g s d m) where
   abbrev P : Prog
   P = program_in d (records_in g s) m
 
@@ -94,20 +94,19 @@ module _ {L : Layout} {g : Frame} {s : List ℕ} {d m : ℕ} (c : Checked L g s 
   passed = record { six = c.six; seven = c.seven; eight = c.eight }
 
   count : length (flatten_defs P.defs) ≡ g.count
-  count = ap length (sym c.read.defined.is) ∙ records-length g s c.read.ready
+  count = ap length (sym c.read.defined.is) ∙ records-length g s ready
 
   pub few : g.count ≤ 2000
   few = omega (arith, leb_says (records_defs P.defs) 2000 (both_true (leb (records_defs P.defs) 2000) _ c.seven).0, flatten_defs-length P.defs, count)
 
   sources : Sources g s
   sources = record {
-    ready = c.read.ready;
     small = passed-small c.read.defined passed;
     plain = passed-plain c.read.defined passed;
   }
 
   bytes : length (each (record_bytes g.id) (flatten_defs R.0)) ≤ 8192 * 2000
-  bytes = omega (arith, defs-bytes g.id (omega (arith, c.read.ready.id.1)) P c.six c.seven, count, few)
+  bytes = omega (arith, defs-bytes g.id (omega (arith, ready.id.1)) P c.six c.seven, count, few)
 
   records : length (flatten_defs R.0) ≤ 2 * g.count
   records = omega (arith, defs-fewer P c.six, count)
@@ -203,7 +202,6 @@ opened-read {L} k h o = record {
   known = k;
   id = ap (λ (f : Frame). f.id) o.frame;
   start = ap (λ (f : Frame). f.start) o.frame ∙ sym (ap (λ (f : Frame). body_at L f.count) o.frame);
-  ready = o.ready;
   defined = opened-defined o;
   narrow = omega (arith, o.max_id, two_bytes L.id h, o.ok.max_id_fits);
 }

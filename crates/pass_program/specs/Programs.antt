@@ -3,7 +3,7 @@ use Rattle.std.specs.Prelude.{ℕ, ◌<◌, ◌≡◌, true, List}
 use Rattle.model.specs.Questions.{question6, question7, question8, question9, question10}
 use Rattle.image_spec.specs.declared.Layout.{Layout}
 use Rattle.image_spec.specs.Layout.{body_at}
-use Rattle.image_directory.specs.Slots.{Ready, records_in}
+use Rattle.image_directory.specs.Slots.{records_in}
 use Rattle.image_directory.specs.declared.Frame.{Frame}
 use Rattle.image_open.specs.Opening.{Known}
 use Rattle.scope_check.specs.Definitions.{Defined}
@@ -14,7 +14,6 @@ pub record Read (L : Layout) (g : Frame) (s : List ℕ) (d m : ℕ) : Type 0 whe
   pub known : Known L
   pub id : g.id ≡ L.id
   pub start : g.start ≡ body_at L g.count
-  pub ready : Ready g s
   pub defined : Defined d (records_in g s)
   pub narrow : m < 65536
 

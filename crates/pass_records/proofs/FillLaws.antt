@@ -10,7 +10,7 @@ use Rattle.syntax.specs.declared.context.ContextBinding.{ContextBinding}
 use Rattle.syntax.specs.declared.context.TypingContext.{TypingContext}
 use Rattle.syntax.proofs.Lists.{take-stored}
 use Rattle.image_spec.specs.Parse.{Parser, got, each}
-use Rattle.image_spec.specs.Fields.{binding_bytes, BindingOk, list}
+use Rattle.image_spec.specs.Fields.{binding_bytes, BindingOk}
 use Rattle.image_spec.proofs.ParseLaws.{Exact}
 use Rattle.image_spec.proofs.FieldLaws.{list_exact}
 use Rattle.image_read_parts.specs.Standing.{Stands, ReadsAs}

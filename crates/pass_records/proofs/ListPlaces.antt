@@ -15,7 +15,8 @@ use Rattle.syntax.specs.declared.types.Ty.{Ty}
 use Rattle.syntax.specs.declared.context.TypingContext.{TypingContext}
 use Rattle.image_spec.specs.Fields.{identifier_bytes, type_bytes, list_bytes, IdentifierOk, TypeOk, ListOk}
 use Rattle.image_spec.specs.Records.{Record, let', invoke, record_bytes, RecordOk}
-use Rattle.image_spec.specs.Kinds.{kind_of, fixed}
+use Rattle.image_spec.specs.Kinds.{kind_of, fixed, tail_bytes}
+use Rattle.image_directory.specs.Slots.{Ready}
 use Rattle.image_directory.specs.declared.Frame.{Frame}
 use Rattle.scope_spec.specs.Flat.{small_record_lem}
 use Rattle.image_read_parts.specs.Standing.{Stands}
@@ -37,72 +38,46 @@ list_at {Γ = Γ} n h e = record { width = n; list = Γ; stands = h; small = ome
 pub unpacked : {r m : Record} {c : TypingContext} {Γ : Context} → Holds c Γ → r ≡ m → Unpacked r m c
 unpacked h e = record { is = e; count = h.count ∙ ap length (sym h.list) }
 
--- ── Let and Invoke ──
+-- ── Let and Invoke: a var, a type and a tag, each at its place, and a list ──
 
 module _ (w : ℕ) (s : List ℕ) (o : ℕ) (r : Record) where
-  pub record LetThere : Type 0 where
+  pub record TaggedThere (make : Identifier → Ty → Identifier → Context → Record) (ty-place tag-place : ℕ) : Type 0 where
     pub var : Identifier
     pub ty : Ty
     pub tag : Identifier
     pub args : Context
-    pub is : r ≡ let' var ty tag args
+    pub is : r ≡ make var ty tag args
     pub var-at : Stands (identifier_bytes w) (IdentifierOk w) s (o + 1) var
-    pub ty_at : Stands (type_bytes w) (TypeOk w) s (o + (3 + w)) ty
-    pub tag_at : Stands (identifier_bytes w) (IdentifierOk w) s (o + (6 + (w + w))) tag
+    pub ty_at : Stands (type_bytes w) (TypeOk w) s (o + ty-place) ty
+    pub tag_at : Stands (identifier_bytes w) (IdentifierOk w) s (o + tag-place) tag
     pub args_at : Stands (list_bytes w) (ListOk w) s (o + (8 + (w + (w + w)))) args
     pub inside : o + (8 + (w + (w + w))) < length s
 
-  pub let_there : kind_of r ≡ 4 → Stands (record_bytes w) (RecordOk w) s o r → LetThere
+  tagged : (make : Identifier → Ty → Identifier → Context → Record) (ty-place tag-place : ℕ) (v : Identifier) (t : Ty) (g : Identifier) (Γ : Context) → r ≡ make v t g Γ
+      → Stands (record_bytes w) (RecordOk w) s o (make v t g Γ) → tail_bytes w (make v t g Γ) ≡ list_bytes w Γ → ListOk w Γ → fixed w (kind_of (make v t g Γ)) ≡ 8 + (w + (w + w))
+      → Stands (identifier_bytes w) (IdentifierOk w) (record_bytes w (make v t g Γ)) 1 v → Stands (type_bytes w) (TypeOk w) (record_bytes w (make v t g Γ)) ty-place t
+      → Stands (identifier_bytes w) (IdentifierOk w) (record_bytes w (make v t g Γ)) tag-place g → TaggedThere make ty-place tag-place
+  tagged make ty-place tag-place v t g Γ e st tail ok front x y z =
+      let l = tail_in (list_bytes w) (ListOk w) Γ w (8 + (w + (w + w))) (make v t g Γ) tail ok front st in
+      record { var = v; ty = t; tag = g; args = Γ; is = e; var-at = identifier_in w st x; ty_at = type_in w st y; tag_at = identifier_in w st z; args_at = l; inside = (list-run w l).inside }
+
+  pub let_there : kind_of r ≡ 4 → Stands (record_bytes w) (RecordOk w) s o r → TaggedThere let' (3 + w) (6 + (w + w))
   let_there k h = go (first_of r) (parts_of r).ty (parts_of r).tag (list_of r) (made_of r 4 k)
     where
-      go : (v : Identifier) (t : Ty) (g : Identifier) (Γ : Context) → r ≡ let' v t g Γ → LetThere
+      go : (v : Identifier) (t : Ty) (g : Identifier) (Γ : Context) → r ≡ let' v t g Γ → TaggedThere let' (3 + w) (6 + (w + w))
       go v t g Γ e =
           let st : Stands (record_bytes w) (RecordOk w) s o (let' v t g Γ) = subst (Stands (record_bytes w) (RecordOk w) s o) e h in
-          let l = tail_in (list_bytes w) (ListOk w) Γ w (8 + (w + (w + w))) (let' v t g Γ) refl (list-ok w (let' v t g Γ) st.fits tt) (omega arith) st in
-          record {
-            var = v;
-            ty = t;
-            tag = g;
-            args = Γ;
-            is = e;
-            var-at = identifier_in w st (let_var w v t g Γ st.fits);
-            ty_at = type_in w st (let_ty w v t g Γ st.fits);
-            tag_at = identifier_in w st (let_tag w v t g Γ st.fits);
-            args_at = l;
-            inside = (list-run w l).inside;
-          }
+          tagged let' (3 + w) (6 + (w + w)) v t g Γ e st refl (list-ok w (let' v t g Γ) st.fits tt) (omega arith)
+          (let_var w v t g Γ st.fits) (let_ty w v t g Γ st.fits) (let_tag w v t g Γ st.fits)
 
-  pub record InvokeThere : Type 0 where
-    pub var : Identifier
-    pub tag : Identifier
-    pub ty : Ty
-    pub args : Context
-    pub is : r ≡ invoke var tag ty args
-    pub var-at : Stands (identifier_bytes w) (IdentifierOk w) s (o + 1) var
-    pub tag_at : Stands (identifier_bytes w) (IdentifierOk w) s (o + (3 + w)) tag
-    pub ty_at : Stands (type_bytes w) (TypeOk w) s (o + (5 + (w + w))) ty
-    pub args_at : Stands (list_bytes w) (ListOk w) s (o + (8 + (w + (w + w)))) args
-    pub inside : o + (8 + (w + (w + w))) < length s
-
-  pub invoke-there : kind_of r ≡ 7 → Stands (record_bytes w) (RecordOk w) s o r → InvokeThere
+  pub invoke-there : kind_of r ≡ 7 → Stands (record_bytes w) (RecordOk w) s o r → TaggedThere (λ v t g Γ. invoke v g t Γ) (5 + (w + w)) (3 + w)
   invoke-there k h = go (first_of r) (parts_of r).tag (parts_of r).ty (list_of r) (made_of r 7 k)
     where
-      go : (v g : Identifier) (t : Ty) (Γ : Context) → r ≡ invoke v g t Γ → InvokeThere
+      go : (v g : Identifier) (t : Ty) (Γ : Context) → r ≡ invoke v g t Γ → TaggedThere (λ v t g Γ. invoke v g t Γ) (5 + (w + w)) (3 + w)
       go v g t Γ e =
           let st : Stands (record_bytes w) (RecordOk w) s o (invoke v g t Γ) = subst (Stands (record_bytes w) (RecordOk w) s o) e h in
-          let l = tail_in (list_bytes w) (ListOk w) Γ w (8 + (w + (w + w))) (invoke v g t Γ) refl (list-ok w (invoke v g t Γ) st.fits tt) (omega arith) st in
-          record {
-            var = v;
-            tag = g;
-            ty = t;
-            args = Γ;
-            is = e;
-            var-at = identifier_in w st (invoke-var w v g t Γ st.fits);
-            tag_at = identifier_in w st (invoke-tag w v g t Γ st.fits);
-            ty_at = type_in w st (invoke-ty w v g t Γ st.fits);
-            args_at = l;
-            inside = (list-run w l).inside;
-          }
+          tagged (λ v t g Γ. invoke v g t Γ) (5 + (w + w)) (3 + w) v t g Γ e st refl (list-ok w (invoke v g t Γ) st.fits tt) (omega arith)
+          (invoke-var w v g t Γ st.fits) (invoke-ty w v g t Γ st.fits) (invoke-tag w v g t Γ st.fits)
 
 -- ── records of an identifier and a list ──
 
@@ -112,7 +87,6 @@ at-made {g} {s} {i} k a = made_of (record_at g s i) k a.kind
 pub named-at : {g : Frame} {s : List ℕ} {i : ℕ} (k : ℕ) → At g s i k → first_at k ≡ 1 → has_list k ≡ true → fixed g.id k ≡ 3 + g.id
     → small_record_lem (made (record_at g s i) (parts_of (record_at g s i)) k) ≡ leb (length (list_of (record_at g s i))) 32 → small_record_lem (record_at g s i) ≡ true → NamedAt g s i
 named-at {g} {s} {i} k a f l n m e = record {
-  ready = a.ready;
   inside = a.inside;
   first = ap first_at a.kind ∙ f;
   list = ap has_list a.kind ∙ l;
@@ -127,7 +101,7 @@ module _ {g : Frame} {s : List ℕ} {i o : ℕ} (a : NamedAt g s i) (h : Stands 
       (subst (λ (z : ℕ). Stands (identifier_bytes g.id) (IdentifierOk g.id) (record_bytes g.id (record_at g s i)) z (first_of (record_at g s i))) a.first
       (first-stands g.id (record_at g s i) (λ q. false≢true (sym (ap has_list q) ∙ a.list)) h.fits))
 
-  pub named-list : Stands (list_bytes g.id) (ListOk g.id) s (o + (3 + g.id)) (list_of (record_at g s i))
-  named-list =
+  pub named-list : Ready g s → Stands (list_bytes g.id) (ListOk g.id) s (o + (3 + g.id)) (list_of (record_at g s i))
+  named-list ready =
       subst (λ (z : ℕ). Stands (list_bytes g.id) (ListOk g.id) s (o + z) (list_of (record_at g s i))) a.front
-      (list-there g s i (kind_of (record_at g s i)) o (record { ready = a.ready; inside = a.inside; kind = refl }) a.list h)
+      (list-there g s i (kind_of (record_at g s i)) o ready (record { inside = a.inside; kind = refl }) a.list h)

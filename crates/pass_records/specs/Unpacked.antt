@@ -10,7 +10,6 @@ use Rattle.image_spec.specs.Parse.{mark, Marked}
 use Rattle.image_spec.specs.Fields.{identifier_bytes, list_bytes, IdentifierOk, ListOk}
 use Rattle.image_spec.specs.Records.{Record, call, let', switch, create, invoke, literal, op, ifc, print, exit}
 use Rattle.image_spec.specs.Kinds.{kind_of, fixed}
-use Rattle.image_directory.specs.Slots.{Ready}
 use Rattle.image_directory.specs.declared.Frame.{Frame}
 use Rattle.image_read_parts.specs.Standing.{Stands}
 use Rattle.image_read_parts.specs.Parts.{list_of}
@@ -99,7 +98,6 @@ pub record SecondAt (w : ℕ) (s : List ℕ) (at : ℕ) : Type 0 where
 
 -- the record at index i is an identifier and a list that an array has room for
 pub record NamedAt (g : Frame) (s : List ℕ) (i : ℕ) : Type 0 where
-  pub ready : Ready g s
   pub inside : i < g.count
   pub first : first_at (kind_of (record_at g s i)) ≡ 1
   pub list : has_list (kind_of (record_at g s i)) ≡ true

@@ -7,10 +7,10 @@ ghost use Rattle.image_spec.specs.Parse.{mark, Marked};
 ghost use Rattle.image_spec.specs.Fields.{identifier_bytes, IdentifierOk};
 ghost use Rattle.scope_spec.specs.Flat.{plain_record_lem, small_record_lem};
 ghost use Rattle.image_read_parts.specs.Standing.{ReadsAs};
-ghost use Rattle.image_read_nodes.specs.Nodes.{record_at, At};
 ghost use Rattle.pass_records.specs.Unpacked.{call_of, let_of, switch_of, create_of, invoke_of, literal_of, op_of, ifc_of, print_of, exit_of, Unpacked, ListAt, HoldsAt, SecondAt, NamedAt, NamedIs};
+ghost use Rattle.image_read_nodes.specs.Opened.{record_of, IsAt};
 
-use image_directory::Frame;
+use image_directory::image::Image;
 use image_fields::count;
 use image_read_parts::{binding_at, identifier_at, integer_at, newline_of, offset, type_at};
 use syntax::context::TypingContext;
@@ -113,24 +113,24 @@ pub fn list(image: &[u8], w: usize, at: usize) -> TypingContext
 }
 
 // The definition, the Call or the clause at index i. (Here and below the counts have passed question 7.)
-pub fn named(image: &[u8], frame: Frame, i: usize) -> NameAndList
-    requires { NamedAt frame image.now i }
-    ensures { NamedIs result (record_at frame image.now i) }
+pub fn named(image: &Image<'_>, i: usize) -> NameAndList
+    requires { NamedAt image.now.frame image.now.bytes.now i }
+    ensures { NamedIs result (record_of image.now i) }
 {
-    let w = frame.id;
-    let start = offset(image, frame, i);
+    let w = image.frame.id;
+    let start = offset(image, i);
     NameAndList {
-        name: identifier_at(image, w, start + 1),
-        list: list(image, w, start + (3 + w)),
+        name: identifier_at(image.bytes, w, start + 1),
+        list: list(image.bytes, w, start + (3 + w)),
     }
 }
 
 // The Call at index i.
-pub fn call(image: &[u8], frame: Frame, i: usize) -> CallRecord
-    requires { At frame image.now i 3 × (small_record_lem (record_at frame image.now i) ≡ true) }
-    ensures { Unpacked (record_at frame image.now i) (call_of result) result.args }
+pub fn call(image: &Image<'_>, i: usize) -> CallRecord
+    requires { IsAt image.now i 3 × (small_record_lem (record_of image.now i) ≡ true) }
+    ensures { Unpacked (record_of image.now i) (call_of result) result.args }
 {
-    let all = named(image, frame, i);
+    let all = named(image, i);
     CallRecord {
         label: all.name,
         args: all.list,
@@ -138,82 +138,82 @@ pub fn call(image: &[u8], frame: Frame, i: usize) -> CallRecord
 }
 
 // The Let at index i.
-pub fn let_record(image: &[u8], frame: Frame, i: usize) -> LetRecord
-    requires { At frame image.now i 4 × (small_record_lem (record_at frame image.now i) ≡ true) }
-    ensures { Unpacked (record_at frame image.now i) (let_of result) result.args }
+pub fn let_record(image: &Image<'_>, i: usize) -> LetRecord
+    requires { IsAt image.now i 4 × (small_record_lem (record_of image.now i) ≡ true) }
+    ensures { Unpacked (record_of image.now i) (let_of result) result.args }
 {
-    let w = frame.id;
-    let start = offset(image, frame, i);
-    let var = identifier_at(image, w, start + 1);
-    let ty = type_at(image, w, start + (3 + w));
-    let tag = identifier_at(image, w, start + (6 + (w + w)));
-    let args = list(image, w, start + (8 + (w + (w + w))));
+    let w = image.frame.id;
+    let start = offset(image, i);
+    let var = identifier_at(image.bytes, w, start + 1);
+    let ty = type_at(image.bytes, w, start + (3 + w));
+    let tag = identifier_at(image.bytes, w, start + (6 + (w + w)));
+    let args = list(image.bytes, w, start + (8 + (w + (w + w))));
     LetRecord { var, ty, tag, args }
 }
 
 // The Switch at index i.
-pub fn switch(image: &[u8], frame: Frame, i: usize) -> SwitchRecord
-    requires { At frame image.now i 5 }
-    ensures { record_at frame image.now i ≡ switch_of result }
+pub fn switch(image: &Image<'_>, i: usize) -> SwitchRecord
+    requires { IsAt image.now i 5 }
+    ensures { record_of image.now i ≡ switch_of result }
 {
-    let w = frame.id;
-    let start = offset(image, frame, i);
-    let var = identifier_at(image, w, start + 1);
-    let ty = type_at(image, w, start + (3 + w));
-    let clauses = image[start + (6 + (w + w))];
+    let w = image.frame.id;
+    let start = offset(image, i);
+    let var = identifier_at(image.bytes, w, start + 1);
+    let ty = type_at(image.bytes, w, start + (3 + w));
+    let clauses = image.bytes[start + (6 + (w + w))];
     SwitchRecord { var, ty, clauses }
 }
 
 // The Create at index i. (It has passed question 6.)
-pub fn create(image: &[u8], frame: Frame, i: usize) -> CreateRecord
-    requires { At frame image.now i 6 × (plain_record_lem (record_at frame image.now i) ≡ true) }
-    ensures { record_at frame image.now i ≡ create_of result }
+pub fn create(image: &Image<'_>, i: usize) -> CreateRecord
+    requires { IsAt image.now i 6 × (plain_record_lem (record_of image.now i) ≡ true) }
+    ensures { record_of image.now i ≡ create_of result }
 {
-    let w = frame.id;
-    let start = offset(image, frame, i);
-    let var = identifier_at(image, w, start + 1);
-    let ty = type_at(image, w, start + (3 + w));
-    let clauses = image[start + (7 + (w + w))];
+    let w = image.frame.id;
+    let start = offset(image, i);
+    let var = identifier_at(image.bytes, w, start + 1);
+    let ty = type_at(image.bytes, w, start + (3 + w));
+    let clauses = image.bytes[start + (7 + (w + w))];
     CreateRecord { var, ty, clauses }
 }
 
 // The Invoke at index i.
-pub fn invoke(image: &[u8], frame: Frame, i: usize) -> InvokeRecord
-    requires { At frame image.now i 7 × (small_record_lem (record_at frame image.now i) ≡ true) }
-    ensures { Unpacked (record_at frame image.now i) (invoke_of result) result.args }
+pub fn invoke(image: &Image<'_>, i: usize) -> InvokeRecord
+    requires { IsAt image.now i 7 × (small_record_lem (record_of image.now i) ≡ true) }
+    ensures { Unpacked (record_of image.now i) (invoke_of result) result.args }
 {
-    let w = frame.id;
-    let start = offset(image, frame, i);
-    let var = identifier_at(image, w, start + 1);
-    let tag = identifier_at(image, w, start + (3 + w));
-    let ty = type_at(image, w, start + (5 + (w + w)));
-    let args = list(image, w, start + (8 + (w + (w + w))));
+    let w = image.frame.id;
+    let start = offset(image, i);
+    let var = identifier_at(image.bytes, w, start + 1);
+    let tag = identifier_at(image.bytes, w, start + (3 + w));
+    let ty = type_at(image.bytes, w, start + (5 + (w + w)));
+    let args = list(image.bytes, w, start + (8 + (w + (w + w))));
     InvokeRecord { var, tag, ty, args }
 }
 
 // The Literal at index i.
-pub fn literal(image: &[u8], frame: Frame, i: usize) -> LiteralRecord
-    requires { At frame image.now i 8 }
-    ensures { record_at frame image.now i ≡ literal_of result }
+pub fn literal(image: &Image<'_>, i: usize) -> LiteralRecord
+    requires { IsAt image.now i 8 }
+    ensures { record_of image.now i ≡ literal_of result }
 {
-    let w = frame.id;
-    let start = offset(image, frame, i);
-    let lit = integer_at(image, start + 1);
-    let var = identifier_at(image, w, start + 9);
+    let w = image.frame.id;
+    let start = offset(image, i);
+    let lit = integer_at(image.bytes, start + 1);
+    let var = identifier_at(image.bytes, w, start + 9);
     LiteralRecord { lit, var }
 }
 
 // The Op at index i.
-pub fn op(image: &[u8], frame: Frame, i: usize) -> OpRecord
-    requires { At frame image.now i 9 }
-    ensures { record_at frame image.now i ≡ op_of result }
+pub fn op(image: &Image<'_>, i: usize) -> OpRecord
+    requires { IsAt image.now i 9 }
+    ensures { record_of image.now i ≡ op_of result }
 {
-    let w = frame.id;
-    let start = offset(image, frame, i);
-    let fst = identifier_at(image, w, start + 1);
-    let op = BinOp::try_from(image[start + (3 + w)]).unwrap();
-    let snd = identifier_at(image, w, start + (4 + w));
-    let var = identifier_at(image, w, start + (6 + (w + w)));
+    let w = image.frame.id;
+    let start = offset(image, i);
+    let fst = identifier_at(image.bytes, w, start + 1);
+    let op = BinOp::try_from(image.bytes[start + (3 + w)]).unwrap();
+    let snd = identifier_at(image.bytes, w, start + (4 + w));
+    let var = identifier_at(image.bytes, w, start + (6 + (w + w)));
     OpRecord { fst, op, snd, var }
 }
 
@@ -229,37 +229,37 @@ fn second_at(image: &[u8], w: usize, at: usize) -> Option<Identifier>
 }
 
 // The IfC at index i.
-pub fn ifc(image: &[u8], frame: Frame, i: usize) -> IfCRecord
-    requires { At frame image.now i 10 }
-    ensures { record_at frame image.now i ≡ ifc_of result }
+pub fn ifc(image: &Image<'_>, i: usize) -> IfCRecord
+    requires { IsAt image.now i 10 }
+    ensures { record_of image.now i ≡ ifc_of result }
 {
-    let w = frame.id;
-    let start = offset(image, frame, i);
-    let sort = IfSort::try_from(image[start + 1]).unwrap();
-    let fst = identifier_at(image, w, start + 2);
-    let snd = second_at(image, w, start + (4 + w));
+    let w = image.frame.id;
+    let start = offset(image, i);
+    let sort = IfSort::try_from(image.bytes[start + 1]).unwrap();
+    let fst = identifier_at(image.bytes, w, start + 2);
+    let snd = second_at(image.bytes, w, start + (4 + w));
     IfCRecord { sort, fst, snd }
 }
 
 // The PrintI64 at index i.
-pub fn print(image: &[u8], frame: Frame, i: usize) -> PrintRecord
-    requires { At frame image.now i 12 }
-    ensures { record_at frame image.now i ≡ print_of result }
+pub fn print(image: &Image<'_>, i: usize) -> PrintRecord
+    requires { IsAt image.now i 12 }
+    ensures { record_of image.now i ≡ print_of result }
 {
-    let w = frame.id;
-    let start = offset(image, frame, i);
-    let newline = newline_of(image[start + 1]);
-    let var = identifier_at(image, w, start + 2);
+    let w = image.frame.id;
+    let start = offset(image, i);
+    let newline = newline_of(image.bytes[start + 1]);
+    let var = identifier_at(image.bytes, w, start + 2);
     PrintRecord { newline, var }
 }
 
 // The Exit at index i.
-pub fn exit(image: &[u8], frame: Frame, i: usize) -> ExitRecord
-    requires { At frame image.now i 13 }
-    ensures { record_at frame image.now i ≡ exit_of result }
+pub fn exit(image: &Image<'_>, i: usize) -> ExitRecord
+    requires { IsAt image.now i 13 }
+    ensures { record_of image.now i ≡ exit_of result }
 {
-    let w = frame.id;
-    let start = offset(image, frame, i);
-    let var = identifier_at(image, w, start + 1);
+    let w = image.frame.id;
+    let start = offset(image, i);
+    let var = identifier_at(image.bytes, w, start + 1);
     ExitRecord { var }
 }

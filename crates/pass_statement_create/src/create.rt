@@ -1,13 +1,13 @@
 // create.rs
 ghost use Rattle.std.specs.Prelude.{◌≤◌, ◌≡◌, length};
 ghost use Rattle.syntax.specs.Arrays.{context_of};
-ghost use Rattle.image_read_nodes.specs.Nodes.{record_at};
 ghost use Rattle.pass_work_spec.specs.Work.{moved_behind, respelled_unless};
 ghost use Rattle.pass_context.specs.Holding.{work_of, HoldsWork};
 ghost use Rattle.pass_entries.specs.Masks.{kept_by_mask};
 ghost use Rattle.pass_step.specs.Stepping.{RoomAt, SourceAt, Workable, OpensAs, OpenedAs, StepsAs};
+ghost use Rattle.image_read_nodes.specs.Opened.{record_of};
 
-use image_directory::Frame;
+use image_directory::image::Image;
 use image_kinds::kinds::Kind;
 use image_write_directory::progress::{Progress, note};
 use image_write_records::records::put_create;
@@ -30,26 +30,22 @@ fn environment(context: Held, next: usize, free_vars_clauses: u64) -> Held
 
 // The clauses have the environment.
 pub fn open(
-    image: &[u8],
-    frame: Frame,
+    image: &Image<'_>,
     i: usize,
     free_vars: FreeVars,
     context: Held,
     so_far: Progress,
 ) -> Opened
-    requires { SourceAt frame image.now i 6 × (Workable context 0 0 × RoomAt so_far) }
-    ensures { OpensAs frame.id (record_at frame image.now i) free_vars.clauses free_vars.next (work_of context) so_far result }
+    requires { SourceAt image.now.frame image.now.bytes.now i 6 × (Workable context 0 0 × RoomAt so_far) }
+    ensures { OpensAs image.now.frame.id (record_of image.now i) free_vars.clauses free_vars.next (work_of context) so_far result }
 {
     let context_next = context.filter_by_set(free_vars.next);
     let closure_environment = environment(context, context_next.len, free_vars.clauses);
     let kept = context_next.len + closure_environment.len;
-    let right = if context.len == kept {
-        context.same(context_next.context(), closure_environment.context())
-    } else {
-        false
-    };
-    let w = frame.id;
-    let own = Kind::fixed(6, w) + (3 + closure_environment.len * (6 + (w + w)));
+    let right = context.len == kept
+        && context.same(context_next.context(), closure_environment.context());
+    let w = image.frame.id;
+    let own = Kind::Create.fixed(w) + (3 + closure_environment.len * (6 + (w + w)));
     let progress = reserve(right, kept, own, w, so_far);
     Opened {
         context: closure_environment,
@@ -71,8 +67,7 @@ fn renamed(right: bool, context_next: Held, names: TypingContext) -> Held
 
 // The clauses are done: a Substitute where the context is not right, and the Create with its environment.
 pub fn linearize(
-    image: &[u8],
-    frame: Frame,
+    image: &Image<'_>,
     i: usize,
     free_vars: FreeVars,
     context: Held,
@@ -82,30 +77,21 @@ pub fn linearize(
     lengths: &mut [usize],
     so_far: Progress,
 ) -> Stepped
-    requires { SourceAt frame image.now i 6 × (Workable context in_scope 1 × (OpenedAs (record_at frame image.now i) free_vars.clauses free_vars.next (work_of context) opened × RoomAt so_far)) }
-    ensures { StepsAs frame.id (record_at frame image.now i) free_vars.clauses free_vars.next (work_of context) in_scope out.old out.new lengths.old lengths.new so_far result }
+    requires { SourceAt image.now.frame image.now.bytes.now i 6 × (Workable context in_scope 1 × (OpenedAs (record_of image.now i) free_vars.clauses free_vars.next (work_of context) opened × RoomAt so_far)) }
+    ensures { StepsAs image.now.frame.id (record_of image.now i) free_vars.clauses free_vars.next (work_of context) in_scope out.old out.new lengths.old lengths.new so_far result }
 {
-    let statement = create(image, frame, i);
+    let w = image.frame.id;
+    let statement = create(image, i);
     let captured = opened.context;
     let right = opened.right;
     let context_next = context.filter_by_set(free_vars.next);
     let next = context_next.context();
     let freshened = freshen_unless(right, next, captured.ids(), so_far.max_id);
     let fresh = freshened.context;
-    let q = arrange(
-        right, true, fresh, next, captured, frame.id, out, lengths, so_far,
-    );
+    let q = arrange(right, true, fresh, next, captured, w, out, lengths, so_far);
     let var = statement.var;
     let ty = statement.ty;
-    let place = put_create(
-        out,
-        q.at,
-        frame.id,
-        var,
-        ty,
-        captured.context(),
-        statement.clauses,
-    );
+    let place = put_create(out, q.at, w, var, ty, captured.context(), statement.clauses);
     let noted = note(lengths, q, place);
     let chi = Chirality::Cns;
     let binding = ContextBinding { var, chi, ty };

@@ -1,9 +1,9 @@
 // invoke.rs
-ghost use Rattle.image_read_nodes.specs.Nodes.{record_at};
 ghost use Rattle.pass_context.specs.Holding.{work_of};
 ghost use Rattle.pass_step.specs.Stepping.{RoomAt, SourceAt, Workable, LeavesAs};
+ghost use Rattle.image_read_nodes.specs.Opened.{record_of};
 
-use image_directory::Frame;
+use image_directory::image::Image;
 use image_write_directory::progress::{Progress, note};
 use image_write_records::records::put_invoke;
 use pass_arrange::arrange::arrange_closure;
@@ -15,8 +15,7 @@ use syntax::sets::IdSet;
 
 // An Invoke wants its arguments for the context, followed by its closure. Written it has no arguments: they are the context then.
 pub fn linearize(
-    image: &[u8],
-    frame: Frame,
+    image: &Image<'_>,
     i: usize,
     context: Held,
     in_scope: u8,
@@ -24,10 +23,11 @@ pub fn linearize(
     lengths: &mut [usize],
     so_far: Progress,
 ) -> Progress
-    requires { SourceAt frame image.now i 7 × (Workable context in_scope 0 × RoomAt so_far) }
-    ensures { LeavesAs frame.id (record_at frame image.now i) 0 0 (work_of context) in_scope out.old out.new lengths.old lengths.new so_far result }
+    requires { SourceAt image.now.frame image.now.bytes.now i 7 × (Workable context in_scope 0 × RoomAt so_far) }
+    ensures { LeavesAs image.now.frame.id (record_of image.now i) 0 0 (work_of context) in_scope out.old out.new lengths.old lengths.new so_far result }
 {
-    let statement = invoke(image, frame, i);
+    let w = image.frame.id;
+    let statement = invoke(image, i);
     // the context must consist of the arguments for the method ...
     let args = context.used_all(statement.args);
     // ... followed by the variable of the closure
@@ -38,16 +38,13 @@ pub fn linearize(
         chi: Chirality::Cns,
         ty,
     };
-    let right = if context.len == args.len + 1 {
-        context.same(args, TypingContext::empty().push(closure))
-    } else {
-        false
-    };
+    let right = context.len == args.len + 1
+        && context.same(args, TypingContext::empty().push(closure));
     let clashes = IdSet::empty().add(var.id);
     let freshened = freshen_unless(right, args, clashes, so_far.max_id);
     let fresh = freshened.context;
-    let q = arrange_closure(right, fresh, args, closure, frame.id, out, lengths, so_far);
-    let next = put_invoke(out, q.at, frame.id, var, statement.tag, ty);
+    let q = arrange_closure(right, fresh, args, closure, w, out, lengths, so_far);
+    let next = put_invoke(out, q.at, w, var, statement.tag, ty);
     let noted = note(lengths, q, next);
     with_max_id(noted, freshened.max_id)
 }

@@ -3,13 +3,13 @@ ghost use Rattle.std.specs.Prelude.{◌≡◌, ◌+◌, ◌<◌, ◌≤◌, ◌^
 ghost use Rattle.syntax.specs.Arrays.{set_of};
 ghost use Rattle.syntax.specs.declared.context.Chirality.TheVariants.{Prd};
 ghost use Rattle.model.specs.Rules.{bind, fresh_var_unless};
-ghost use Rattle.image_read_nodes.specs.Nodes.{record_at};
 ghost use Rattle.pass_work_spec.specs.Work.{used};
 ghost use Rattle.pass_context.specs.Holding.{work_of};
 ghost use Rattle.pass_step.specs.Stepping.{RoomAt, SourceAt, Workable, OpensAs, OpenedAs, LeavesAs};
 ghost use Rattle.pass_statement_switch.specs.Drawing.{FreshVarIs};
+ghost use Rattle.image_read_nodes.specs.Opened.{record_of};
 
-use image_directory::Frame;
+use image_directory::image::Image;
 use image_kinds::kinds::Kind;
 use image_write_directory::progress::{Progress, note};
 use image_write_records::records::put_switch;
@@ -38,27 +38,29 @@ fn matched(context: Held, var: Identifier, ty: Ty) -> ContextBinding
 
 // The clauses have what they need, without the variable that is matched on.
 pub fn open(
-    image: &[u8],
-    frame: Frame,
+    image: &Image<'_>,
     i: usize,
     free_vars_clauses: u64,
     context: Held,
     so_far: Progress,
 ) -> Opened
-    requires { SourceAt frame image.now i 5 × (Workable context 0 0 × RoomAt so_far) }
-    ensures { OpensAs frame.id (record_at frame image.now i) free_vars_clauses 0 (work_of context) so_far result }
+    requires { SourceAt image.now.frame image.now.bytes.now i 5 × (Workable context 0 0 × RoomAt so_far) }
+    ensures { OpensAs image.now.frame.id (record_of image.now i) free_vars_clauses 0 (work_of context) so_far result }
 {
-    let statement = switch(image, frame, i);
+    let statement = switch(image, i);
     let new_context = context.filter_by_set(free_vars_clauses);
     let ty = statement.ty;
     let xtor = matched(context, statement.var, ty);
-    let right = if context.len == new_context.len + 1 {
-        context.same(new_context.context(), TypingContext::empty().push(xtor))
-    } else {
-        false
-    };
-    let w = frame.id;
-    let progress = reserve(right, new_context.len + 1, Kind::fixed(5, w) + 1, w, so_far);
+    let right = context.len == new_context.len + 1
+        && context.same(new_context.context(), TypingContext::empty().push(xtor));
+    let w = image.frame.id;
+    let progress = reserve(
+        right,
+        new_context.len + 1,
+        Kind::Switch.fixed(w) + 1,
+        w,
+        so_far,
+    );
     Opened {
         context: new_context,
         right,
@@ -78,26 +80,19 @@ fn fresh_var(right: bool, binding: ContextBinding, clashes: IdSet, max_id: u32) 
     requires { (clashes.len ≤ 128) × (max_id + 256 < 2 ^ 32) }
     ensures { FreshVarIs result (fresh_var_unless right binding (set_of clashes) max_id) }
 {
-    if right {
+    if right || !clashes.contains(binding.var.id) {
         return FreshVar { binding, max_id };
     }
-    if clashes.contains(binding.var.id) {
-        let var = Identifier::fresh(VarId(max_id), binding.var.name);
-        let chi = binding.chi;
-        let ty = binding.ty;
-        let drawn = ContextBinding { var, chi, ty };
-        return FreshVar {
-            binding: drawn,
-            max_id: var.id.0,
-        };
+    let var = Identifier::fresh(VarId(max_id), binding.var.name);
+    FreshVar {
+        binding: ContextBinding { var, ..binding },
+        max_id: var.id.0,
     }
-    FreshVar { binding, max_id }
 }
 
 // The clauses are done: a Substitute where the context is not right, and the Switch.
 pub fn linearize(
-    image: &[u8],
-    frame: Frame,
+    image: &Image<'_>,
     i: usize,
     free_vars_clauses: u64,
     context: Held,
@@ -107,27 +102,19 @@ pub fn linearize(
     lengths: &mut [usize],
     so_far: Progress,
 ) -> Progress
-    requires { SourceAt frame image.now i 5 × (Workable context in_scope 0 × (OpenedAs (record_at frame image.now i) free_vars_clauses 0 (work_of context) opened × RoomAt so_far)) }
-    ensures { LeavesAs frame.id (record_at frame image.now i) free_vars_clauses 0 (work_of context) in_scope out.old out.new lengths.old lengths.new so_far result }
+    requires { SourceAt image.now.frame image.now.bytes.now i 5 × (Workable context in_scope 0 × (OpenedAs (record_of image.now i) free_vars_clauses 0 (work_of context) opened × RoomAt so_far)) }
+    ensures { LeavesAs image.now.frame.id (record_of image.now i) free_vars_clauses 0 (work_of context) in_scope out.old out.new lengths.old lengths.new so_far result }
 {
-    let statement = switch(image, frame, i);
+    let w = image.frame.id;
+    let statement = switch(image, i);
     let new_context = opened.context;
     let right = opened.right;
     let ty = statement.ty;
     let xtor = matched(context, statement.var, ty);
     let fresh = fresh_var(right, xtor, new_context.ids(), so_far.max_id);
     let binding = fresh.binding;
-    let q = arrange_one(
-        right,
-        new_context,
-        binding,
-        xtor,
-        frame.id,
-        out,
-        lengths,
-        so_far,
-    );
-    let next = put_switch(out, q.at, frame.id, binding.var, ty, statement.clauses);
+    let q = arrange_one(right, new_context, binding, xtor, w, out, lengths, so_far);
+    let next = put_switch(out, q.at, w, binding.var, ty, statement.clauses);
     let noted = note(lengths, q, next);
     with_max_id(noted, VarId(fresh.max_id))
 }

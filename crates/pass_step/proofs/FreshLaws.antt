@@ -3,16 +3,15 @@
 use Prim.Native.Nat.{ℕ, ◌≤◌}
 use mathlib.Core.Path.{◌≡◌, refl, sym, ap, ◌∙◌}
 use mathlib.Core.Bool.{Bool, true, false}
-use mathlib.Core.List.{List, ◌++◌}
+use mathlib.Core.List.{List}
 use native.Mathlib.Omega.{arith}
 use borrow.Author.Tests.{leb-true}
 use lib.Dec.{leb}
 use lib.ListN.{length, length-map}
 use Rattle.syntax.specs.Context.{Context}
-use Rattle.syntax.specs.Arrays.{set_of, context_of, Holds, SetHolds, Freshens}
+use Rattle.syntax.specs.Arrays.{context_of, Holds, Freshens}
 use Rattle.syntax.specs.Fresh.{freshen}
 use Rattle.syntax.specs.declared.names.VarId.{VarId}
-use Rattle.syntax.specs.declared.sets.IdSet.{IdSet}
 use Rattle.syntax.specs.declared.context.TypingContext.{TypingContext}
 use Rattle.syntax.specs.declared.context.Freshened.{Freshened}
 use Rattle.model.specs.Rules.{freshen_unless_lem}
@@ -20,7 +19,7 @@ use Rattle.model.proofs.Widths.{unless-length}
 use Rattle.image_spec.specs.Records.{Record}
 use Rattle.scope_spec.specs.Flat.{small_record_lem}
 use Rattle.pass_records.specs.Unpacked.{Unpacked}
-use Rattle.pass_work_spec.specs.Work.{Work, bindings, used_binding_lem, used_all_lem}
+use Rattle.pass_work_spec.specs.Work.{Work, used_binding_lem, used_all_lem}
 use Rattle.pass_step.specs.Stepping.{Paired}
 
 -- ── what is drawn ──

@@ -1,6 +1,6 @@
 -- What a Switch and a Create have in common: the structs that they work with, how many there are in them, when the context is right, and what
 -- was opened. Assumes nothing.
-use Prim.Native.Nat.{ℕ, ◌≤◌}
+use Prim.Native.Nat.{ℕ}
 use mathlib.Core.Path.{◌≡◌, refl, sym, ap, ◌∙◌}
 use mathlib.Core.Bool.{false}
 use native.Mathlib.Omega.{arith}

@@ -1,5 +1,5 @@
 -- What a filter retains: equal counts mean equal lists, so the counts say whether the context is right. Assumes nothing.
-use Prim.Native.Nat.{ℕ, suc, ◌≤◌}
+use Prim.Native.Nat.{ℕ, suc}
 use mathlib.Core.Path.{◌≡◌, refl, sym, ap, ◌∙◌}
 use mathlib.Core.Bool.{Bool, true, false, cond}
 use mathlib.Core.List.{List, [], ◌∷◌}
@@ -16,7 +16,6 @@ use Rattle.pass_work_spec.specs.Work.{Work, bindings}
 use Rattle.pass_work_spec.specs.declared.Entry.{Entry}
 use Rattle.pass_context.specs.Holding.{work_of, HoldsWork}
 use Rattle.pass_context.specs.declared.Held.{Held}
-use Rattle.pass_step.specs.Stepping.{Workable}
 
 -- where all are retained, nothing changes
 retained-all : {A : Type 0} (p : A → Bool) (l : List A) → length (retained p l) ≡ length l → filtered p l ≡ l

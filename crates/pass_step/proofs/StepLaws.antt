@@ -1,7 +1,7 @@
 -- What the masks say, what structs hold, and the step of each statement from what its code did. Assumes nothing.
 use Prim.Native.Nat.{ℕ, ◌+◌, ◌≤◌}
-use mathlib.Core.Path.{◌≡◌, refl, sym, ap, ◌∙◌, subst}
-use mathlib.Core.List.{List, [], ◌∷◌, ◌++◌, append-nil}
+use mathlib.Core.Path.{◌≡◌, sym, ap, ◌∙◌, subst}
+use mathlib.Core.List.{List, [], ◌∷◌, ◌++◌}
 use native.Mathlib.Omega.{arith}
 use lib.ListN.{length, length-map}
 use Rattle.syntax.specs.Context.{Context}
@@ -24,7 +24,7 @@ use Rattle.pass_context.specs.Holding.{work_of, HoldsWork}
 use Rattle.pass_entries.specs.Masks.{in_mask, kept_by_mask}
 use Rattle.pass_context.specs.declared.Held.{Held}
 use Rattle.pass_entries.proofs.MaskLaws.{mask_fewer}
-use Rattle.pass_step.specs.Stepping.{Says, Paired, Arranges, SourceAt, Workable}
+use Rattle.pass_step.specs.Stepping.{Says, Arranges, SourceAt, Workable}
 
 -- ── masks and structs ──
 

@@ -29,8 +29,7 @@ pub fn with_max_id(so_far: Progress, max_id: VarId) -> Progress
     ensures { result ≡ drawn_to so_far max_id.0 }
 {
     Progress {
-        at: so_far.at,
-        count: so_far.count,
         max_id: max_id.0,
+        ..so_far
     }
 }

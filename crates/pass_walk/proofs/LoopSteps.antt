@@ -7,12 +7,12 @@ use native.Mathlib.Omega.{arith}
 use lib.ListN.{length}
 use Rattle.syntax.specs.Context.{ids}
 use Rattle.syntax.specs.declared.names.VarId.{VarId}
-use Rattle.model.specs.Syntax.{Stmt, Clauses, clause}
+use Rattle.model.specs.Syntax.{Stmt, Clauses}
 use Rattle.model.specs.FreeVars.{free_vars}
 use Rattle.image_spec.specs.Parse.{each, All}
 use Rattle.image_spec.specs.Records.{Record, clause'}
 use Rattle.image_spec.specs.Shape.{flatten, flatten_clauses}
-use Rattle.image_directory.specs.Slots.{records_in}
+use Rattle.image_directory.specs.Slots.{Ready, records_in}
 use Rattle.image_directory.specs.declared.Frame.{Frame}
 use Rattle.image_directory.proofs.Places.{records-length}
 use Rattle.image_write_directory.specs.Emitting.{Emits}
@@ -125,8 +125,8 @@ module _ {g : Frame} {s rows : List ℕ} (q : Sources g s) {d : ℕ} {before : B
   rows-ahead = subst (λ (j : ℕ). Begins rows j (rows_stmt t (Δ ++ ids x.context) ++ rows_clauses x.rest Δ)) (omega arith)
       (begins-right (0 ∷ mask_of (free_vars t) (Δ ++ ids x.context) ∷ []) _ x.holds.rows_are)
 
-  pub clause-source : SourceAt g s z.next 11
-  clause-source = source-at q (record { ready = q.ready; inside = omega (arith, x.inside, records-length g s q.ready); kind = clause-kind x })
+  pub clause-source : Ready g s → SourceAt g s z.next 11
+  clause-source ready = source-at ready q (record { inside = omega (arith, x.inside, records-length g s ready); kind = clause-kind x })
 
   pub clause-workable : held.len ≡ length (work_of held) → Workable held n (length (list_of (record_at g s z.next)))
   clause-workable c =

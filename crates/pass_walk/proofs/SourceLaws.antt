@@ -1,10 +1,12 @@
 -- What a source gives the walk: records that have passed questions 6 and 7 (`source-at`), statements by their kinds, room for what a record
 -- binds (`binders-fit`), and masks that say what is free (`row-says`). Assumes nothing.
 use Prim.Native.Nat.{ℕ, ◌+◌, ◌≤◌, ◌<◌}
-use mathlib.Core.Path.{◌≡◌, refl, ap, ◌∙◌}
+use mathlib.Core.Path.{◌≡◌, refl, sym, ap, ◌∙◌, subst}
 use mathlib.Core.Bool.{Bool, true, false, ◌&&◌, false≢true, true≢false}
 use mathlib.Core.List.{List, [], ◌++◌}
 use native.Mathlib.Omega.{arith}
+use borrow.Author.Rules.{rules}
+use denote.Enum.Bare.{sameb, same_true}
 use lib.Dec.{leb, eqb}
 use lib.ListN.{length, get_or, length-append, get_or-append}
 use Rattle.syntax.specs.Sets.{elem}
@@ -14,7 +16,12 @@ use Rattle.model.specs.Syntax.{Stmt, Substitute, Call, Let, Switch, Create, Invo
 use Rattle.model.proofs.Widths.{leb_says}
 use Rattle.image_spec.specs.Records.{Record, definition, substitute, call, let', switch, create, invoke, literal, op, ifc, clause', print, exit}
 use Rattle.image_spec.specs.Kinds.{kind_of, bodies}
-use Rattle.image_directory.specs.Slots.{records_in}
+use Rattle.image_kinds.specs.Codes.{code_of, named_kind}
+use Rattle.image_kinds.specs.declared.kinds.Kind.{Kind}
+use Rattle.image_kinds.specs.declared.kinds.Kind.TheVariants as kind
+use Rattle.image_kinds.specs.contracts.kinds.Kind.{the_type}
+use Rattle.image_kinds.proofs.KindNames.{same_code}
+use Rattle.image_directory.specs.Slots.{Ready, records_in}
 use Rattle.image_directory.specs.declared.Frame.{Frame}
 use Rattle.image_directory.proofs.Places.{records-length}
 use Rattle.image_places_spec.specs.Views.{record_of, clauses_in, binders}
@@ -33,9 +40,9 @@ use Rattle.pass_step.specs.Stepping.{Says, SourceAt}
 use Rattle.pass_dispatch.specs.Choices.{proceeds, Proceeds, Settles}
 use Rattle.pass_walk.specs.Walking.{Sources}
 
-pub source-at : {g : Frame} {s : List ℕ} {i kind : ℕ} → Sources g s → At g s i kind → SourceAt g s i kind
-source-at {g} {s} {i} q a =
-    let inside : i < length (records_in g s) = omega (arith, a.inside, records-length g s q.ready) in
+pub source-at : {g : Frame} {s : List ℕ} {i kind : ℕ} → Ready g s → Sources g s → At g s i kind → SourceAt g s i kind
+source-at {g} {s} {i} ready q a =
+    let inside : i < length (records_in g s) = omega (arith, a.inside, records-length g s ready) in
     record { at = a; small = record_at_lem small_record_lem (records_in g s) i q.small inside; plain = record_at_lem plain_record_lem (records_in g s) i q.plain inside }
 
 -- ── kinds ──
@@ -104,7 +111,8 @@ settling (IfC sort fst snd thenc elsec) p c b = record { settles = refl; none = 
 settling (PrintI64 newline var next) p c b = absurd (true≢false b)
 settling (Exit var) p c b = record { settles = refl; none = refl; other = λ q. omega arith }
 
-pub params_first_lem : (r : Record) → eqb (kind_of r) 6 ≡ params_first r
+-- the parameters of a Create's clauses come first
+pub params_first_lem : (r : Record) → sameb the_type (named_kind r) kind.Create ≡ params_first r
 params_first_lem (definition x Γ) = refl
 params_first_lem (substitute ps) = refl
 params_first_lem (call label args) = refl
@@ -118,6 +126,13 @@ params_first_lem (ifc sort fst snd) = refl
 params_first_lem (clause' x Γ) = refl
 params_first_lem (print newline var) = refl
 params_first_lem (exit var) = refl
+
+-- is it a Create?
+pub a-create : (k : Kind) {t : Bool} → t ≡ sameb the_type k kind.Create → t ≡ true → code_of k ≡ 6
+a-create k e h = ap code_of (same_true the_type (search rules) k kind.Create (sym e ∙ h))
+
+pub no-create : (k : Kind) {t : Bool} → t ≡ sameb the_type k kind.Create → t ≡ false → code_of k ≡ 6 → ⊥
+no-create k e h q = true≢false (subst (λ (z : Kind). sameb the_type z kind.Create ≡ false) (same_code k kind.Create q) (sym e ∙ h))
 
 -- ── room ──
 

@@ -80,8 +80,8 @@ module _ {g : Frame} {s rows : List ℕ} {d i : ℕ} {held : Held} {n : ℕ} {p 
   plain_here = plain-source here (subst (λ (r : Record). plain_record_lem r ≡ true) is_record (record_at_lem plain_record_lem (records_in g s) i h.sources.plain (head-inside d (records_in g s) i h.stands)))
 
   -- its record is inside, and its parts are one level down
-  pub parts-ready : Ready g s × (i < g.count)
-  parts-ready = (h.sources.ready, omega (arith, head-inside d (records_in g s) i h.stands, records-length g s h.sources.ready))
+  pub inside : Ready g s → i < g.count
+  inside ready = omega (arith, head-inside d (records_in g s) i h.stands, records-length g s ready)
 
   pub deep : {f : Follows} → Followed g s i f → 0 < d
   deep f = (above_at d (records_in g s) i h.stands _ f.clauses).positive

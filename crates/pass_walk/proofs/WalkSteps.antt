@@ -5,13 +5,17 @@ use mathlib.Core.Path.{◌≡◌, refl, sym, ap, ◌∙◌, subst}
 use mathlib.Core.Bool.{Bool}
 use mathlib.Core.List.{List, [], ◌++◌, append-nil, append_assoc}
 use native.Mathlib.Omega.{arith}
-use lib.Dec.{eqb}
+use denote.Enum.Bare.{sameb}
 use lib.ListN.{length, get_or}
 use Rattle.model.specs.Syntax.{Stmt, Clauses, end}
 use Rattle.image_spec.specs.Parse.{each}
 use Rattle.image_spec.specs.Records.{Record, record_bytes}
 use Rattle.image_spec.specs.Kinds.{clauses_of}
 use Rattle.image_spec.specs.Shape.{flatten, flatten_clauses}
+use Rattle.image_kinds.specs.declared.kinds.Kind.{Kind}
+use Rattle.image_kinds.specs.declared.kinds.Kind.TheVariants.{Create}
+use Rattle.image_kinds.specs.contracts.kinds.Kind.{the_type}
+use Rattle.image_kinds.proofs.KindNames.{code-kind}
 use Rattle.image_directory.specs.Slots.{records_in}
 use Rattle.image_directory.specs.declared.Frame.{Frame}
 use Rattle.image_write_directory.specs.Emitting.{Emits}
@@ -66,10 +70,10 @@ module _ {g : Frame} {s rows : List ℕ} {d i : ℕ} {held : Held} {n : ℕ} {p 
     pub first : before ≡ params_first (record_at g s i)
     pub opens : Opens g.id (record_at g s i) (free_in_clauses here) (free_in_bodies here) W p o
 
-  pub begun : {f : Follows} {o : Opened} → Followed g s i f → OpensAs g.id (record_at g s i) (get_or rows (2 * i) 0) (get_or rows (2 * i + 1) 0) W p o → Begun f.clauses (eqb f.kind 6) o
-  begun f o = record {
+  pub begun : {f : Follows} {before : Bool} {o : Opened} → Followed g s i f → before ≡ sameb the_type f.kind Create → OpensAs g.id (record_at g s i) (get_or rows (2 * i) 0) (get_or rows (2 * i + 1) 0) W p o → Begun f.clauses before o
+  begun {f = follows} f e o = record {
     count = f.clauses;
-    first = ap (λ (z : ℕ). eqb z 6) (sym f.at.kind) ∙ params_first_lem (record_at g s i);
+    first = e ∙ ap (λ (z : Kind). sameb the_type z Create) (code-kind follows.kind (record_at g s i) (sym f.at.kind)) ∙ params_first_lem (record_at g s i);
     opens = o.opens (free_in_clauses here) (free_in_bodies here) (say_clauses h) (say_next h);
   }
 

@@ -5,7 +5,7 @@ use Rattle.model.specs.Syntax.{Stmt, Clauses}
 use Rattle.image_spec.specs.Parse.{each, All}
 use Rattle.image_spec.specs.Records.{Record, record_bytes}
 use Rattle.image_spec.specs.Shape.{flatten, flatten_clauses}
-use Rattle.image_directory.specs.Slots.{Ready, records_in}
+use Rattle.image_directory.specs.Slots.{records_in}
 use Rattle.image_directory.specs.declared.Frame.{Frame}
 use Rattle.image_write_directory.specs.Emitting.{Emits}
 use Rattle.image_write_directory.specs.declared.progress.Progress.{Progress}
@@ -21,7 +21,6 @@ use Rattle.pass_walk.specs.declared.walk.Linearized.{Linearized}
 
 -- an image whose records have all passed questions 6 and 7
 pub record Sources (g : Frame) (s : List ℕ) : Type 0 where
-  pub ready : Ready g s
   pub small : all_records_lem small_record_lem (records_in g s) ≡ true
   pub plain : all_records_lem plain_record_lem (records_in g s) ≡ true
 

@@ -4,15 +4,17 @@
 ghost use Rattle.std.specs.Prelude.{◌≡◌, ◌&&◌, ◌+◌, leb, length};
 ghost use Rattle.image_spec.specs.Parse.{each};
 ghost use Rattle.image_spec.specs.Shape.{flatten, flatten_clauses};
-ghost use Rattle.image_directory.specs.Slots.{records_in};
 ghost use Rattle.image_places_spec.specs.Places.{stmt_at, clauses_at, bodies_at};
 ghost use Rattle.pass_work_spec.specs.Work.{work_stmt, work_clauses};
 ghost use Rattle.pass_step_spec.specs.Steps.{work_bodies};
 ghost use Rattle.pass_context.specs.Holding.{work_of};
 ghost use Rattle.pass_dispatch.specs.Choices.{proceeds};
 ghost use Rattle.pass_walk.specs.Walking.{StmtAhead, ClausesAhead, BodiesAhead, LinearizedTo};
+ghost use Rattle.image_directory.specs.Images.{records_of};
+ghost use Rattle.image_kinds.specs.Codes.{code_of};
 
-use image_directory::Frame;
+use image_directory::image::Image;
+use image_kinds::kinds::Kind;
 use image_read_nodes::parts_of;
 use image_write_directory::progress::Progress;
 use pass_clause::clause::enter;
@@ -31,35 +33,22 @@ pub struct Linearized {
     pub progress: Progress,
 }
 
-fn has_clauses(kind: u8) -> bool
-    ensures { result ≡ (leb 5 kind && leb kind 6) }
+fn has_clauses(kind: Kind) -> bool
+    ensures { result ≡ (leb 5 (code_of kind) && leb (code_of kind) 6) }
 {
-    if 5 <= kind {
-        return kind <= 6;
-    }
-    false
+    matches!(kind, Kind::Switch | Kind::Create)
 }
 
-fn proceeds(kind: u8) -> bool
-    ensures { result ≡ «proceeds» kind }
+fn proceeds(kind: Kind) -> bool
+    ensures { result ≡ «proceeds» (code_of kind) }
 {
-    if kind == 4 {
-        return true;
-    }
-    if kind == 8 {
-        return true;
-    }
-    if kind == 9 {
-        return true;
-    }
-    kind == 12
+    matches!(kind, Kind::Let | Kind::Literal | Kind::Op | Kind::Print)
 }
 
 // The statement at index i, of depth at most `depth`.
 #[cycle(bodies_clauses_statement)]
 pub fn statement(
-    image: &[u8],
-    frame: Frame,
+    image: &Image<'_>,
     rows: &[u64],
     depth: usize,
     i: usize,
@@ -69,10 +58,10 @@ pub fn statement(
     lengths: &mut [usize],
     so_far: Progress,
 ) -> Linearized
-    requires { StmtAhead frame image.now rows.now depth i context in_scope so_far (stmt_at depth (records_in frame image.now) i) }
-    ensures { LinearizedTo frame.id out.old out.new lengths.old lengths.new so_far result (i + length (flatten (stmt_at depth (records_in frame image.now) i))) (flatten (work_stmt (stmt_at depth (records_in frame image.now) i) (work_of context) in_scope so_far.max_id).0) (work_stmt (stmt_at depth (records_in frame image.now) i) (work_of context) in_scope so_far.max_id).1 }
+    requires { StmtAhead image.now.frame image.now.bytes.now rows.now depth i context in_scope so_far (stmt_at depth (records_of image.now) i) }
+    ensures { LinearizedTo image.now.frame.id out.old out.new lengths.old lengths.new so_far result (i + length (flatten (stmt_at depth (records_of image.now) i))) (flatten (work_stmt (stmt_at depth (records_of image.now) i) (work_of context) in_scope so_far.max_id).0) (work_stmt (stmt_at depth (records_of image.now) i) (work_of context) in_scope so_far.max_id).1 }
 {
-    let parts = parts_of(image, frame, i);
+    let parts = parts_of(image, i);
     let kind = parts.kind;
     let row = 2 * i;
     let free_vars_clauses = rows[row];
@@ -82,12 +71,11 @@ pub fn statement(
         next: free_vars_next,
     };
     if has_clauses(kind) {
-        let opened = open(image, frame, i, kind, free_vars, context, so_far);
-        let before = kind == 6;
+        let opened = open(image, i, kind, free_vars, context, so_far);
+        let before = kind == Kind::Create;
         let n = parts.clauses;
         let here = clauses(
             image,
-            frame,
             rows,
             depth - 1,
             n,
@@ -102,12 +90,11 @@ pub fn statement(
         let drawn = with_max_id(so_far, VarId(here.progress.max_id));
         if before {
             let stepped = create::linearize(
-                image, frame, i, free_vars, context, in_scope, opened, out, lengths, drawn,
+                image, i, free_vars, context, in_scope, opened, out, lengths, drawn,
             );
             let progress = with_max_id(here.progress, VarId(stepped.progress.max_id));
             return statement(
                 image,
-                frame,
                 rows,
                 depth - 1,
                 here.next,
@@ -120,7 +107,6 @@ pub fn statement(
         }
         let written = switch::linearize(
             image,
-            frame,
             i,
             free_vars_clauses,
             context,
@@ -138,11 +124,10 @@ pub fn statement(
     }
     if proceeds(kind) {
         let stepped = proceed(
-            image, frame, i, kind, free_vars, context, in_scope, out, lengths, so_far,
+            image, i, kind, free_vars, context, in_scope, out, lengths, so_far,
         );
         return statement(
             image,
-            frame,
             rows,
             depth - 1,
             i + 1,
@@ -154,7 +139,7 @@ pub fn statement(
         );
     }
     let written = settle(
-        image, frame, i, kind, free_vars, context, in_scope, out, lengths, so_far,
+        image, i, kind, free_vars, context, in_scope, out, lengths, so_far,
     );
     if parts.bodies == 0 {
         return Linearized {
@@ -164,7 +149,6 @@ pub fn statement(
     }
     bodies(
         image,
-        frame,
         rows,
         depth - 1,
         parts.bodies,
@@ -180,8 +164,7 @@ pub fn statement(
 // The n clauses from index i on, with bodies of depth at most `depth`.
 #[cycle(bodies_clauses_statement)]
 fn clauses(
-    image: &[u8],
-    frame: Frame,
+    image: &Image<'_>,
     rows: &[u64],
     depth: usize,
     n: usize,
@@ -193,20 +176,18 @@ fn clauses(
     lengths: &mut [usize],
     so_far: Progress,
 ) -> Linearized
-    requires { ClausesAhead frame image.now rows.now depth n i before context in_scope so_far (clauses_at depth n (records_in frame image.now) i) }
-    ensures { LinearizedTo frame.id out.old out.new lengths.old lengths.new so_far result (i + length (flatten_clauses (clauses_at depth n (records_in frame image.now) i))) (flatten_clauses (work_clauses (clauses_at depth n (records_in frame image.now) i) before (work_of context) in_scope so_far.max_id).0) (work_clauses (clauses_at depth n (records_in frame image.now) i) before (work_of context) in_scope so_far.max_id).1 }
+    requires { ClausesAhead image.now.frame image.now.bytes.now rows.now depth n i before context in_scope so_far (clauses_at depth n (records_of image.now) i) }
+    ensures { LinearizedTo image.now.frame.id out.old out.new lengths.old lengths.new so_far result (i + length (flatten_clauses (clauses_at depth n (records_of image.now) i))) (flatten_clauses (work_clauses (clauses_at depth n (records_of image.now) i) before (work_of context) in_scope so_far.max_id).0) (work_clauses (clauses_at depth n (records_of image.now) i) before (work_of context) in_scope so_far.max_id).1 }
 {
     let mut here = Linearized {
         next: i,
         progress: so_far,
     };
-    let mut left = n;
-    while 0 < left {
+    for _ in 0..n {
         let entered = enter(
             image,
-            frame,
             here.next,
-            11,
+            Kind::Clause,
             before,
             context,
             in_scope,
@@ -216,7 +197,6 @@ fn clauses(
         );
         here = statement(
             image,
-            frame,
             rows,
             depth,
             here.next + 1,
@@ -226,7 +206,6 @@ fn clauses(
             lengths,
             entered.progress,
         );
-        left = left - 1;
     }
     here
 }
@@ -234,8 +213,7 @@ fn clauses(
 // The n statements from index i on, each of depth at most `depth`.
 #[cycle(bodies_clauses_statement)]
 fn bodies(
-    image: &[u8],
-    frame: Frame,
+    image: &Image<'_>,
     rows: &[u64],
     depth: usize,
     n: usize,
@@ -246,18 +224,16 @@ fn bodies(
     lengths: &mut [usize],
     so_far: Progress,
 ) -> Linearized
-    requires { BodiesAhead frame image.now rows.now depth n i context in_scope so_far (bodies_at depth n (records_in frame image.now) i) }
-    ensures { LinearizedTo frame.id out.old out.new lengths.old lengths.new so_far result (i + length (each flatten (bodies_at depth n (records_in frame image.now) i))) (each flatten (work_bodies (bodies_at depth n (records_in frame image.now) i) (work_of context) in_scope so_far.max_id).0) (work_bodies (bodies_at depth n (records_in frame image.now) i) (work_of context) in_scope so_far.max_id).1 }
+    requires { BodiesAhead image.now.frame image.now.bytes.now rows.now depth n i context in_scope so_far (bodies_at depth n (records_of image.now) i) }
+    ensures { LinearizedTo image.now.frame.id out.old out.new lengths.old lengths.new so_far result (i + length (each flatten (bodies_at depth n (records_of image.now) i))) (each flatten (work_bodies (bodies_at depth n (records_of image.now) i) (work_of context) in_scope so_far.max_id).0) (work_bodies (bodies_at depth n (records_of image.now) i) (work_of context) in_scope so_far.max_id).1 }
 {
     let mut here = Linearized {
         next: i,
         progress: so_far,
     };
-    let mut left = n;
-    while 0 < left {
+    for _ in 0..n {
         here = statement(
             image,
-            frame,
             rows,
             depth,
             here.next,
@@ -267,7 +243,6 @@ fn bodies(
             lengths,
             here.progress,
         );
-        left = left - 1;
     }
     here
 }

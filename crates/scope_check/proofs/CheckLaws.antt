@@ -8,7 +8,7 @@ use borrow.Author.Tests.{leb-true}
 use lib.Dec.{leb}
 use lib.ListN.{length}
 use Rattle.model.specs.Syntax.{Def, Prog}
-use Rattle.model.specs.Sizes.{records, depth, depth_defs}
+use Rattle.model.specs.Sizes.{depth, depth_defs}
 use Rattle.model.specs.Questions.{asked_defs, any_binders, question7, question8, question9, question10}
 use Rattle.image_spec.specs.Parse.{All}
 use Rattle.image_spec.specs.Records.{Record}

@@ -3,7 +3,6 @@ ghost use Rattle.std.specs.Prelude.{◌≡◌, ◌&&◌, leb};
 ghost use Rattle.std.proofs.lemmas.List.Edits.{sets};
 ghost use Rattle.model.specs.Sizes.{depth_defs};
 ghost use Rattle.image_spec.specs.Reading.{answer_of};
-ghost use Rattle.image_directory.specs.Slots.{Ready, records_in};
 ghost use Rattle.image_open.specs.Opening.{Known};
 ghost use Rattle.scope_spec.specs.Flat.{all_records_lem, small_record_lem};
 ghost use Rattle.scope_spec.specs.FreeRows.{rows_defs};
@@ -11,22 +10,24 @@ ghost use Rattle.scope_spec.specs.Calls.{checking, check_of};
 ghost use Rattle.scope_check.specs.Definitions.{defs_in, Defined};
 ghost use Rattle.scope_check.specs.Deciding.{decided, program_in};
 ghost use Rattle.scope_walk.specs.Masks.{Passed};
+ghost use Rattle.image_directory.specs.Images.{records_of};
 
 use crate::definitions::{all_shallow, walk_definitions};
 use image_directory::Frame;
 use image_open::open;
+use image_open::opened::Opened;
 use image_spec::{Accepted, Answer, Layout, Refusal};
 use scope_records::flat::{Alone, all_records};
 use scope_spec::Verdict;
 
 // The limits of question 7, but for the room in the scopes.
-pub fn within_limits(image: &[u8], frame: Frame, defs: usize) -> bool
-    requires { Ready frame image.now × Defined defs (records_in frame image.now) }
-    ensures { result ≡ (leb frame.count 2000 && (all_records_lem small_record_lem (records_in frame image.now) && leb (depth_defs (defs_in defs (records_in frame image.now))) 64)) }
+pub fn within_limits(opened: &Opened<'_>) -> bool
+    requires { Defined opened.now.definitions (records_of opened.now.image) }
+    ensures { result ≡ (leb opened.now.image.frame.count 2000 && (all_records_lem small_record_lem (records_of opened.now.image) && leb (depth_defs (defs_in opened.now.definitions (records_of opened.now.image))) 64)) }
 {
-    frame.count <= Frame::MAX_SOURCE_RECORDS
-        && all_records(image, frame, Alone::Small)
-        && all_shallow(image, frame, defs)
+    opened.image.frame.count <= Frame::MAX_SOURCE_RECORDS
+        && all_records(&opened.image, Alone::Small)
+        && all_shallow(opened)
 }
 
 // What the walk's verdict says of questions 7 to 10.
@@ -50,17 +51,17 @@ fn decide(v: Verdict, max_id: u32) -> Answer
 
 // Questions 6 to 10 of an image that is opened, with d definitions. If 6, 7 and 8 have a yes, the rows have two masks for each record then. (A
 // mask past the end of the rows is left out.)
-pub fn check_image(image: &[u8], frame: Frame, defs: usize, max_id: u32, rows: &mut [u64]) -> Answer
-    requires { Ready frame image.now × Defined defs (records_in frame image.now) }
-    ensures { (result ≡ answer_of (checking (program_in defs (records_in frame image.now) max_id))) × (Passed (program_in defs (records_in frame image.now) 0) → rows.new ≡ sets rows.old 0 (rows_defs (defs_in defs (records_in frame image.now)))) }
+pub fn check_image(opened: &Opened<'_>, rows: &mut [u64]) -> Answer
+    requires { Defined opened.now.definitions (records_of opened.now.image) }
+    ensures { (result ≡ answer_of (checking (program_in opened.now.definitions (records_of opened.now.image) opened.now.max_id))) × (Passed (program_in opened.now.definitions (records_of opened.now.image) 0) → rows.new ≡ sets rows.old 0 (rows_defs (defs_in opened.now.definitions (records_of opened.now.image)))) }
 {
-    if !all_records(image, frame, Alone::Plain) {
+    if !all_records(&opened.image, Alone::Plain) {
         return Err(Refusal::Linearized);
     }
-    if !within_limits(image, frame, defs) {
+    if !within_limits(opened) {
         return Err(Refusal::Limits);
     }
-    decide(walk_definitions(image, frame, defs, max_id, rows), max_id)
+    decide(walk_definitions(opened, rows), opened.max_id)
 }
 
 // Checks an image of a layout.
@@ -69,12 +70,5 @@ pub fn check(image: &[u8], layout: Layout) -> Answer
     ensures { result ≡ answer_of (check_of layout image.now) }
 {
     let opened = open(image, layout)?;
-    let mut none = [0u64; 1];
-    check_image(
-        image,
-        opened.frame,
-        opened.definitions,
-        opened.max_id,
-        &mut none,
-    )
+    check_image(&opened, &mut [])
 }

@@ -2,14 +2,15 @@
 ghost use Rattle.std.specs.Prelude.{◌≡◌, leb};
 ghost use Rattle.std.proofs.lemmas.List.Edits.{sets};
 ghost use Rattle.model.specs.Sizes.{depth_defs};
-ghost use Rattle.image_directory.specs.Slots.{Ready, records_in};
 ghost use Rattle.scope_spec.specs.Walk.{clean, walk_defs};
 ghost use Rattle.scope_spec.specs.FreeRows.{rows_defs};
 ghost use Rattle.scope_check.specs.Definitions.{defs_in, DefsStand};
 ghost use Rattle.scope_walk.specs.Masks.{SourcedDefs};
+ghost use Rattle.image_directory.specs.Images.{records_of};
 
 use image_directory::Frame;
 use image_kinds::kinds::Kind;
+use image_open::opened::Opened;
 use image_shape::statement as shape_statement;
 use scope_places::mask::put_row;
 use scope_spec::Verdict;
@@ -17,13 +18,13 @@ use scope_walk::walk::{Walked, enter_head, statement};
 use syntax::context::TypingContext;
 
 // Question 7: are the bodies of the d definitions at most 64 statements deep?
-pub fn all_shallow(image: &[u8], frame: Frame, defs: usize) -> bool
-    requires { Ready frame image.now × DefsStand 128 defs (records_in frame image.now) 0 (defs_in defs (records_in frame image.now)) }
-    ensures { result ≡ leb (depth_defs (defs_in defs (records_in frame image.now))) 64 }
+pub fn all_shallow(opened: &Opened<'_>) -> bool
+    requires { DefsStand 128 opened.now.definitions (records_of opened.now.image) 0 (defs_in opened.now.definitions (records_of opened.now.image)) }
+    ensures { result ≡ leb (depth_defs (defs_in opened.now.definitions (records_of opened.now.image))) 64 }
 {
     let mut at = 0;
-    for _ in 0..defs {
-        match shape_statement(image, frame, Frame::MAX_SOURCE_DEPTH, at + 1) {
+    for _ in 0..opened.definitions {
+        match shape_statement(&opened.image, Frame::MAX_SOURCE_DEPTH, at + 1) {
             Some(next) => at = next,
             None => return false,
         }
@@ -32,38 +33,37 @@ pub fn all_shallow(image: &[u8], frame: Frame, defs: usize) -> bool
 }
 
 // The d definitions, each of depth at most 64. Stores two masks for each record. (A mask past the end of the rows is left out.)
-pub fn walk_definitions(
-    image: &[u8],
-    frame: Frame,
-    defs: usize,
-    max_id: u32,
-    rows: &mut [u64],
-) -> Verdict
-    requires { Ready frame image.now × DefsStand 64 defs (records_in frame image.now) 0 (defs_in defs (records_in frame image.now)) }
-    ensures { (result ≡ walk_defs (defs_in defs (records_in frame image.now)) max_id clean) × (SourcedDefs (defs_in defs (records_in frame image.now)) → rows.new ≡ sets rows.old 0 (rows_defs (defs_in defs (records_in frame image.now)))) }
+pub fn walk_definitions(opened: &Opened<'_>, rows: &mut [u64]) -> Verdict
+    requires { DefsStand 64 opened.now.definitions (records_of opened.now.image) 0 (defs_in opened.now.definitions (records_of opened.now.image)) }
+    ensures { (result ≡ walk_defs (defs_in opened.now.definitions (records_of opened.now.image)) opened.now.max_id clean) × (SourcedDefs (defs_in opened.now.definitions (records_of opened.now.image)) → rows.new ≡ sets rows.old 0 (rows_defs (defs_in opened.now.definitions (records_of opened.now.image)))) }
 {
     let mut scope = [0u32; TypingContext::MAX];
-    let verdict = Verdict {
-        room: true,
-        binders: true,
-        uses: true,
-        ids: true,
-    };
     let mut here = Walked {
         next: 0,
-        verdict,
+        verdict: Verdict {
+            room: true,
+            binders: true,
+            uses: true,
+            ids: true,
+        },
         free: 0,
     };
-    for _ in 0..defs {
-        let e = enter_head(image, frame, Kind::DEFINITION, here, &mut scope, 0, max_id);
+    for _ in 0..opened.definitions {
+        let e = enter_head(
+            &opened.image,
+            Kind::Definition,
+            here,
+            &mut scope,
+            0,
+            opened.max_id,
+        );
         let b = statement(
-            image,
-            frame,
+            &opened.image,
             Frame::MAX_SOURCE_DEPTH,
             here.next + 1,
             &mut scope,
             e.n,
-            max_id,
+            opened.max_id,
             e.verdict,
             rows,
         );

@@ -1,17 +1,19 @@
 -- Scopes in a lent array, a place at a time; what stays of them; and what the walk finds at a binder, as the code holds it. (At a use:
 -- UseLaws.antt.) With room, the scope takes all that is bound (`entered_all`). Assumes nothing.
 use Prim.Native.Nat.{ℕ, zero, suc, ◌+◌, ◌≤◌, ◌<◌}
-use mathlib.Core.Path.{◌≡◌, refl, sym, ap, ◌∙◌, subst}
-use mathlib.Core.Bool.{Bool, false, not, ◌&&◌, ◌||◌}
+use mathlib.Core.Path.{◌≡◌, refl, sym, ap, ap₂, ◌∙◌, subst}
+use mathlib.Core.Bool.{Bool, not, ◌&&◌, ◌||◌}
 use mathlib.Core.List.{List, [], ◌∷◌, ◌++◌, map, map-append, append-nil, append_assoc}
 use native.Mathlib.Omega.{arith}
 use borrow.Author.Tests.{lt-ltb, le-ltb}
+use Rattle.std.specs.List.{list_any}
+use Rattle.std.proofs.lemmas.Bool.Decides.{nat_tests}
 use lib.Dec.{leb, eqb}
 use lib.ListN.{length, take, drop, set, get_or, length-append, length-map, length-take, length-set}
 use lib.Seq.{take-set-le, take-take}
 use Rattle.syntax.specs.Sets.{elem}
 use Rattle.syntax.specs.declared.names.VarId.{VarId}
-use Rattle.syntax.proofs.Lists.{rest, rest_cons, rest_end, take-stored}
+use Rattle.syntax.proofs.Lists.{take-stored}
 use Rattle.scope_spec.specs.declared.Verdict.{Verdict}
 use Rattle.scope_spec.specs.Walk.{Scoped, judged, full, enter_one_lem, enter_all}
 use Rattle.scope_places.specs.Scoping.{id_of, scope_in, ScopeAt, Kept, scoped_of, Entered}
@@ -19,12 +21,12 @@ use Rattle.scope_places.specs.declared.scoping.Entering.{Entering}
 
 -- ── a scope in a lent array ──
 
-pub in_step : (x : VarId) (xs : List ℕ) (n i : ℕ) → i < n → n ≤ length xs
-    → elem x (map id_of (rest xs n i)) ≡ (eqb x.0 (get_or xs i 0) || elem x (map id_of (rest xs n (i + 1))))
-in_step x xs n i h k = rw (rest_cons xs n i 0 h k)
-
-pub in_end : (x : VarId) (xs : List ℕ) (n i : ℕ) → n ≤ i → elem x (map id_of (rest xs n i)) ≡ false
-in_end x xs n i h = rw (rest_end xs n i h)
+pub in_scope : (x : VarId) (xs : List ℕ) → list_any (λ (y : ℕ). eqb y x.0) xs ≡ elem x (map id_of xs)
+in_scope x [] = refl
+in_scope x (y ∷ xs) = ap₂ ◌||◌ (swapped y x.0) (in_scope x xs)
+  where
+    swapped : (a b : ℕ) → eqb a b ≡ eqb b a
+    swapped a b = grind (arith, nat_tests)
 
 pub scope-count : {xs : List ℕ} {n : ℕ} → ScopeAt xs n → length (scope_in n xs) ≡ n
 scope-count {xs} {n} s = length-map (take n xs) id_of ∙ (length-take n xs ∙ omega (arith, s.small, s.room))
@@ -54,9 +56,6 @@ pub kept-ids : {n : ℕ} {xs ys : List ℕ} → Kept n xs ys → scope_in n ys �
 kept-ids k = ap (map id_of) k.first
 
 -- ── a binder ──
-
-pub entered_none : (xs : List ℕ) (e : Entering) → ScopeAt xs e.n → Entered e.n xs xs e (scoped_of xs e)
-entered_none xs e s = record { is = refl; scope = s; kept = kept-all e.n xs; more = omega arith }
 
 pub entered-same : (M : ℕ) (s : Scoped) {xs ys : List VarId} {n : ℕ} {before after : List ℕ} {e : Entering} → ys ≡ xs
     → Entered n before after e (enter_all M xs s) → Entered n before after e (enter_all M ys s)

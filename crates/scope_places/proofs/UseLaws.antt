@@ -1,10 +1,11 @@
 -- What the walk finds at a use, as the code holds it: the places of what was used, and the verdict. Assumes nothing.
 use Prim.Native.Nat.{ℕ, zero, suc, ◌+◌, ◌*◌, ◌/◌, ◌%◌, max}
 use mathlib.Core.Path.{◌≡◌, refl, sym, ap, ap₂, ◌∙◌}
-use mathlib.Core.Bool.{Bool, true, false, not, ◌&&◌, ◌||◌, or-false, false≢true}
+use mathlib.Core.Bool.{Bool, true, false, not, ◌&&◌, ◌||◌, or-false}
 use mathlib.Core.List.{List, [], ◌∷◌}
 use native.Mathlib.Omega.{arith}
-use borrow.Author.Tests.{eq-eqb, ne_eqb, eqb-true}
+use Rattle.std.proofs.lemmas.Bool.Decides.{nat_tests}
+use borrow.Author.Tests.{ne_eqb}
 use lib.Arith.{bin_ind}
 use lib.Bits.{bit_or, or_step, or_zero_r}
 use lib.Dec.{eqb}
@@ -37,11 +38,7 @@ or_assoc =
     ∙ sym (or_step n (bit_or b c)))
 
 eqb_swap : (a b : ℕ) → eqb a b ≡ eqb b a
-eqb_swap a b = go (eqb b a) refl
-  where
-    go : (t : Bool) → eqb b a ≡ t → eqb a b ≡ t
-    go true e = eq-eqb a b (sym (eqb-true b a e))
-    go false e = ne_eqb a b (λ q. false≢true (sym e ∙ eq-eqb b a (sym q)))
+eqb_swap a b = grind (arith, nat_tests)
 
 -- a mask is not 0 if its first bit is 1, or the others are not 0
 not_zero : (b : Bool) (m : ℕ) → not (eqb (bit b + 2 * m) 0) ≡ (b || not (eqb m 0))
@@ -73,9 +70,6 @@ used-more Δ x xs u =
     let e : bit_or u.mask (mask_of (x ∷ xs) Δ) ≡ bit_or (bit_or u.mask (mask_of (x ∷ []) Δ)) (mask_of xs Δ) =
     ap (bit_or u.mask) (mask-++ (x ∷ []) xs Δ) ∙ sym (or_assoc u.mask (mask_of (x ∷ []) Δ) (mask_of xs Δ)) in
     λ j. record { mask = e j; verdict = use_all Δ (x ∷ xs) u.verdict }
-
-pub used-same : (Δ : List VarId) (u : Using) {xs ys : List VarId} {r : Using} → ys ≡ xs → r ≡ used_all_lem Δ xs u → r ≡ used_all_lem Δ ys u
-used-same Δ u q h = h ∙ ap (λ (zs : List VarId). used_all_lem Δ zs u) (sym q)
 
 pub used_then : (Δ : List VarId) (u : Using) (x : VarId) (xs : List VarId) {v r : Using} → v ≡ used_all_lem Δ (x ∷ []) u → r ≡ used_all_lem Δ xs v → r ≡ used_all_lem Δ (x ∷ xs) u
 used_then Δ u x xs q h = h ∙ (ap (used_all_lem Δ xs) q ∙ sym (used-more Δ x xs u))

@@ -13,16 +13,9 @@ pub fn mask_one(scope: &[u32], n: usize, id: VarId) -> u64
     requires { ScopeAt scope.now n }
     ensures { result ≡ mask_of (id ∷ []) (scope_in n scope.now) }
 {
-    let x = id.0;
-    let mut mask: u64 = 0;
-    let mut i = n;
-    while 0 < i {
-        i = i - 1;
-        if scope[i] == x {
-            mask = mask + mask + 1;
-        } else {
-            mask = mask + mask;
-        }
+    let mut mask = 0;
+    for i in (0..n).rev() {
+        mask = 2 * mask + u64::from(scope[i] == id.0);
     }
     mask
 }

@@ -1,6 +1,6 @@
 // Scopes, and what the walk finds at a use and at a binder (questions 8, 9, 10, and the room of question 7).
 // A scope is the first n numbers of a lent array.
-ghost use Rattle.std.specs.Prelude.{◌≡◌, not, ◌&&◌, ◌∷◌, []};
+ghost use Rattle.std.specs.Prelude.{◌≡◌, ◌∷◌, []};
 ghost use Rattle.syntax.specs.Sets.{elem};
 ghost use Rattle.scope_spec.specs.Walk.{enter_one_lem};
 ghost use Rattle.scope_places.specs.Scoping.{scope_in, ScopeAt, used_all_lem, scoped_of, Entered};
@@ -24,32 +24,12 @@ pub struct Entering {
     pub verdict: Verdict,
 }
 
-fn both(a: bool, b: bool) -> bool
-    ensures { result ≡ (a && b) }
-{
-    if a { b } else { false }
-}
-
-fn negated(a: bool) -> bool
-    ensures { result ≡ not a }
-{
-    if a { false } else { true }
-}
-
 // Is the ID in scope?
 fn contains(scope: &[u32], n: usize, id: VarId) -> bool
     requires { ScopeAt scope.now n }
     ensures { result ≡ elem id (scope_in n scope.now) }
 {
-    let x = id.0;
-    let mut i = 0;
-    while i < n {
-        if x == scope[i] {
-            return true;
-        }
-        i += 1;
-    }
-    false
+    scope[..n].contains(&id.0)
 }
 
 // A variable is used.
@@ -58,17 +38,10 @@ pub fn use_one(scope: &[u32], n: usize, id: VarId, u: Using) -> Using
     ensures { result ≡ used_all_lem (scope_in n scope.now) (id ∷ []) u }
 {
     let one = mask_one(scope, n, id);
-    let v = u.verdict;
-    let uses = both(v.uses, one != 0);
-    let verdict = Verdict {
-        room: v.room,
-        binders: v.binders,
-        uses,
-        ids: v.ids,
-    };
+    let uses = u.verdict.uses && one != 0;
     Using {
         mask: u.mask | one,
-        verdict,
+        verdict: Verdict { uses, ..u.verdict },
     }
 }
 
@@ -77,25 +50,25 @@ pub fn enter_one(scope: &mut [u32], e: Entering, id: VarId, max_id: u32) -> Ente
     requires { ScopeAt scope.old e.n }
     ensures { Entered e.n scope.old scope.new result (enter_one_lem max_id id (scoped_of scope.old e)) }
 {
-    let n = e.n;
-    let v = e.verdict;
+    let Entering { n, verdict } = e;
     if n < TypingContext::MAX {
-        let binders = both(v.binders, negated(contains(scope, n, id)));
-        let ids = both(v.ids, id.0 <= max_id);
-        let verdict = Verdict {
-            room: v.room,
-            binders,
-            uses: v.uses,
-            ids,
-        };
+        let binders = verdict.binders && !contains(scope, n, id);
+        let ids = verdict.ids && id.0 <= max_id;
         scope[n] = id.0;
-        return Entering { n: n + 1, verdict };
+        return Entering {
+            n: n + 1,
+            verdict: Verdict {
+                binders,
+                ids,
+                ..verdict
+            },
+        };
     }
-    let verdict = Verdict {
-        room: false,
-        binders: v.binders,
-        uses: v.uses,
-        ids: v.ids,
-    };
-    Entering { n, verdict }
+    Entering {
+        n,
+        verdict: Verdict {
+            room: false,
+            ..verdict
+        },
+    }
 }

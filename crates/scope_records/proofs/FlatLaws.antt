@@ -1,6 +1,6 @@
 -- The questions of a record by its kind and the bytes of its tail, and over all records. Assumes nothing.
 use Prim.Native.Nat.{ℕ, zero, suc, ◌+◌, ◌≤◌, ◌<◌}
-use mathlib.Core.Path.{◌≡◌, refl}
+use mathlib.Core.Path.{◌≡◌, refl, sym, ◌∙◌}
 use mathlib.Core.Bool.{Bool, true, false, ◌&&◌, cond}
 use mathlib.Core.List.{List, [], ◌∷◌}
 use mathlib.Core.Option.{none, some}
@@ -12,6 +12,9 @@ use lib.Seq.{drop-cons}
 use Rattle.syntax.proofs.Bools.{both_true}
 use Rattle.image_spec.specs.Records.{Record, definition, substitute, call, let', switch, create, invoke, literal, op, ifc, clause', print, exit}
 use Rattle.image_spec.specs.Kinds.{kind_of, clauses_of, tail_bytes}
+use Rattle.image_kinds.specs.Codes.{code_of}
+use Rattle.image_kinds.specs.declared.kinds.Kind.{Kind}
+use Rattle.image_kinds.proofs.KindNames.{same_code}
 use Rattle.image_read_parts.specs.Standing.{head_of}
 use Rattle.scope_spec.specs.Flat.{all_records_lem, plain_record_lem, small_record_lem}
 use Rattle.scope_records.specs.Environments.{small_environment_lem}
@@ -67,6 +70,10 @@ small_is w (ifc c f x) = refl
 small_is w (clause' x Γ) = refl
 small_is w (print n v) = refl
 small_is w (exit v) = refl
+
+-- a record of this kind has no other kind's byte
+pub not_kind : (r : Record) {k : Kind} (other : Kind) → kind_of r ≡ code_of k → (k ≡ other → ⊥) → kind_of r ≡ code_of other → ⊥
+not_kind r other h n e = n (same_code _ other (sym h ∙ e))
 
 -- ── over all records ──
 

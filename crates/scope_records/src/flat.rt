@@ -2,14 +2,15 @@
 ghost use Rattle.std.specs.Prelude.{◌≡◌, ◌&&◌, ◌<◌, leb};
 ghost use Rattle.image_spec.specs.Kinds.{clauses_of};
 ghost use Rattle.scope_spec.specs.Flat.{all_records_lem, plain_record_lem, small_record_lem};
-ghost use Rattle.image_directory.specs.Slots.{Ready, records_in};
-ghost use Rattle.image_read_nodes.specs.Nodes.{record_at, At};
 ghost use Rattle.scope_records.specs.Environments.{small_environment_lem};
 ghost use Rattle.scope_records.specs.Tests.{test_of};
+ghost use Rattle.image_directory.specs.Images.{records_of};
+ghost use Rattle.image_read_nodes.specs.Opened.{record_of, IsAt};
 
 use image_directory::Frame;
+use image_directory::image::Image;
 use image_kinds::kinds::Kind;
-use image_read_parts::{byte, offset};
+use image_read_parts::byte;
 use image_shape::look;
 
 // What is asked of each record alone.
@@ -22,95 +23,64 @@ pub enum Alone {
 }
 
 // Question 6 of the record at index i.
-fn plain_record(image: &[u8], frame: Frame, i: usize) -> bool
-    requires { Ready frame image.now × (i < frame.count) }
-    ensures { result ≡ plain_record_lem (record_at frame image.now i) }
+fn plain_record(image: &Image<'_>, i: usize) -> bool
+    requires { i < image.now.frame.count }
+    ensures { result ≡ plain_record_lem (record_of image.now i) }
 {
-    let at = offset(image, frame, i);
-    let kind = image[at];
-    if kind == Kind::SUBSTITUTE {
-        return false;
+    match look(image, i).unwrap().kind {
+        Kind::Substitute => false,
+        Kind::Create => byte(image, i, Kind::Create.fixed(image.frame.id)) == 0,
+        _ => true,
     }
-    if kind == Kind::CREATE {
-        let w = frame.id;
-        return image[at + Kind::fixed(Kind::CREATE, w)] == 0;
-    }
-    true
 }
 
 // Has the environment of the Create at index i few bindings, if there is one?
-fn small_environment(image: &[u8], frame: Frame, i: usize) -> bool
-    requires { At frame image.now i 6 }
-    ensures { result ≡ small_environment_lem (record_at frame image.now i) }
+fn small_environment(image: &Image<'_>, i: usize) -> bool
+    requires { IsAt image.now i 6 }
+    ensures { result ≡ small_environment_lem (record_of image.now i) }
 {
-    let w = frame.id;
-    let mark = Kind::fixed(Kind::CREATE, w);
-    if byte(image, frame, i, mark) == 0 {
-        return true;
-    }
-    byte(image, frame, i, mark + 1) <= Frame::MAX_SOURCE_COUNT
+    let mark = Kind::Create.fixed(image.frame.id);
+    byte(image, i, mark) == 0 || byte(image, i, mark + 1) <= Frame::MAX_SOURCE_COUNT
 }
 
 // The counts in the Create at index i.
-fn small_create(image: &[u8], frame: Frame, i: usize) -> bool
-    requires { At frame image.now i 6 }
-    ensures { result ≡ (small_environment_lem (record_at frame image.now i) && leb (clauses_of (record_at frame image.now i)) 32) }
+fn small_create(image: &Image<'_>, i: usize) -> bool
+    requires { IsAt image.now i 6 }
+    ensures { result ≡ (small_environment_lem (record_of image.now i) && leb (clauses_of (record_of image.now i)) 32) }
 {
-    let node = look(image, frame, i).unwrap();
-    small_environment(image, frame, i) && node.clauses <= Frame::MAX_SOURCE_COUNT
+    let node = look(image, i).unwrap();
+    small_environment(image, i) && node.clauses <= Frame::MAX_SOURCE_COUNT
 }
 
 // The counts in the record at index i (question 7).
-fn small_record(image: &[u8], frame: Frame, i: usize) -> bool
-    requires { Ready frame image.now × (i < frame.count) }
-    ensures { result ≡ small_record_lem (record_at frame image.now i) }
+fn small_record(image: &Image<'_>, i: usize) -> bool
+    requires { i < image.now.frame.count }
+    ensures { result ≡ small_record_lem (record_of image.now i) }
 {
-    let at = offset(image, frame, i);
-    let kind = image[at];
-    if kind == Kind::LITERAL {
-        return true;
+    match look(image, i).unwrap().kind {
+        Kind::Literal | Kind::Op | Kind::IfC | Kind::Print | Kind::Exit => true,
+        Kind::Create => small_create(image, i),
+        kind => byte(image, i, kind.fixed(image.frame.id)) <= Frame::MAX_SOURCE_COUNT,
     }
-    if kind == Kind::OP {
-        return true;
-    }
-    if kind == Kind::IFC {
-        return true;
-    }
-    if kind == Kind::PRINT {
-        return true;
-    }
-    if kind == Kind::EXIT {
-        return true;
-    }
-    if kind == Kind::CREATE {
-        return small_create(image, frame, i);
-    }
-    let w = frame.id;
-    image[at + Kind::fixed(kind, w)] <= Frame::MAX_SOURCE_COUNT
 }
 
 // Does the record at index i pass?
-fn passes(image: &[u8], frame: Frame, i: usize, question: Alone) -> bool
-    requires { Ready frame image.now × (i < frame.count) }
-    ensures { result ≡ test_of question (record_at frame image.now i) }
+fn passes(image: &Image<'_>, i: usize, question: Alone) -> bool
+    requires { i < image.now.frame.count }
+    ensures { result ≡ test_of question (record_of image.now i) }
 {
     match question {
-        Alone::Plain => plain_record(image, frame, i),
-        Alone::Small => small_record(image, frame, i),
+        Alone::Plain => plain_record(image, i),
+        Alone::Small => small_record(image, i),
     }
 }
 
 // Does every record of the image pass?
-pub fn all_records(image: &[u8], frame: Frame, question: Alone) -> bool
-    requires { Ready frame image.now }
-    ensures { result ≡ all_records_lem (test_of question) (records_in frame image.now) }
+pub fn all_records(image: &Image<'_>, question: Alone) -> bool
+    ensures { result ≡ all_records_lem (test_of question) (records_of image.now) }
 {
-    let count = frame.count;
-    let mut i = 0;
-    while i < count {
-        if passes(image, frame, i, question) {
-            i += 1;
-        } else {
+    for i in 0..image.frame.count {
+        if !passes(image, i, question) {
             return false;
         }
     }

@@ -1,7 +1,7 @@
 -- The free variables of a statement are those that its record uses, those of its clauses and those of its bodies, but for what the record
 -- binds; so its mask comes from its uses and the masks behind it: `mask_stmt`, `mask_under`. A statement's rows are its record's, its
 -- clauses' and its bodies': `rows-view`, two numbers for each record. Assumes nothing.
-use Prim.Native.Nat.{ℕ, ◌+◌, ◌*◌, ◌%◌, ◌^◌}
+use Prim.Native.Nat.{ℕ, ◌*◌, ◌%◌, ◌^◌}
 use mathlib.Core.Path.{◌≡◌, refl, sym, ap, ◌∙◌}
 use mathlib.Core.Logic.{◌⊎◌, inl, inr}
 use mathlib.Core.List.{List, [], ◌∷◌, ◌++◌, append-nil, append_assoc}

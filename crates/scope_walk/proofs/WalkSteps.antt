@@ -54,6 +54,10 @@ bound-here {r = r} b Δ q M v xs e o a = entered_all M (binders r) Δ v (a ∙ a
 
 -- ── what is left of clauses ──
 
+-- the number that is left, as a loop that counts up says it
+pub recount-clauses : {d : ℕ} {rs : List Record} {place left more here : ℕ} {P : Clauses → Type 0} → left ≡ more → ClausesLeft d rs place left here P → ClausesLeft d rs place more here P
+recount-clauses {d} {rs} {place} {here = here} {P = P} e = subst (λ (n : ℕ). ClausesLeft d rs place n here P) e
+
 -- the walk of these clauses from here ends with this verdict
 pub record WalksClauses (Q : Type 0) (M : ℕ) (Δ : List VarId) (whole : Verdict) (free : ℕ) (stored rows : List ℕ) (here : Walked) (cs : Clauses) : Type 0 where
   pub same : whole ≡ walk_clauses cs M Δ here.verdict
@@ -88,6 +92,9 @@ module _ {d : ℕ} {rs : List Record} {Q : Type 0} {M : ℕ} {Δ : List VarId} {
   walked-clauses l h = let e = clauses-end l h in (record { next = e.0; verdict = sym e.1.same }, λ q. clauses_masked (e.1.masks q))
 
 -- ── what is left of bodies ──
+
+pub recount-bodies : {d : ℕ} {rs : List Record} {place left more here : ℕ} {P : List Stmt → Type 0} → left ≡ more → BodiesLeft d rs place left here P → BodiesLeft d rs place more here P
+recount-bodies {d} {rs} {place} {here = here} {P = P} e = subst (λ (n : ℕ). BodiesLeft d rs place n here P) e
 
 pub record WalksBodies (Q : Type 0) (M : ℕ) (Δ : List VarId) (whole : Verdict) (free : ℕ) (stored rows : List ℕ) (here : Walked) (ts : List Stmt) : Type 0 where
   pub same : whole ≡ walk_bodies ts M Δ here.verdict

@@ -2,12 +2,11 @@
 use Rattle.std.specs.Prelude.{ℕ, List, Result, Ok, Err}
 use Rattle.model.specs.Syntax.{Prog}
 use Rattle.image_spec.specs.Answers.{number_of}
-use Rattle.image_directory.specs.Slots.{Ready}
 use Rattle.step_spec.specs.Calls as calls
 use Rattle.step_spec.specs.Calls.{unchanged}
 use Rattle.step_spec.proofs.Stepping.{Readable}
-use Rattle.step_rule.specs.declared.Stepper.{Stepper}
-use Rattle.step_rule.specs.Rules.{ProgramOf}
+use Rattle.image_directory.specs.declared.Frame.{Frame}
+use Rattle.step_rule.specs.Rules.{ImageOf}
 use Rattle.step_answer_spec.specs.declared.Shown.{Shown}
 use Rattle.step_answer_spec.specs.declared.Failure.{Failure}
 use Rattle.step_answer_spec.specs.declared.Failure.TheVariants.{Refused, NoState, NoRoom}
@@ -20,8 +19,7 @@ result_of (Err (NoRoom s)) store events = record { number = 15; steps = s.steps;
 result_of (Ok s) store events = record { number = 0; steps = s.steps; length = s.length; store = store; events = events }
 
 -- an image whose questions were answered with yes: it is that of a program, which can be stepped
-pub record Accepted (stepper : Stepper) (bytes : List ℕ) : Type 0 where
+pub record Accepted (g : Frame) (D : ℕ) (bytes : List ℕ) : Type 0 where
   pub program : Prog
-  pub is : ProgramOf program stepper bytes
+  pub is : ImageOf program g D bytes
   pub readable : Readable program
-  pub ready : Ready stepper.frame bytes

@@ -1,10 +1,9 @@
 -- The questions of a stepper: an image that was opened, and the scope check of it. Assumes nothing.
 use Prim.Native.Nat.{ℕ}
-use mathlib.Core.Path.{◌≡◌, refl, sym, ap, ◌∙◌, subst}
+use mathlib.Core.Path.{◌≡◌, refl, sym, ap, ◌∙◌}
 use mathlib.Core.Bool.{Bool, true, false}
 use mathlib.Core.List.{List}
 use native.Mathlib.Omega.{arith}
-use Rattle.model.specs.Syntax.{Prog}
 use Rattle.image_spec.specs.declared.Layout.{Layout}
 use Rattle.image_spec.specs.declared.Refusal.{Refusal}
 use Rattle.std.specs.Prelude.{Ok, Err}
@@ -12,15 +11,16 @@ use Rattle.image_spec.specs.declared.Accepted.{Accepted}
 use Rattle.image_spec.specs.Answers.{Answer}
 use Rattle.image_spec.specs.Reading.{Reading, refuse, accept, reading, answer_of}
 use Rattle.image_directory.specs.Slots.{records_in}
+use Rattle.image_directory.specs.Images.{records_of}
 use Rattle.image_directory.specs.declared.Frame.{Frame}
+use Rattle.image_open.specs.declared.opened.Opened.{Opened}
 use Rattle.image_open.specs.Opening.{opened_by, opened_of}
 use Rattle.image_open.proofs.OpenedLaws.{IsOpened}
 use Rattle.scope_spec.specs.Calls.{after_reading, checking, check_of}
 use Rattle.scope_check.specs.Deciding.{program_in}
 use Rattle.scope_check.proofs.CheckLaws.{opened-answer}
 use Rattle.step_spec.proofs.Stepping.{checked_is}
-use Rattle.step_rule.specs.declared.Stepper.{Stepper}
-use Rattle.step_rule.specs.Rules.{ProgramOf}
+use Rattle.step_rule.specs.Rules.{ImageOf}
 use Rattle.step_ask.specs.Asking.{stepper_of, Asks, closed, opened}
 
 refused : (r : Reading) (q : Refusal) → answer_of r ≡ Err q → r ≡ refuse q
@@ -41,26 +41,27 @@ closed-asks L s b {q} e = closed (go b)
     go false = ap (λ (r : Reading). after_reading r checking) (read (reading L s) e)
 
 module _ {L : Layout} {s : List ℕ} {g : Frame} {D m : ℕ} (o : IsOpened L s g D m) where
-  abbrev stepper : Bool → Stepper
-  stepper b = record { frame = g; definitions = D; linear = b }
-
-  program-of : (b : Bool) → ProgramOf o.program (stepper b) s
-  program-of b = record { records = o.records; shallow = o.ok.shallow; count = sym o.count }
-
-  pub linear-asks : Asks L true s (Ok (stepper true))
-  linear-asks = opened o.program o.reads (program-of true) o.ready refl
+  image-of : ImageOf o.program g D s
+  image-of = record { records = o.records; shallow = o.ok.shallow; count = sym o.count }
 
   check_is : check_of L s ≡ checking o.program
   unfolding check_of
   check_is = ap (λ (r : Reading). after_reading r checking) o.reads
 
-  -- .. of a source, by what the scope check answers
-  pub source-asks : (r : Answer) (told : Accepted) → r ≡ answer_of (checking (program_in D (records_in g s) m)) → r ≡ Ok told → Asks L false s (Ok (stepper false))
-  source-asks r told e f = opened o.program (check_is ∙ go (checking o.program) refl (ap answer_of (sym check_is) ∙ (sym (e ∙ opened-answer o) ∙ f))) (program-of false) o.ready refl
+  -- what the scope check answers of a source
+  source_accepts : {r : Answer} {told : Accepted} → r ≡ answer_of (checking (program_in D (records_in g s) m)) → r ≡ Ok told → check_of L s ≡ accept o.program
+  source_accepts {r} {told} e f = check_is ∙ go (checking o.program) refl (ap answer_of (sym check_is) ∙ (sym (e ∙ opened-answer o) ∙ f))
     where
       go : (c : Reading) → checking o.program ≡ c → answer_of c ≡ Ok told → c ≡ accept o.program
       go (refuse q) p e = let z : ◌≡◌ {A = ℕ} 0 1 = cc (e) in absurd (omega arith)
       go (accept Q) p e = ap accept (sym (checked_is o.program Q p))
 
-  pub source-closed : (r : Answer) (q : Refusal) → r ≡ answer_of (checking (program_in D (records_in g s) m)) → r ≡ Err q → Asks L false s (Err q)
-  source-closed r q e f = closed (refused (check_of L s) q (sym (e ∙ opened-answer o) ∙ f))
+  pub source-closed : {r : Answer} {q : Refusal} → r ≡ answer_of (checking (program_in D (records_in g s) m)) → r ≡ Err q → Asks L false s (Err q)
+  source-closed {r} {q} e f = closed (refused (check_of L s) q (sym (e ∙ opened-answer o) ∙ f))
+
+module _ {L : Layout} (o : Opened) (is : IsOpened L o.image.bytes.now o.image.frame o.definitions o.max_id) where
+  pub linear-asks : Asks L true o.image.bytes.now (Ok o)
+  linear-asks = opened is.program is.reads (image-of is) refl
+
+  pub source-asks : {r : Answer} {told : Accepted} → r ≡ answer_of (checking (program_in o.definitions (records_of o.image) o.max_id)) → r ≡ Ok told → Asks L false o.image.bytes.now (Ok o)
+  source-asks e f = opened is.program (source_accepts is e f) (image-of is) refl

@@ -4,16 +4,15 @@ use Rattle.model.specs.Syntax.{Prog}
 use Rattle.image_spec.specs.declared.Layout.{Layout}
 use Rattle.image_spec.specs.declared.Refusal.{Refusal}
 use Rattle.image_spec.specs.Reading.{refuse, accept}
-use Rattle.image_directory.specs.Slots.{Ready}
 use Rattle.step_spec.specs.Calls as calls
-use Rattle.step_rule.specs.declared.Stepper.{Stepper}
-use Rattle.step_rule.specs.Rules.{ProgramOf}
+use Rattle.image_open.specs.declared.opened.Opened.{Opened}
+use Rattle.step_rule.specs.Rules.{ImageOf}
 
 -- document 02, A.2: the source stepper asks 1 to 10 first, the linear one 1 to 5
 abbrev pub stepper_of : (linear : Bool) → Layout → calls.Stepper
 stepper_of linear L = cond linear (calls.linear_stepper L) (calls.source_stepper L)
 
--- the image is refused; or it is that of a program
-pub data Asks (L : Layout) (linear : Bool) (bytes : List ℕ) : Result Stepper Refusal → Type 0 where
+-- the image is refused; or it is that of a program, and what was opened is that image
+pub data Asks (L : Layout) (linear : Bool) (bytes : List ℕ) : Result Opened Refusal → Type 0 where
   closed : {q : Refusal} → (stepper_of linear L).asks bytes ≡ refuse q → Asks L linear bytes (Err q)
-  opened : {s : Stepper} (P : Prog) → (stepper_of linear L).asks bytes ≡ accept P → ProgramOf P s bytes → Ready s.frame bytes → s.linear ≡ linear → Asks L linear bytes (Ok s)
+  opened : {o : Opened} (P : Prog) → (stepper_of linear L).asks bytes ≡ accept P → ImageOf P o.image.frame o.definitions bytes → o.image.bytes.now ≡ bytes → Asks L linear bytes (Ok o)

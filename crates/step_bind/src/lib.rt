@@ -4,7 +4,9 @@
 ghost use Rattle.std.specs.Prelude.{◌≡◌, cond, ◌+◌, ◌*◌, ◌≤◌, ◌<◌, ◌^◌, length};
 ghost use Rattle.step_header.specs.Headers.{Holds};
 ghost use Rattle.step_bind.specs.Binding.{Binds};
+ghost use Rattle.image_kinds.specs.Codes.{code_of};
 
+use image_kinds::kinds::Kind;
 use step_header::Header;
 use step_slots::{Slot, put_slot};
 use step_write::{EventHead, Step, Stop, finish};
@@ -23,12 +25,12 @@ pub fn bind(
     scratch: &mut [u8],
     header: Header,
     at: usize,
-    kind: u8,
+    kind: Kind,
     id: u32,
     payload: u64,
 ) -> Result<Step, Stop>
     requires { (header.position + 1 < 2 ^ 32) × (Holds store.old header × ((at ≤ length events.old) × (16 ≤ length scratch.old))) }
-    ensures { Binds linear store.old events.old header at kind id payload store.new events.new result }
+    ensures { Binds linear store.old events.old header at (code_of kind) id payload store.new events.new result }
 {
     let heap = header.heap as usize;
     let entries = header.entries as usize;

@@ -1,6 +1,6 @@
 -- What a call on an image answers, case by case. Assumes nothing.
 use Prim.Native.Nat.{ℕ, zero, suc}
-use mathlib.Core.Path.{◌≡◌, refl, sym, ap, ap₂, ◌∙◌, subst}
+use mathlib.Core.Path.{◌≡◌, refl, sym, ap, ◌∙◌}
 use mathlib.Core.Bool.{Bool, true, false, not, ◌&&◌, false≢true}
 use mathlib.Core.List.{List}
 use mathlib.Core.Option.{Option, none, some}
@@ -9,7 +9,7 @@ use Rattle.model.specs.Syntax.{Prog}
 use Rattle.model.specs.Machine.{Outcome, shows, silent, halts, stops}
 use Rattle.step_spec.specs.Located.{Machine, Located, Stepped, project, is_stop, unless_stopped, follow, located_step}
 use Rattle.step_spec.specs.Store.{state_from}
-use Rattle.step_spec.specs.Calls.{Result, Progress, stays, onward, making, space_number, made', step_from}
+use Rattle.step_spec.specs.Calls.{Progress, stays, onward, making, space_number, made', step_from}
 use Rattle.step_run.specs.declared.Ran.{Ran}
 use Rattle.step_run.specs.Runs.{Did}
 use Rattle.std.specs.Prelude.{Ok, Err}

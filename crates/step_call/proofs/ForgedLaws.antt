@@ -1,14 +1,13 @@
 -- Does the machine stop at a state whose flag is clear? Assumes nothing.
 use Prim.Native.Nat.{ℕ}
-use mathlib.Core.Path.{◌≡◌, refl, sym, ap, ap₂, ◌∙◌, subst}
+use mathlib.Core.Path.{◌≡◌, refl, sym, ap, ap₂, ◌∙◌}
 use mathlib.Core.Bool.{Bool, true, false, not, ◌&&◌, cond}
 use mathlib.Core.List.{List}
-use Rattle.model.specs.Syntax.{Prog}
-use Rattle.step_spec.specs.Located.{source_machine, linear_machine, Located, project, is_stop}
+use Rattle.step_spec.specs.Located.{source_machine, linear_machine, project, is_stop}
 use Rattle.step_spec.proofs.NeverStops.{source-never-stops}
 use Rattle.step_header.specs.declared.Header.{Header}
-use Rattle.step_rule.specs.declared.Stepper.{Stepper}
-use Rattle.step_rule.specs.Rules.{ProgramOf, machine_in, Reads}
+use Rattle.step_places.specs.declared.stepper.Stepper.{Stepper}
+use Rattle.step_rule.specs.Rules.{machine_in}
 use Rattle.step_order.specs.Stopping.{step_at, StopsBy}
 use Rattle.step_settle.proofs.SettleLaws.{ended-goes}
 use Rattle.step_rule.proofs.Views.{views}

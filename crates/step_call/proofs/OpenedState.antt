@@ -1,28 +1,26 @@
 -- A store that was opened is read as a state, whose header was read. Assumes nothing.
-use Prim.Native.Nat.{ℕ, ◌+◌, ◌*◌, ◌^◌, ◌<◌}
-use mathlib.Core.Path.{◌≡◌, refl, sym, ap, ◌∙◌}
-use mathlib.Core.Bool.{Bool, true, false}
+use Prim.Native.Nat.{ℕ}
+use mathlib.Core.Path.{◌≡◌, sym, ap, ◌∙◌}
 use mathlib.Core.List.{List, ◌++◌, append_assoc}
 use mathlib.Core.Option.{none, some}
 use Rattle.std.specs.Prelude.{Option, Some, None}
 use lib.ListN.{drop}
 use Rattle.model.specs.Syntax.{Prog}
 use Rattle.image_spec.specs.Parse.{got, each}
+use Rattle.image_directory.specs.declared.Frame.{Frame}
 use Rattle.step_slots.specs.Slots.{slot_bytes}
-use Rattle.step_spec.specs.Located.{Located}
 use Rattle.step_spec.specs.Store.{heap_of, environment_of, header_of, header_bytes, header_parser, raw_of, store_bytes, state_from}
 use Rattle.step_spec.specs.Store as store
 use Rattle.step_spec.proofs.Slots.{header_exact}
-use Rattle.step_spec.proofs.OneToOne.{Stores, only_its_bytes}
+use Rattle.step_spec.proofs.OneToOne.{only_its_bytes}
 use Rattle.step_header.specs.declared.Header.{Header}
 use Rattle.step_header.specs.Headers.{tuple_of}
 use Rattle.step_scan.specs.Pass.{Of, seen}
 use Rattle.step_open.specs.Opening.{seen_in, Opens}
-use Rattle.step_rule.specs.declared.Stepper.{Stepper}
-use Rattle.step_rule.specs.Rules.{ProgramOf, Reads}
+use Rattle.step_rule.specs.Rules.{ImageOf, Reads}
 
-module _ {P : Prog} {stepper : Stepper} {bytes s : List ℕ} {opened : Option Header} (p : ProgramOf P stepper bytes) (o : Opens stepper.frame bytes s opened) where
-  of : Of P stepper.frame bytes
+module _ {P : Prog} {g : Frame} {D : ℕ} {bytes s : List ℕ} {opened : Option Header} (p : ImageOf P g D bytes) (o : Opens g bytes s opened) where
+  of : Of P g bytes
   of = record { records = p.records }
 
   -- question 14's no

@@ -1,13 +1,14 @@
 -- Steps on an image whose questions were answered with yes.
 use Rattle.std.specs.Prelude.{ℕ, ◌≡◌, Bool, true, false, not, ◌&&◌, List, Result, Ok, Err}
 use Rattle.model.specs.Syntax.{Prog}
+use Rattle.image_open.specs.declared.opened.Opened.{Opened}
 use Rattle.step_spec.specs.Located.{Located, project, is_stop}
 use Rattle.step_spec.specs.Store.{state_from}
 use Rattle.step_spec.specs.Calls.{step_from}
 use Rattle.step_spec.proofs.Stepping.{Readable}
 use Rattle.step_header.specs.declared.Header.{Header}
-use Rattle.step_rule.specs.declared.Stepper.{Stepper}
-use Rattle.step_rule.specs.Rules.{ProgramOf, machine_in, Reads}
+use Rattle.step_places.specs.declared.stepper.Stepper.{Stepper}
+use Rattle.step_rule.specs.Rules.{ImageOf, ProgramOf, machine_for, machine_in, Reads}
 use Rattle.step_run.specs.declared.Ran.{Ran}
 use Rattle.step_answer_spec.specs.declared.Shown.{Shown}
 use Rattle.step_answer_spec.specs.declared.Failure.{Failure}
@@ -27,5 +28,5 @@ pub record Forged (stepper : Stepper) (bytes store : List ℕ) (h : Header) (b :
   pub is : (P : Prog) (l : Located) → ProgramOf P stepper bytes → Reads P store h l → b ≡ (not l.has_stopped && is_stop ((machine_in stepper).step P (project P l)))
 
 -- the steps and the answer are those of the definition, whatever program the image is that of
-pub record StepsOn (stepper : Stepper) (bytes : List ℕ) (n : ℕ) (store events store' events' : List ℕ) (r : Result Shown Failure) : Type 0 where
-  pub steps : (P : Prog) → ProgramOf P stepper bytes → Readable P → result_of r store' events' ≡ step_from (machine_in stepper) P n (state_from P store) store events
+pub record StepsOn (linear : Bool) (o : Opened) (n : ℕ) (store events store' events' : List ℕ) (r : Result Shown Failure) : Type 0 where
+  pub steps : (P : Prog) → ImageOf P o.image.frame o.definitions o.image.bytes.now → Readable P → result_of r store' events' ≡ step_from (machine_for linear) P n (state_from P store) store events

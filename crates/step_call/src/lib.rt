@@ -2,16 +2,15 @@
 #![tactic(auto)]
 
 ghost use Rattle.std.specs.Prelude.{◌≡◌, ◌<◌};
-ghost use Rattle.image_directory.specs.Slots.{Ready, records_in};
 ghost use Rattle.image_open.specs.Opening.{Known};
 ghost use Rattle.step_spec.specs.Calls.{step_call_lem};
 ghost use Rattle.step_header.specs.Headers.{Holds};
-ghost use Rattle.step_places.specs.Ends.{Ends};
 ghost use Rattle.step_order.specs.Sure.{SureIn};
 ghost use Rattle.step_ask.specs.Asking.{stepper_of};
 ghost use Rattle.step_answer_spec.specs.Saying.{result_of, Accepted};
 ghost use Rattle.step_call.specs.Stepping.{said_of, Forged, StepsOn};
 
+use image_open::opened::Opened;
 use image_spec::Layout;
 use step_answer_spec::{Failure, Shown};
 use step_ask::ask;
@@ -20,30 +19,27 @@ use step_open::open_store;
 use step_order::list::entries_row;
 use step_order::stops;
 use step_places::ends::fill_ends;
+use step_places::stepper::Stepper;
 use step_rows::distinct;
-use step_rule::Stepper;
 use step_run::{Ran, run};
 
 // Does the machine stop at the state, though its flag is clear? No call leaves such a store.
-fn is_forged(image: &[u8], stepper: Stepper, ends: &[u32], store: &[u8], header: Header) -> bool
-    requires { Ready stepper.frame image.now × ((header.position < stepper.frame.count) × (Holds store.now header × Ends (records_in stepper.frame image.now) ends.now)) }
-    ensures { Forged stepper image.now store.now header result }
+fn is_forged(stepper: &Stepper<'_>, store: &[u8], header: Header) -> bool
+    requires { (header.position < stepper.now.image.frame.count) × Holds store.now header }
+    ensures { Forged stepper.now stepper.now.image.bytes.now store.now header result }
 {
     if header.ended || header.stopped || !stepper.linear {
         return false;
     }
-    stops(image, stepper, ends, store, header, false)
+    stops(stepper, store, header, false)
 }
 
 // Are the IDs of the linear machine's list distinct? It is asked once a call: steps keep them so.
-fn is_sure(stepper: Stepper, store: &[u8], header: Header) -> bool
+fn is_sure(stepper: &Stepper<'_>, store: &[u8], header: Header) -> bool
     requires { Holds store.now header }
-    ensures { SureIn stepper result store.now header }
+    ensures { SureIn stepper.now result store.now header }
 {
-    if stepper.linear {
-        return distinct(store, entries_row(store, header));
-    }
-    false
+    stepper.linear && distinct(store, entries_row(store, header))
 }
 
 fn answer(ran: Ran) -> Result<Shown, Failure>
@@ -61,38 +57,33 @@ fn answer(ran: Ran) -> Result<Shown, Failure>
 
 // At most so many steps on an image whose questions were answered with yes.
 fn step_on(
-    image: &[u8],
-    stepper: Stepper,
+    opened: &Opened<'_>,
+    linear: bool,
     steps: u64,
     store: &mut [u8],
     events: &mut [u8],
 ) -> Result<Shown, Failure>
-    requires { Accepted stepper image.now }
-    ensures { StepsOn stepper image.now steps store.old events.old store.new events.new result }
+    requires { Accepted opened.now.image.frame opened.now.definitions opened.now.image.bytes.now }
+    ensures { StepsOn linear opened.now steps store.old events.old store.new events.new result }
 {
-    let frame = stepper.frame;
-    let header = open_store(image, frame, store).ok_or(Failure::NoState)?;
+    let header = open_store(&opened.image, store).ok_or(Failure::NoState)?;
     let mut ends = [0u32; 4000];
-    fill_ends(image, frame, &mut ends);
-    if is_forged(image, stepper, &ends, store, header) {
+    fill_ends(&opened.image, &mut ends);
+    let stepper = Stepper {
+        image: opened.image,
+        ends: &ends,
+        definitions: opened.definitions,
+        linear,
+    };
+    if is_forged(&stepper, store, header) {
         return Ok(Shown {
             steps: 0,
             length: 0,
         });
     }
-    let sure = is_sure(stepper, store, header);
+    let sure = is_sure(&stepper, store, header);
     let mut scratch = [0u8; 2080];
-    answer(run(
-        image,
-        stepper,
-        &ends,
-        store,
-        events,
-        &mut scratch,
-        header,
-        steps,
-        sure,
-    ))
+    answer(run(&stepper, store, events, &mut scratch, header, steps, sure))
 }
 
 // At most so many steps of the source or the linear stepper.
@@ -107,6 +98,6 @@ pub fn step(
     requires { Known layout }
     ensures { result_of result store.new events.new ≡ step_call_lem (stepper_of linear layout) image.now steps store.old events.old }
 {
-    let stepper = ask(image, layout, linear)?;
-    step_on(image, stepper, steps, store, events)
+    let opened = ask(image, layout, linear)?;
+    step_on(&opened, linear, steps, store, events)
 }

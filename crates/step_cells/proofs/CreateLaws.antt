@@ -18,6 +18,7 @@ use Rattle.image_places_spec.specs.Places.{ClausesStand}
 use Rattle.image_places_spec.proofs.PlaceLaws.{stmt-parts, head-within}
 use Rattle.image_directory.specs.Slots as image
 use Rattle.image_directory.specs.Slots.{Ready}
+use Rattle.image_directory.specs.declared.Frame.{Frame}
 use Rattle.image_directory.proofs.Places.{records-length}
 use Rattle.image_read_parts.specs.Standing.{head_of}
 use Rattle.image_read_nodes.specs.Nodes.{record_at, At}
@@ -26,18 +27,17 @@ use Rattle.step_spec.specs.Store.{first_record, is_a_create, create_at}
 use Rattle.step_spec.proofs.Lists.{all-at}
 use Rattle.step_spec.proofs.Standing.{Stands, KeptStands}
 use Rattle.step_header.specs.declared.Header.{Header}
-use Rattle.step_rule.specs.declared.Stepper.{Stepper}
-use Rattle.step_rule.specs.Rules.{ProgramOf, Stored}
+use Rattle.step_rule.specs.Rules.{ImageOf, Stored}
 use Rattle.step_rule.proofs.Statements.{placed}
 use Rattle.step_cells.specs.declared.Cell.{Cell}
 use Rattle.step_cells.proofs.CellLaws.{OfCreate}
 
 -- the statement at this place is a Create: its record can be read, and it stands there with its clauses
-pub record Created (P : Prog) (stepper : Stepper) (bytes : List ℕ) (place : ℕ) : Type 0 where
-  pub at : At stepper.frame bytes place 6
+pub record Created (P : Prog) (g : Frame) (bytes : List ℕ) (place : ℕ) : Type 0 where
+  pub at : At g bytes place 6
   pub stands : Stands P place
-  pub is : record_at stepper.frame bytes place ≡ record_of (stmt_in P place)
-  pub clauses : ClausesStand (max_depth - 1) (clauses_of (record_at stepper.frame bytes place)) (image.records_in stepper.frame bytes) (place + 1) (clauses_in (stmt_in P place))
+  pub is : record_at g bytes place ≡ record_of (stmt_in P place)
+  pub clauses : ClausesStand (max_depth - 1) (clauses_of (record_at g bytes place)) (image.records_in g bytes) (place + 1) (clauses_in (stmt_in P place))
 
 create-kind : (r : Record) → is_a_create r ≡ eqb (kind_of r) 6
 create-kind (definition x Γ) = refl
@@ -58,20 +58,19 @@ create-first : (rs : List Record) → first_record is_a_create rs ≡ true → k
 create-first [] e = absurd (false≢true e)
 create-first (r ∷ rs) e = eqb-true (kind_of r) 6 (sym (create-kind r) ∙ e)
 
-module _ {M : Machine} {P : Prog} {stepper : Stepper} {bytes store : List ℕ} {h : Header} {l : Located} (p : ProgramOf P stepper bytes) (o : Stored M P store h l) where
-  pub created : {w : Option Value} {r : Cell} → Ready stepper.frame bytes → OfCreate P store h l w r → Created P stepper bytes r.id
+module _ {M : Machine} {P : Prog} {g : Frame} {definitions : ℕ} {bytes store : List ℕ} {h : Header} {l : Located} (p : ImageOf P g definitions bytes) (o : Stored M P store h l) where
+  pub created : {w : Option Value} {r : Cell} → Ready g bytes → OfCreate P store h l w r → Created P g bytes r.id
   unfolding create_at
   created {r = r} ready c =
       let i = r.id in
-      let rs = image.records_in stepper.frame bytes in
+      let rs = image.records_in g bytes in
       let s : Stands P i × (create_at P i ≡ true) = all-at (KeptStands P) l.cells r.number (made i c.entries) (placed p o).cells c.kept in
       let parts = stmt-parts s.0 in
-      let is : record_at stepper.frame bytes i ≡ record_of (stmt_in P i) = ap (λ (rs : List Record). head_of (drop i rs)) p.records ∙ ap head_of parts.head in
+      let is : record_at g bytes i ≡ record_of (stmt_in P i) = ap (λ (rs : List Record). head_of (drop i rs)) p.records ∙ ap head_of parts.head in
       let f : first_record is_a_create (drop i rs) ≡ true = ap (λ (rs : List Record). first_record is_a_create (drop i rs)) p.records ∙ s.1 in
       record {
         at = record {
-          ready = ready;
-          inside = omega (arith, head-within (records_in P) i _ parts.head, ap length p.records, records-length stepper.frame bytes ready);
+          inside = omega (arith, head-within (records_in P) i _ parts.head, ap length p.records, records-length g bytes ready);
           kind = create-first (drop i rs) f;
         };
         stands = s.0;

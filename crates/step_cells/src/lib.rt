@@ -55,10 +55,7 @@ pub fn cell_of(store: &[u8], header: Header, value: Slot) -> Cell
 {
     let heap = header.heap as usize;
     let at = value.payload as usize;
-    if value.sort != 1 {
-        return no_cell();
-    }
-    if heap <= at {
+    if value.sort != 1 || heap <= at {
         return no_cell();
     }
     let own = read(store, 64 + 16 * at);

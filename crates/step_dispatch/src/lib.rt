@@ -2,14 +2,13 @@
 #![tactic(auto)]
 
 ghost use Rattle.std.specs.Prelude.{◌<◌};
-ghost use Rattle.image_directory.specs.Slots.{records_in};
 ghost use Rattle.step_spec.specs.Located.{source_machine, linear_machine};
-ghost use Rattle.step_places.specs.Ends.{Ends};
 ghost use Rattle.step_rule.specs.Rules.{Given, machine_in, MakesAs};
+ghost use Rattle.image_kinds.specs.Codes.{code_of};
 
 use image_kinds::kinds::Kind;
 use step_header::Header;
-use step_rule::Stepper;
+use step_places::stepper::Stepper;
 use step_statement_call::call;
 use step_statement_create::create;
 use step_statement_exit::exit::exit;
@@ -25,106 +24,78 @@ use step_write::{Step, Stop};
 
 // The statements whose rules are the source machine's alone. (It has none for a Substitute.)
 fn source(
-    image: &[u8],
-    stepper: Stepper,
-    ends: &[u32],
+    stepper: &Stepper<'_>,
     store: &mut [u8],
     events: &mut [u8],
     scratch: &mut [u8],
     header: Header,
     at: usize,
-    kind: u8,
+    kind: Kind,
 ) -> Result<Step, Stop>
-    requires { Given stepper image.now store.old events.old scratch.old header at kind × (Ends (records_in stepper.frame image.now) ends.now × (kind < 8)) }
-    ensures { MakesAs source_machine stepper image.now store.old events.old header at store.new events.new result }
+    requires { Given stepper.now stepper.now.image.bytes.now store.old events.old scratch.old header at (code_of kind) × (code_of kind < 8) }
+    ensures { MakesAs source_machine stepper.now stepper.now.image.bytes.now store.old events.old header at store.new events.new result }
 {
     match kind {
-        3 => call::source(image, stepper, ends, store, events, scratch, header, at),
-        4 => let_::source(image, stepper, store, events, scratch, header, at),
-        5 => switch::source(image, stepper, ends, store, events, scratch, header, at),
-        6 => create::source(image, stepper, ends, store, events, header, at),
-        7 => invoke::source(image, stepper, ends, store, events, scratch, header, at),
+        Kind::Call => call::source(stepper, store, events, scratch, header, at),
+        Kind::Let => let_::source(stepper, store, events, scratch, header, at),
+        Kind::Switch => switch::source(stepper, store, events, scratch, header, at),
+        Kind::Create => create::source(stepper, store, events, header, at),
+        Kind::Invoke => invoke::source(stepper, store, events, scratch, header, at),
         _ => Err(Stop::NoStep),
     }
 }
 
 // The statements whose rules are the linear machine's alone.
 fn linear(
-    image: &[u8],
-    stepper: Stepper,
-    ends: &[u32],
+    stepper: &Stepper<'_>,
     store: &mut [u8],
     events: &mut [u8],
     scratch: &mut [u8],
     header: Header,
     at: usize,
-    kind: u8,
+    kind: Kind,
 ) -> Result<Step, Stop>
-    requires { Given stepper image.now store.old events.old scratch.old header at kind × (Ends (records_in stepper.frame image.now) ends.now × (kind < 8)) }
-    ensures { MakesAs linear_machine stepper image.now store.old events.old header at store.new events.new result }
+    requires { Given stepper.now stepper.now.image.bytes.now store.old events.old scratch.old header at (code_of kind) × (code_of kind < 8) }
+    ensures { MakesAs linear_machine stepper.now stepper.now.image.bytes.now store.old events.old header at store.new events.new result }
 {
     match kind {
-        2 => substitute::linear(image, stepper, store, events, scratch, header, at),
-        3 => call::linear(image, stepper, ends, store, events, scratch, header, at),
-        4 => let_::linear(image, stepper, store, events, scratch, header, at),
-        5 => switch::linear(image, stepper, ends, store, events, scratch, header, at),
-        6 => create::linear(image, stepper, ends, store, events, scratch, header, at),
-        7 => invoke::linear(image, stepper, ends, store, events, scratch, header, at),
-        _ => Err(Stop::NoStep),
-    }
-}
-
-// The statements with one rule for both machines.
-fn either(
-    image: &[u8],
-    stepper: Stepper,
-    ends: &[u32],
-    store: &mut [u8],
-    events: &mut [u8],
-    scratch: &mut [u8],
-    header: Header,
-    at: usize,
-    kind: u8,
-) -> Result<Step, Stop>
-    requires { Given stepper image.now store.old events.old scratch.old header at kind × (Ends (records_in stepper.frame image.now) ends.now × (7 < kind)) }
-    ensures { MakesAs (machine_in stepper) stepper image.now store.old events.old header at store.new events.new result }
-{
-    match kind {
-        8 => literal(image, stepper, store, events, scratch, header, at),
-        9 => op(image, stepper, store, events, scratch, header, at),
-        10 => ifc(image, stepper, ends, store, events, scratch, header, at),
-        12 => print(image, stepper, store, events, scratch, header, at),
-        13 => exit(image, stepper, store, events, scratch, header, at),
+        Kind::Substitute => substitute::linear(stepper, store, events, scratch, header, at),
+        Kind::Call => call::linear(stepper, store, events, scratch, header, at),
+        Kind::Let => let_::linear(stepper, store, events, scratch, header, at),
+        Kind::Switch => switch::linear(stepper, store, events, scratch, header, at),
+        Kind::Create => create::linear(stepper, store, events, scratch, header, at),
+        Kind::Invoke => invoke::linear(stepper, store, events, scratch, header, at),
         _ => Err(Stop::NoStep),
     }
 }
 
 // The step of the statement at the header's position, of this kind.
 pub fn statement(
-    image: &[u8],
-    stepper: Stepper,
-    ends: &[u32],
+    stepper: &Stepper<'_>,
     store: &mut [u8],
     events: &mut [u8],
     scratch: &mut [u8],
     header: Header,
     at: usize,
-    kind: u8,
+    kind: Kind,
 ) -> Result<Step, Stop>
-    requires { Given stepper image.now store.old events.old scratch.old header at kind × Ends (records_in stepper.frame image.now) ends.now }
-    ensures { MakesAs (machine_in stepper) stepper image.now store.old events.old header at store.new events.new result }
+    requires { Given stepper.now stepper.now.image.bytes.now store.old events.old scratch.old header at (code_of kind) }
+    ensures { MakesAs (machine_in stepper.now) stepper.now stepper.now.image.bytes.now store.old events.old header at store.new events.new result }
 {
-    if Kind::INVOKE < kind {
-        return either(
-            image, stepper, ends, store, events, scratch, header, at, kind,
-        );
+    match kind {
+        Kind::Literal => literal(stepper, store, events, scratch, header, at),
+        Kind::Op => op(stepper, store, events, scratch, header, at),
+        Kind::IfC => ifc(stepper, store, events, scratch, header, at),
+        Kind::Print => print(stepper, store, events, scratch, header, at),
+        Kind::Exit => exit(stepper, store, events, scratch, header, at),
+        // No statement has such a record.
+        Kind::Definition | Kind::Clause => Err(Stop::NoStep),
+        _ => {
+            if stepper.linear {
+                linear(stepper, store, events, scratch, header, at, kind)
+            } else {
+                source(stepper, store, events, scratch, header, at, kind)
+            }
+        }
     }
-    if stepper.linear {
-        return linear(
-            image, stepper, ends, store, events, scratch, header, at, kind,
-        );
-    }
-    source(
-        image, stepper, ends, store, events, scratch, header, at, kind,
-    )
 }

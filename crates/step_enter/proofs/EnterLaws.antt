@@ -12,6 +12,7 @@ use Rattle.syntax.specs.declared.names.VarId.{VarId}
 use Rattle.syntax.proofs.Filters.{ids-length}
 use Rattle.image_spec.specs.Parse.{each}
 use Rattle.image_spec.specs.Fields.{max_count}
+use Rattle.image_directory.specs.Slots.{Ready}
 use Rattle.image_directory.specs.declared.Frame.{Frame}
 use Rattle.image_read_parts.specs.Parts.{list_of}
 use Rattle.image_read_nodes.specs.Nodes as nodes
@@ -37,10 +38,10 @@ use Rattle.step_write.proofs.Regions.{taken-put}
 use Rattle.step_enter.specs.Entering.{entered, Enters}
 
 -- a record's list has at most 128 bindings
-pub list-short : {g : Frame} {s : List ℕ} {i k : ℕ} {row : Row} → nodes.At g s i k → has_list k ≡ true → RowOf s row (ids (list_of (record_at g s i))) → row.len ≤ max_count
-list-short {g} {s} {i} {k} a h r =
+pub list-short : {g : Frame} {s : List ℕ} {i k : ℕ} {row : Row} → Ready g s → nodes.At g s i k → has_list k ≡ true → RowOf s row (ids (list_of (record_at g s i))) → row.len ≤ max_count
+list-short {g} {s} {i} {k} ready a h r =
     let Γ = list_of (record_at g s i) in
-    omega (arith, (list-stands g.id (record_at g s i) k a.kind h (record_ok g s i k a)).fits.0, row-length r, ids-length Γ)
+    omega (arith, (list-stands g.id (record_at g s i) k a.kind h (record_ok g s i k ready a)).fits.0, row-length r, ids-length Γ)
 
 -- slots that were copied
 pub fetched : (store : List ℕ) (from n : ℕ) {scratch scratch' : List ℕ} {r : ℕ} → all_slots (slots_at store from n) ≡ true → 16 * n ≤ length scratch

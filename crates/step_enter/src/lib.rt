@@ -2,24 +2,24 @@
 #![tactic(auto)]
 
 ghost use Rattle.std.specs.Prelude.{◌≡◌, true, ◌+◌, ◌*◌, ◌≤◌, ◌<◌, length};
-ghost use Rattle.image_directory.specs.Slots.{Ready, records_in};
 ghost use Rattle.image_read_nodes.specs.Nodes.{has_list};
 ghost use Rattle.step_slots.specs.Views.{slots_at, all_slots};
 ghost use Rattle.step_header.specs.Headers.{Holds};
-ghost use Rattle.step_places.specs.Ends.{Ends};
 ghost use Rattle.step_places.specs.Searches.{PlaceOf};
 ghost use Rattle.step_rows.specs.Rows.{ids_in, Inside};
 ghost use Rattle.step_gather.specs.Gathering.{renamed};
 ghost use Rattle.step_write.specs.Writing.{head_bytes};
 ghost use Rattle.step_enter.specs.Entering.{ParametersOf, ClauseOf, Enters};
+ghost use Rattle.image_kinds.specs.Codes.{code_of};
 
-use image_directory::Frame;
+use image_directory::image::Image;
 use image_kinds::kinds::Kind;
 use image_read_nodes::parts_of;
 use image_write_bytes::bytes::copy;
 use step_gather::rename;
 use step_header::Header;
 use step_places::search::find_clause;
+use step_places::stepper::Stepper;
 use step_rows::Row;
 use step_rows::records::list_row;
 use step_write::{EventHead, Step, Stop, finish};
@@ -32,17 +32,12 @@ pub struct Parameters {
 }
 
 // The parameters of the clause or definition that was found.
-pub fn parameters_of(
-    image: &[u8],
-    frame: Frame,
-    found: Option<usize>,
-    kind: u8,
-) -> Option<Parameters>
-    requires { PlaceOf frame image.now kind found × (has_list kind ≡ true) }
-    ensures { ParametersOf frame image.now found result }
+pub fn parameters_of(image: &Image<'_>, found: Option<usize>, kind: Kind) -> Option<Parameters>
+    requires { PlaceOf image.now.frame image.now.bytes.now (code_of kind) found × (has_list (code_of kind) ≡ true) }
+    ensures { ParametersOf image.now.frame image.now.bytes.now found result }
 {
     let j = found?;
-    let row = list_row(image, frame, j, kind);
+    let row = list_row(image, j, kind);
     Some(Parameters {
         row,
         body: (j + 1) as u32,
@@ -50,20 +45,14 @@ pub fn parameters_of(
 }
 
 // The parameters of the first clause with this tag of the statement at this place.
-pub fn clause_of(
-    image: &[u8],
-    frame: Frame,
-    ends: &[u32],
-    place: u32,
-    tag: u32,
-) -> Option<Parameters>
-    requires { Ready frame image.now × ((place < frame.count) × Ends (records_in frame image.now) ends.now) }
-    ensures { ClauseOf frame image.now place tag result }
+pub fn clause_of(stepper: &Stepper<'_>, place: u32, tag: u32) -> Option<Parameters>
+    requires { place < stepper.now.image.frame.count }
+    ensures { ClauseOf stepper.now.image.frame stepper.now.image.bytes.now place tag result }
 {
     let i = place as usize;
-    let follows = parts_of(image, frame, i);
-    let found = find_clause(image, frame, ends, i + 1, follows.clauses, tag);
-    parameters_of(image, frame, found, Kind::CLAUSE)
+    let follows = parts_of(&stepper.image, i);
+    let found = find_clause(stepper, i + 1, follows.clauses, tag);
+    parameters_of(&stepper.image, found, Kind::Clause)
 }
 
 // The n slots of the store from `from`, at the beginning of scratch.

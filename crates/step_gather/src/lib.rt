@@ -12,7 +12,6 @@ ghost use Rattle.step_rows.specs.Rows.{ids_in, Inside};
 ghost use Rattle.step_gather.specs.Gathering.{Gathers, renamed, shown_as};
 
 use step_entries::find;
-use step_header::place;
 use step_rows::{Row, id_of};
 use step_slots::{Slot, put_four, put_slot, read};
 
@@ -81,7 +80,7 @@ fn shown(store: &[u8], heap: usize, t: Slot) -> Slot
     let sort = t.sort;
     let payload = t.payload;
     if sort == 1 {
-        let at = place(payload);
+        let at = payload as usize;
         if at < heap {
             let cell = read(store, 64 + 16 * at);
             return Slot {

@@ -81,17 +81,3 @@ pub fn put_header(out: &mut [u8], h: Header) -> usize
     let end = put_long(out, entries, h.entries);
     put_zeros(out, end)
 }
-
-// A count as an index.
-pub fn place(n: u64) -> usize
-    ensures { result ≡ n }
-{
-    n as usize
-}
-
-// An index as a count.
-pub fn long_count(n: usize) -> u64
-    ensures { result ≡ n }
-{
-    n as u64
-}

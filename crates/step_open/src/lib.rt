@@ -3,11 +3,10 @@
 
 ghost use Rattle.std.specs.Prelude.{◌≡◌, ◌+◌, ◌*◌, ◌≤◌, leb, length};
 ghost use Rattle.model.specs.Syntax.{Prog};
-ghost use Rattle.image_directory.specs.Slots.{Ready};
 ghost use Rattle.step_scan.specs.Pass.{Of};
 ghost use Rattle.step_open.specs.Opening.{slots_formed, Opens};
 
-use image_directory::Frame;
+use image_directory::image::Image;
 use step_header::{Header, read_header};
 use step_scan::{cells_ok, entries_ok, is_statement};
 
@@ -21,26 +20,25 @@ fn counts_inside(len: usize, header: Header) -> bool
 }
 
 // Are the record at the position, the cells and the environment those of a state?
-fn is_formed(image: &[u8], frame: Frame, store: &[u8], header: Header) -> bool
-    requires { Ready frame image.now × (64 + 16 * header.heap + 16 * header.entries ≤ length store.now) }
-    ensures { (P : Prog) → Of P frame image.now → result ≡ slots_formed P store.now header }
+fn is_formed(image: &Image<'_>, store: &[u8], header: Header) -> bool
+    requires { 64 + 16 * header.heap + 16 * header.entries ≤ length store.now }
+    ensures { (P : Prog) → Of P image.now.frame image.now.bytes.now → result ≡ slots_formed P store.now header }
 {
     let heap = header.heap as usize;
-    is_statement(image, frame, header.position)
-        && cells_ok(image, frame, store, header.cells, heap)
+    is_statement(image, header.position)
+        && cells_ok(image, store, header.cells, heap)
         && entries_ok(store, heap, header.entries as usize)
 }
 
 // The header of the state that the store begins with, if it begins with one.
-pub fn open_store(image: &[u8], frame: Frame, store: &[u8]) -> Option<Header>
-    requires { Ready frame image.now }
-    ensures { Opens frame image.now store.now result }
+pub fn open_store(image: &Image<'_>, store: &[u8]) -> Option<Header>
+    ensures { Opens image.now.frame image.now.bytes.now store.now result }
 {
     if store.len() < 64 {
         return None;
     }
     let header = read_header(store)?;
-    if counts_inside(store.len(), header) && is_formed(image, frame, store, header) {
+    if counts_inside(store.len(), header) && is_formed(image, store, header) {
         return Some(header);
     }
     None

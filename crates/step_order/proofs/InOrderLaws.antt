@@ -13,6 +13,7 @@ use Rattle.model.specs.Syntax.{Stmt, Prog}
 use Rattle.model.specs.Machine.{Value, int, cell, outside, Entries, keys}
 use Rattle.model.specs.Linear.{before_last, ends_in_lem, in_order_lem}
 use Rattle.image_spec.specs.Records.{Record}
+use Rattle.image_directory.specs.declared.Frame.{Frame}
 use Rattle.image_read_nodes.specs.Nodes.{record_at}
 use Rattle.step_slots.specs.Slots.{value_slot}
 use Rattle.step_spec.specs.Located.{Machine, Located, stmt_in}
@@ -20,8 +21,7 @@ use Rattle.step_spec.specs.Store.{place_of, entry_slot, environment_of}
 use Rattle.step_header.specs.declared.Header.{Header}
 use Rattle.step_header.specs.Headers.{entries_in}
 use Rattle.step_rows.specs.Rows.{slot_id}
-use Rattle.step_rule.specs.declared.Stepper.{Stepper}
-use Rattle.step_rule.specs.Rules.{ProgramOf, Stored}
+use Rattle.step_rule.specs.Rules.{ImageOf, Stored}
 use Rattle.step_rule.proofs.Views.{Viewed, viewed}
 use Rattle.step_rule.proofs.Statements.{Is, is_substitute, is_call, is_let, is_switch, is_create_lem, is_invoke, is_literal, is_op, is_ifc, is_print, is_exit, here}
 use Rattle.step_order.specs.Orderly.{replaced, orderly}
@@ -64,8 +64,8 @@ module _ {M : Machine} {P : Prog} {store : List ℕ} {h : Header} {l : Located} 
   pub entries-keys : map slot_id (entries_in store h) ≡ keys l.environment
   entries-keys = view-keys (viewed o)
 
-  pub orders : {stepper : Stepper} {bytes : List ℕ} {b : Bool} → ProgramOf P stepper bytes
-      → b ≡ orderly (record_at stepper.frame bytes h.position) (map slot_id (entries_in store h)) → b ≡ in_order_lem (stmt_in P l.position) (keys l.environment)
-  orders {stepper} {bytes} p q =
-      let r = record_at stepper.frame bytes h.position in
+  pub orders : {frame : Frame} {definitions : ℕ} {bytes : List ℕ} {b : Bool} → ImageOf P frame definitions bytes
+      → b ≡ orderly (record_at frame bytes h.position) (map slot_id (entries_in store h)) → b ≡ in_order_lem (stmt_in P l.position) (keys l.environment)
+  orders {frame} {bytes = bytes} p q =
+      let r = record_at frame bytes h.position in
       q ∙ (ap (orderly r) entries-keys ∙ order_is (here p o r refl) (keys l.environment))

@@ -1,7 +1,7 @@
 -- The last of a list and what stands before, in rows; of which rows one is sure. Assumes nothing.
 use Prim.Native.Nat.{ℕ, suc, ◌-◌}
 use mathlib.Core.Path.{◌≡◌, refl, sym, ap, ap₂, ◌∙◌}
-use mathlib.Core.Bool.{Bool, true, false, ◌&&◌, and-true}
+use mathlib.Core.Bool.{Bool, true, false, not, ◌&&◌, and-true, false≢true}
 use mathlib.Core.List.{List, [], ◌∷◌}
 use native.Mathlib.Omega.{arith}
 use lib.ListN.{length, take, drop, get_or, take-append-drop}
@@ -27,6 +27,25 @@ module _ {a A : Bool} (asked : a ≡ A) where
 
   pub and_not : (B : Bool) → a ≡ false → false ≡ (A && B)
   and_not B f = ap (λ (b : Bool). b && B) (sym f ∙ asked)
+
+-- ---- is not all of three so, where it is known of the first two?
+
+module _ (a b c : Bool) where
+  pub not_two : not (a && b) ≡ true → not (a && b) ≡ not (a && (b && c))
+  not_two e = go a b e
+    where
+      go : (a b : Bool) → not (a && b) ≡ true → not (a && b) ≡ not (a && (b && c))
+      go true true e = absurd (false≢true e)
+      go true false e = refl
+      go false b e = refl
+
+  pub not_last : not (a && b) ≡ false → not c ≡ not (a && (b && c))
+  not_last e = go a b e
+    where
+      go : (a b : Bool) → not (a && b) ≡ false → not c ≡ not (a && (b && c))
+      go true true e = refl
+      go true false e = absurd (false≢true (sym e))
+      go false b e = absurd (false≢true (sym e))
 
 -- ---- the first n
 

@@ -1,6 +1,6 @@
 -- What is asked of the IDs of a statement, by the kind of its record. Assumes nothing.
 use Prim.Native.Nat.{ℕ}
-use mathlib.Core.Path.{◌≡◌, refl, sym, ap, ap₂, ◌∙◌, subst}
+use mathlib.Core.Path.{◌≡◌, refl, sym, ap, ap₂, ◌∙◌}
 use mathlib.Core.Bool.{Bool, true, false, ◌&&◌, and-true}
 use mathlib.Core.Logic.{◌⊎◌, inl, inr}
 use mathlib.Core.List.{List, [], ◌∷◌}
@@ -16,6 +16,8 @@ use Rattle.model.specs.FreeVars.{optional_id}
 use Rattle.model.specs.Linear.{ends_in_lem, present, targets, sources}
 use Rattle.image_spec.specs.Records.{Record, definition, substitute, call, let', switch, create, invoke, literal, op, ifc, clause', print, exit}
 use Rattle.image_spec.specs.Kinds.{kind_of}
+use Rattle.image_kinds.specs.Codes.{code_of}
+use Rattle.image_kinds.specs.declared.kinds.Kind.{Kind}
 use Rattle.image_read_parts.specs.Parts.{list_of}
 use Rattle.image_read_nodes.specs.Nodes.{first_of, operand_of, target_of, second_of}
 use Rattle.step_rows.specs.RecordRows.{pairs_of, environment_of}
@@ -68,12 +70,6 @@ of-kind r l k e = by_kind r l ∙ ap (λ (i : ℕ). get_or (asked r l) i false) 
 
 -- ---- the answers of code, statement by statement
 
--- in another order
-regroup : (a b c : Bool) → ((a && (b && true)) && c) ≡ (a && (b && c))
-regroup true true c = refl
-regroup true false c = refl
-regroup false b c = refl
-
 module _ (r : Record) (l : List VarId) where
   pub substitute_is : kind_of r ≡ 2 → orderly r l ≡ (distinct (targets (pairs_of r)) && present (sources (pairs_of r)) l)
   substitute_is k = of-kind r l 2 k
@@ -100,9 +96,9 @@ module _ (r : Record) (l : List VarId) where
   pub literal_is : {v : Identifier} → kind_of r ≡ 8 → v ≡ first_of r → orderly r l ≡ added l v.id
   literal_is k f = of-kind r l 8 k ∙ sym (ap (λ (w : Identifier). added l w.id) f)
 
-  pub op_is : {f s v : Identifier} {o : BinOp} → r ≡ op f o s v → orderly r l ≡ (elem f.id l && (elem s.id l && added l v.id))
+  pub op_is : {f s v : Identifier} {o : BinOp} → r ≡ op f o s v → orderly r l ≡ ((elem f.id l && elem s.id l) && added l v.id)
   unfolding orderly
-  op_is {f} {s} {v} e = ap (λ (z : Record). orderly z l) e ∙ regroup (elem f.id l) (elem s.id l) (added l v.id)
+  op_is {f} {s} {v} e = ap (λ (z : Record). orderly z l) e ∙ ap (λ (b : Bool). (elem f.id l && b) && added l v.id) (and-true (elem s.id l))
 
   pub ifc_is : {f : Identifier} {s : Option Identifier} {c : IfSort} → r ≡ ifc c f s → orderly r l ≡ (elem f.id l && present (optional_id s) l)
   unfolding orderly
@@ -113,32 +109,12 @@ module _ (r : Record) (l : List VarId) where
   present_is (inl k) = of-kind r l 12 k ∙ and-true (elem (first_of r).id l)
   present_is (inr k) = of-kind r l 13 k ∙ and-true (elem (first_of r).id l)
 
--- ---- what is no statement's
+  -- a definition and a clause are no statements
+  pub other_is : (kind_of r ≡ 1) ⊎ (kind_of r ≡ 11) → orderly r l ≡ false
+  other_is (inl k) = of-kind r l 1 k
+  other_is (inr k) = of-kind r l 11 k
 
--- the number is none of these
-abbrev pub NoneOf : ℕ → List ℕ → Type 0
-NoneOf k [] = Unit {0}
-NoneOf k (n ∷ ns) = NoneOf k ns × (k ≡ n → ⊥)
-
--- the kinds of statements, the last first
-abbrev pub statement_kinds : List ℕ
-statement_kinds = 13 ∷ 12 ∷ 10 ∷ 9 ∷ 8 ∷ 7 ∷ 6 ∷ 5 ∷ 4 ∷ 3 ∷ 2 ∷ []
-
-no-statement : (r : Record) (l : List VarId) → NoneOf (kind_of r) statement_kinds → orderly r l ≡ false
-unfolding orderly
-no-statement (definition x Γ) l h = refl
-no-statement (substitute ps) l h = absurd (h.0.0.0.0.0.0.0.0.0.0.1 refl)
-no-statement (call x Γ) l h = absurd (h.0.0.0.0.0.0.0.0.0.1 refl)
-no-statement (let' v t g Γ) l h = absurd (h.0.0.0.0.0.0.0.0.1 refl)
-no-statement (switch v t n) l h = absurd (h.0.0.0.0.0.0.0.1 refl)
-no-statement (create v t e n) l h = absurd (h.0.0.0.0.0.0.1 refl)
-no-statement (invoke v g t Γ) l h = absurd (h.0.0.0.0.0.1 refl)
-no-statement (literal z v) l h = absurd (h.0.0.0.0.1 refl)
-no-statement (op f o s v) l h = absurd (h.0.0.0.1 refl)
-no-statement (ifc c f s) l h = absurd (h.0.0.1 refl)
-no-statement (clause' x Γ) l h = refl
-no-statement (print n v) l h = absurd (h.0.1 refl)
-no-statement (exit v) l h = absurd (h.1 refl)
-
-pub other_is : (r : Record) (l : List VarId) {k : ℕ} → kind_of r ≡ k → NoneOf k statement_kinds → orderly r l ≡ false
-other_is r l e h = no-statement r l (subst (λ (k : ℕ). NoneOf k statement_kinds) (sym e) h)
+-- the byte of one of two kinds
+pub two-codes : {n : ℕ} {k a b : Kind} → n ≡ code_of k → (k ≡ a) ⊎ (k ≡ b) → (n ≡ code_of a) ⊎ (n ≡ code_of b)
+two-codes e (inl q) = inl (e ∙ ap code_of q)
+two-codes e (inr q) = inr (e ∙ ap code_of q)

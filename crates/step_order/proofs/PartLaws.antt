@@ -15,6 +15,7 @@ use Rattle.image_spec.specs.Parse.{All}
 use Rattle.image_spec.specs.Fields.{identifier_bytes, IdentifierOk}
 use Rattle.image_spec.specs.Records.{Record, record_bytes, RecordOk}
 use Rattle.std.specs.Prelude.{Some, None}
+use Rattle.image_directory.specs.Slots.{Ready}
 use Rattle.image_directory.specs.declared.Frame.{Frame}
 use Rattle.image_read_parts.specs.Standing.{Stands}
 use Rattle.image_read_parts.proofs.PartPlaces.{invoke-tag}
@@ -47,13 +48,13 @@ use Rattle.step_order.proofs.InOrderLaws.{entry-ids}
 -- ---- an Invoke's tag
 
 module _ (g : Frame) (s : List ℕ) (i : ℕ) (a : nodes.At g s i 7) where
-  pub tag-there : Stands (identifier_bytes g.id) (IdentifierOk g.id) (record_bytes g.id (record_at g s i)) (3 + g.id) (parts_of (record_at g s i)).tag
-  tag-there =
+  pub tag-there : Ready g s → Stands (identifier_bytes g.id) (IdentifierOk g.id) (record_bytes g.id (record_at g s i)) (3 + g.id) (parts_of (record_at g s i)).tag
+  tag-there ready =
       let r = record_at g s i in
       let p = parts_of r in
       let e = at-made 7 a in
       subst (λ (z : Record). Stands (identifier_bytes g.id) (IdentifierOk g.id) (record_bytes g.id z) (3 + g.id) p.tag) (sym e)
-      (invoke-tag g.id (first_of r) p.tag p.ty (list_of r) (subst (RecordOk g.id) e (record_ok g s i 7 a)))
+      (invoke-tag g.id (first_of r) p.tag p.ty (list_of r) (subst (RecordOk g.id) e (record_ok g s i 7 ready a)))
 
   pub tag_is : {x : Identifier} → x ≡ (parts_of (record_at g s i)).tag → TagOf (record_at g s i) x
   tag_is q = record { is = λ v t u Γ e. q ∙ ap (λ (z : Record). (parts_of z).tag) e }

@@ -27,7 +27,13 @@ use Rattle.std.specs.Prelude as code
 use Rattle.image_places_spec.specs.Views.{record_of, clauses_in}
 use Rattle.image_places_spec.specs.Places.{ClausesStand}
 use Rattle.image_places_spec.proofs.PlaceLaws.{stmt-parts}
+use Rattle.image_kinds.specs.Codes.{code_of}
+use Rattle.image_kinds.specs.declared.kinds.Kind.{Kind}
+use Rattle.image_kinds.specs.declared.kinds.Kind.TheVariants.{Call, Switch, Invoke}
+use Rattle.image_kinds.proofs.KindNames.{same_code}
 use Rattle.image_directory.specs.Slots as image
+use Rattle.image_directory.specs.Slots.{Ready}
+use Rattle.image_directory.specs.declared.Frame.{Frame}
 use Rattle.image_read_parts.specs.Standing.{head_of}
 use Rattle.image_read_parts.specs.Parts.{list_of}
 use Rattle.image_read_nodes.specs.Nodes.{record_at, At, first_of}
@@ -46,8 +52,7 @@ use Rattle.step_places.specs.Searches.{name_of, Finds, FindsDef, FindsLabel}
 use Rattle.step_rows.specs.declared.Row.{Row}
 use Rattle.step_rows.specs.Rows.{ids_in, RowOf, slot_id}
 use Rattle.step_rows.proofs.RowLaws.{ids-length, ids-before}
-use Rattle.step_rule.specs.declared.Stepper.{Stepper}
-use Rattle.step_rule.specs.Rules.{ProgramOf, Stored, Reads}
+use Rattle.step_rule.specs.Rules.{ImageOf, Stored, Reads}
 use Rattle.step_rule.proofs.Views.{viewed}
 use Rattle.step_rule.proofs.Statements.{Is, is_substitute, is_call, is_let, is_switch, is_create_lem, is_invoke, is_literal, is_op, is_ifc, is_print, is_exit, here, placed}
 use Rattle.step_cells.specs.declared.Cell.{Cell}
@@ -56,7 +61,6 @@ use Rattle.step_cells.proofs.CellLaws.{OfLet, OfCreate, Meets, cells_of, lacks_h
 use Rattle.step_cells.proofs.CreateLaws.{created}
 use Rattle.step_order.specs.Orderly.{front_of}
 use Rattle.step_order.specs.Stopping.{last_slot, last_cell_lem, TagOf, ClauseOf, work_at, step_at}
-use Rattle.step_order.proofs.OrderlyLaws.{NoneOf}
 use Rattle.step_order.proofs.InOrderLaws.{entries-keys}
 use Rattle.step_order.proofs.PartLaws.{tag_is, last_meets}
 use Rattle.step_order.proofs.EnterLaws.{entering, Enters}
@@ -89,44 +93,44 @@ or_goes : {A : Type 0} (o : Option A) (k : A → Outcome) → ((a : A) → is_st
 or_goes none k h = refl
 or_goes (some a) k h = h a
 
-no_stop : (P : Prog) {t : Stmt} {r : Record} → Is t r → NoneOf (kind_of r) (7 ∷ 5 ∷ 3 ∷ []) → (ε : Entries) (K : Cells) → is_stop (linear_work P t ε K) ≡ false
+no_stop : (P : Prog) {t : Stmt} {r : Record} → Is t r → (kind_of r ≡ 3 → ⊥) → (kind_of r ≡ 5 → ⊥) → (kind_of r ≡ 7 → ⊥) → (ε : Entries) (K : Cells) → is_stop (linear_work P t ε K) ≡ false
 unfolding linear_work
-no_stop P (is_substitute {ps = ps} next) h ε K = or_goes (lookups (sources ps) ε) _ λ vs. refl
-no_stop P is_call h ε K = absurd (h.0.0.1 refl)
-no_stop P (is_let next) h ε K = refl
-no_stop P (is_switch cs) h ε K = absurd (h.0.1 refl)
-no_stop P (is_create_lem cs next) h ε K = refl
-no_stop P is_invoke h ε K = absurd (h.1 refl)
-no_stop P (is_literal next) h ε K = refl
-no_stop P (is_op {fst = fst} {o = o} {snd = snd} next) h ε K =
+no_stop P (is_substitute {ps = ps} next) a b c ε K = or_goes (lookups (sources ps) ε) _ λ vs. refl
+no_stop P is_call a b c ε K = absurd (a refl)
+no_stop P (is_let next) a b c ε K = refl
+no_stop P (is_switch cs) a b c ε K = absurd (b refl)
+no_stop P (is_create_lem cs next) a b c ε K = refl
+no_stop P is_invoke a b c ε K = absurd (c refl)
+no_stop P (is_literal next) a b c ε K = refl
+no_stop P (is_op {fst = fst} {o = o} {snd = snd} next) a b c ε K =
     or_goes (lookup fst.id ε) _ λ a. or_goes (lookup snd.id ε) _ λ b. or_goes (as_int a) _ λ x. or_goes (as_int b) _ λ y. or_goes (eval_op o x y) _ λ z. refl
-no_stop P (is_ifc {fst = fst} {snd = snd} thenc elsec) h ε K =
+no_stop P (is_ifc {fst = fst} {snd = snd} thenc elsec) a b c ε K =
     or_goes (lookup fst.id ε) _ λ a. or_goes (second snd ε) _ λ b. or_goes (as_int a) _ λ x. or_goes (as_int b) _ λ y. refl
-no_stop P (is_print {var = var} next) h ε K = or_goes (lookup var.id ε) _ λ v. or_goes (as_int v) _ λ z. refl
-no_stop P (is_exit {var = var}) h ε K = or_goes (lookup var.id ε) _ λ v. refl
+no_stop P (is_print {var = var} next) a b c ε K = or_goes (lookup var.id ε) _ λ v. or_goes (as_int v) _ λ z. refl
+no_stop P (is_exit {var = var}) a b c ε K = or_goes (lookup var.id ε) _ λ v. refl
 
 -- ---- what a search answers, of the program
 
-module _ {P : Prog} {stepper : Stepper} {bytes : List ℕ} (p : ProgramOf P stepper bytes) where
+module _ {P : Prog} {frame : Frame} {definitions : ℕ} {bytes : List ℕ} (p : ImageOf P frame definitions bytes) where
   abbrev rs : List Record
-  rs = image.records_in stepper.frame bytes
+  rs = image.records_in frame bytes
 
-  label-finds : (x : Identifier) {n : ℕ} {f : code.Option ℕ} → n ≡ x.name.0 → FindsLabel stepper.frame bytes stepper.definitions n f
+  label-finds : (x : Identifier) {n : ℕ} {f : code.Option ℕ} → n ≡ x.name.0 → FindsLabel frame bytes definitions n f
       → FindsDef 1 max_depth rs (label_place x.name P.defs 0) (find_def x.name P.defs) f
   label-finds x {f = f} e w =
       subst (λ (n : ℕ). FindsDef 1 max_depth rs (label_place (name_of n) P.defs 0) (find_def (name_of n) P.defs) f) e
       (w.finds max_depth P.defs record { begins = record { rest = []; split = p.records ∙ sym (append-nil (records_in P)) }; shallow = p.shallow; count = p.count })
 
-  clauses-stand : (i : ℕ) → Stands P i → ClausesStand (max_depth - 1) (clauses_of (record_at stepper.frame bytes i)) rs (i + 1) (clauses_in (stmt_in P i))
+  clauses-stand : (i : ℕ) → Stands P i → ClausesStand (max_depth - 1) (clauses_of (record_at frame bytes i)) rs (i + 1) (clauses_in (stmt_in P i))
   clauses-stand i s =
       let parts = stmt-parts s in
-      let is : record_at stepper.frame bytes i ≡ record_of (stmt_in P i) = ap (λ (rs : List Record). head_of (drop i rs)) p.records ∙ ap head_of parts.head in
+      let is : record_at frame bytes i ≡ record_of (stmt_in P i) = ap (λ (rs : List Record). head_of (drop i rs)) p.records ∙ ap head_of parts.head in
       rw (is, p.records) parts.clauses
 
-  clause-finds : {i j n : ℕ} {tag : Name} {f : code.Option ℕ} → Stands P i → i < stepper.frame.count → j ≡ i → n ≡ tag.0 → ClauseOf stepper.frame bytes j n f
+  clause-finds : {i j n : ℕ} {tag : Name} {f : code.Option ℕ} → Stands P i → i < frame.count → j ≡ i → n ≡ tag.0 → ClauseOf frame bytes j n f
       → Finds (λ c. c.0) (λ c. c.1) 11 (max_depth - 1) rs (clause_place tag (clauses_in (stmt_in P i)) (i + 1)) (find_clause_lem tag (clauses_in (stmt_in P i))) f
   clause-finds {i} {j} {n} {tag} {f} s h e k w =
-      let c : ClauseOf stepper.frame bytes i tag.0 f = subst (λ (m : ℕ). ClauseOf stepper.frame bytes i m f) k (subst (λ (m : ℕ). ClauseOf stepper.frame bytes m n f) e w) in
+      let c : ClauseOf frame bytes i tag.0 f = subst (λ (m : ℕ). ClauseOf frame bytes i m f) k (subst (λ (m : ℕ). ClauseOf frame bytes m n f) e w) in
       (c.finds h).finds (max_depth - 1) (clauses_in (stmt_in P i)) (clauses-stand i s)
 
 -- ---- the values: how many there are, the IDs of all but the last, and the last
@@ -192,7 +196,7 @@ module _ (P : Prog) (ε : Entries) (K : Cells) where
   unfolding linear_work
   invoke_work is_invoke = refl
 
-module _ {M : Machine} {P : Prog} {stepper : Stepper} {bytes store : List ℕ} {h : Header} {l : Located} (p : ProgramOf P stepper bytes) (o : Stored M P store h l) where
+module _ {M : Machine} {P : Prog} {frame : Frame} {definitions : ℕ} {bytes store : List ℕ} {h : Header} {l : Located} (p : ImageOf P frame definitions bytes) (o : Stored M P store h l) where
   abbrev t : Stmt
   t = stmt_in P l.position
 
@@ -200,14 +204,17 @@ module _ {M : Machine} {P : Prog} {stepper : Stepper} {bytes store : List ℕ} {
   ε = l.environment
 
   abbrev r : Record
-  r = record_at stepper.frame bytes h.position
+  r = record_at frame bytes h.position
 
-  pub others-go : {k : ℕ} → At stepper.frame bytes h.position k → NoneOf k (7 ∷ 5 ∷ 3 ∷ []) → false ≡ is_stop (work_at P l)
-  others-go a n = sym (no_stop P (here p o r refl) (subst (λ (k : ℕ). NoneOf k (7 ∷ 5 ∷ 3 ∷ [])) (sym a.kind) n) ε (cells_of P l))
+  pub others-go : (k : Kind) → At frame bytes h.position (code_of k) → (k ≡ Call → ⊥) → (k ≡ Switch → ⊥) → (k ≡ Invoke → ⊥) → false ≡ is_stop (work_at P l)
+  others-go k a c s i = sym (no_stop P (here p o r refl) (other Call c) (other Switch s) (other Invoke i) ε (cells_of P l))
+    where
+      other : (j : Kind) → (k ≡ j → ⊥) → kind_of r ≡ code_of j → ⊥
+      other j n e = n (same_code k j (sym a.kind ∙ e))
 
   -- Call
-  pub call_enters : At stepper.frame bytes h.position 3 → (x : Identifier) → x ≡ first_of r → {n : ℕ} {f : code.Option ℕ} → n ≡ x.name.0
-      → FindsLabel stepper.frame bytes stepper.definitions n f → Enters stepper.frame bytes f (values ε) (λ new. new) (is_stop (work_at P l))
+  pub call_enters : At frame bytes h.position 3 → (x : Identifier) → x ≡ first_of r → {n : ℕ} {f : code.Option ℕ} → n ≡ x.name.0
+      → FindsLabel frame bytes definitions n f → Enters frame bytes f (values ε) (λ new. new) (is_stop (work_at P l))
   call_enters a x q e w = record {
     A = Def;
     context_of = λ d. d.context;
@@ -230,15 +237,15 @@ module _ {M : Machine} {P : Prog} {stepper : Stepper} {bytes store : List ℕ} {
     m = last_meets o q
 
     -- Switch
-    module _ (a : At stepper.frame bytes h.position 5) where
+    module _ (a : At frame bytes h.position 5) where
       switches : work_at P l ≡ or_halt (last_value_lem ε) (switching ε (cells_of P l) (clauses_in t))
       switches = switch_work P ε (cells_of P l) (here p o _ (at-made 5 a))
 
       pub switch-goes : (c.sort ≡ 3 → ⊥) → false ≡ is_stop (work_at P l)
       switch-goes n = sym (ap is_stop (switches ∙ lacks_halts (no_let m n) (switching ε (cells_of P l) (clauses_in t)) (λ v e. ap (λ z. or_halt z (matching ε (cells_of P l) (clauses_in t))) e)))
 
-      pub switch-enters : (w : OfLet P store h l (last_value_lem ε) c) → {j : ℕ} {f : code.Option ℕ} → j ≡ h.position → ClauseOf stepper.frame bytes j c.id f
-          → Enters stepper.frame bytes f w.fields (λ new. before_last 1 ε ++ new) (is_stop (work_at P l))
+      pub switch-enters : (w : OfLet P store h l (last_value_lem ε) c) → {j : ℕ} {f : code.Option ℕ} → j ≡ h.position → ClauseOf frame bytes j c.id f
+          → Enters frame bytes f w.fields (λ new. before_last 1 ε ++ new) (is_stop (work_at P l))
       switch-enters w e k = record {
         A = Context × Stmt;
         context_of = λ c. c.0;
@@ -254,7 +261,7 @@ module _ {M : Machine} {P : Prog} {stepper : Stepper} {bytes store : List ℕ} {
       }
 
     -- Invoke
-    module _ (a : At stepper.frame bytes h.position 7) where
+    module _ (a : At frame bytes h.position 7) where
       invokes : {x : Identifier} → TagOf r x → work_at P l ≡ or_halt (last_value_lem ε) (invoking t ε (cells_of P l) x.name)
       invokes g =
           let e = at-made 7 a in
@@ -266,7 +273,7 @@ module _ {M : Machine} {P : Prog} {stepper : Stepper} {bytes store : List ℕ} {
       outside-goes tag e = ap (λ z. is_stop (or_halt z (invoking t ε (cells_of P l) tag))) e
 
       pub invoke-goes : (c.sort ≡ 4 → ⊥) → false ≡ is_stop (work_at P l)
-      invoke-goes n = sym (ap is_stop (invokes (tag_is stepper.frame bytes h.position a refl)) ∙ go (eqb u.sort 2) refl)
+      invoke-goes n = sym (ap is_stop (invokes (tag_is frame bytes h.position a refl)) ∙ go (eqb u.sort 2) refl)
         where
           tag : Name
           tag = (parts_of r).tag.name
@@ -275,11 +282,11 @@ module _ {M : Machine} {P : Prog} {stepper : Stepper} {bytes store : List ℕ} {
           go true e = outside-goes tag (is_outside m (eqb-true u.sort 2 e))
           go false e = ap is_stop (lacks_halts (no_target m (eqb-false u.sort 2 e) n) (invoking t ε (cells_of P l) tag) (λ v e. ap (λ z. or_halt z (aiming t ε (cells_of P l) tag)) e))
 
-      pub invoke-enters : {x : Identifier} → TagOf r x → (w : OfCreate P store h l (last_value_lem ε) c) → {i n : ℕ} {f : code.Option ℕ} → i ≡ c.id → n ≡ x.name.0 → ClauseOf stepper.frame bytes i n f
-          → Enters stepper.frame bytes f (values (before_last 1 ε)) (λ new. new ++ w.entries) (is_stop (work_at P l))
+      pub invoke-enters : Ready frame bytes → {x : Identifier} → TagOf r x → (w : OfCreate P store h l (last_value_lem ε) c) → {i n : ℕ} {f : code.Option ℕ} → i ≡ c.id → n ≡ x.name.0 → ClauseOf frame bytes i n f
+          → Enters frame bytes f (values (before_last 1 ε)) (λ new. new ++ w.entries) (is_stop (work_at P l))
       unfolding linear_enter_lem
-      invoke-enters {x} g w e k f =
-          let made = created p o a.ready w in
+      invoke-enters ready {x} g w e k f =
+          let made = created p o ready w in
           let cs = clauses_in (stmt_in P c.id) in
           record {
             A = Context × Stmt;

@@ -16,7 +16,7 @@ use Rattle.step_spec.specs.Located.{Located, stmt_in, cell_in, project, is_stop}
 use Rattle.step_header.specs.declared.Header.{Header}
 use Rattle.step_header.specs.Headers.{heap_in, entries_in}
 use Rattle.step_places.specs.Searches.{PlaceOf, FindsClause}
-use Rattle.step_rule.specs.declared.Stepper.{Stepper}
+use Rattle.step_places.specs.declared.stepper.Stepper.{Stepper}
 use Rattle.step_rule.specs.Rules.{ProgramOf, Reads}
 use Rattle.step_cells.specs.declared.Cell.{Cell}
 use Rattle.step_cells.specs.Cells.{cell_in'}

@@ -5,7 +5,7 @@ use Rattle.syntax.specs.declared.names.VarId.{VarId}
 use Rattle.step_header.specs.declared.Header.{Header}
 use Rattle.step_header.specs.Headers.{entries_in}
 use Rattle.step_rows.specs.Rows.{slot_id}
-use Rattle.step_rule.specs.declared.Stepper.{Stepper}
+use Rattle.step_places.specs.declared.stepper.Stepper.{Stepper}
 
 -- where one is sure, the IDs are distinct
 abbrev pub Sure : (sure : Bool) → List VarId → Type 0

@@ -31,27 +31,26 @@ named_past g s i kind f h n = sym (ap (is_named_lem kind (name_of f)) (unseen g 
 
 -- the bytes of the record at index i begin at `start`
 pub record StartsAt (g : Frame) (s : List ℕ) (i start : ℕ) : Type 0 where
-  pub ready : Ready g s
   pub inside : i < g.count
   pub stands : Stands (record_bytes g.id) (RecordOk g.id) s start (record_at g s i)
 
 pub kind-inside : {g : Frame} {s : List ℕ} {i start : ℕ} → StartsAt g s i start → start < length s
 kind-inside {g = g} b = (kind-stands g.id b.stands).1
 
-module _ {g : Frame} {s : List ℕ} {i start : ℕ} (kind f : ℕ) (begins : StartsAt g s i start) where
+module _ {g : Frame} {s : List ℕ} {i start : ℕ} (kind f : ℕ) (ready : Ready g s) (begins : StartsAt g s i start) where
   is_kind : get_or s start 0 ≡ kind_of (record_at g s i)
   is_kind = (kind-stands g.id begins.stands).0
 
   named_is : is_named_lem kind (name_of f) (drop i (records_in g s)) ≡ eqb (kind_of (record_at g s i)) kind && same_name (name_of f) (first_of (record_at g s i)).name
-  named_is = let v = seen g s i begins.ready begins.inside in rw v.list refl
+  named_is = let v = seen g s i ready begins.inside in rw v.list refl
 
   pub named_other : (get_or s start 0 ≡ kind → ⊥) → false ≡ is_named_lem kind (name_of f) (drop i (records_in g s))
   named_other n = sym (named_is ∙ rw (ne_eqb (kind_of (record_at g s i)) kind (λ e. n (is_kind ∙ e))) refl)
 
   name-stands : IsHead kind → get_or s start 0 ≡ kind → Stands (identifier_bytes g.id) (IdentifierOk g.id) s (start + 1) (first_of (record_at g s i))
   name-stands k e =
-      let a : At g s i kind = record { ready = begins.ready; inside = begins.inside; kind = sym is_kind ∙ e } in
-      inner (2 + g.id) (identifier-length g.id (first_of (record_at g s i))) (omega arith) begins.stands (first-there g s i kind a (other k) (place k))
+      let a : At g s i kind = record { inside = begins.inside; kind = sym is_kind ∙ e } in
+      inner (2 + g.id) (identifier-length g.id (first_of (record_at g s i))) (omega arith) begins.stands (first-there g s i kind ready a (other k) (place k))
     where
       other : IsHead kind → kind ≡ 2 → ⊥
       other (inl q) z = omega arith

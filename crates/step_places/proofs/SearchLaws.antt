@@ -89,7 +89,6 @@ named-at g s kind f i h e = go (drop i (records_in g s)) refl e
     go : (rs : List Record) → drop i (records_in g s) ≡ rs → is_named_lem kind f rs ≡ true → nodes.At g s i kind
     go [] q t = absurd (false≢true t)
     go (r ∷ rs) q t = record {
-      ready = h;
       inside = omega (arith, records-length g s h, length-drop i (records_in g s), ap length q);
       kind = ap (λ (l : List Record). kind_of (head_of l)) q ∙ eqb-true _ kind (and_left _ _ t);
     }
@@ -165,7 +164,7 @@ module _ {g : Frame} {s : List ℕ} where
 
   -- what was found is there
   found-there : {d place j : ℕ} {o : Option Def} → Ready g s → FindsDef 1 d (records_in g s) place o (Some j) → nodes.At g s j 1
-  found-there {j = j} h (found {a = e} x r b p) = record { ready = h; inside = omega (arith, records-length g s h, part-inside (statement e.body) b.begins); kind = ap kind_of r }
+  found-there {j = j} h (found {a = e} x r b p) = record { inside = omega (arith, records-length g s h, part-inside (statement e.body) b.begins); kind = ap kind_of r }
 
   pub search_start : {kind f : ℕ} (n i : ℕ) → Searching g s kind f n i 0 i
   search_start {kind} {f} n i = let z : n - 0 ≡ n = omega arith in record { enough = λ r h. subst (λ (m : ℕ). RightFor g s kind f m i r) z h }

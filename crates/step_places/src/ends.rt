@@ -1,9 +1,9 @@
 // The table of ends: at each index the place behind the part that begins there.
 ghost use Rattle.std.specs.Prelude.{◌≤◌, ◌<◌, ◌^◌, length};
-ghost use Rattle.image_directory.specs.Slots.{Ready, records_in};
 ghost use Rattle.step_places.specs.Ends.{Ends, Hopped};
+ghost use Rattle.image_directory.specs.Images.{records_of};
 
-use image_directory::Frame;
+use image_directory::image::Image;
 use image_read_nodes::parts_of;
 
 // The place behind the part that begins at i.
@@ -25,14 +25,12 @@ pub fn hop(ends: &[u32], from: usize, n: usize) -> usize
 }
 
 // Fills the table, from the last record to the first: what follows a record has its ends already.
-pub fn fill_ends(image: &[u8], frame: Frame, ends: &mut [u32])
-    requires { Ready frame image.now × (frame.count ≤ length ends.old) }
-    ensures { Ends (records_in frame image.now) ends.new }
+pub fn fill_ends(image: &Image<'_>, ends: &mut [u32])
+    requires { image.now.frame.count ≤ length ends.old }
+    ensures { Ends (records_of image.now) ends.new }
 {
-    let mut i = frame.count;
-    while 0 < i {
-        i -= 1;
-        let follows = parts_of(image, frame, i);
+    for i in (0..image.frame.count).rev() {
+        let follows = parts_of(image, i);
         let bodies = hop(ends, i + 1, follows.clauses);
         let end = hop(ends, bodies, follows.bodies);
         ends[i] = end as u32;

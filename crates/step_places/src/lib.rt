@@ -3,3 +3,4 @@
 
 pub mod ends;
 pub mod search;
+pub mod stepper;

@@ -16,6 +16,7 @@ use Rattle.image_spec.specs.Records.{Record, definition, substitute, call, let',
 use Rattle.image_spec.specs.Kinds.{kind_of, clauses_of, fixed, tail_bytes}
 use Rattle.image_spec.proofs.FieldLaws.{identifier-length, binding-length}
 use Rattle.image_spec.proofs.KindLaws.{fixed_le, record_nonempty}
+use Rattle.image_directory.specs.Slots.{Ready}
 use Rattle.image_directory.specs.declared.Frame.{Frame}
 use Rattle.image_read_parts.specs.Standing.{Stands}
 use Rattle.image_read_parts.proofs.StandingLaws.{byte-run, stands_in, stands-room}
@@ -169,15 +170,15 @@ module _ (g : Frame) (s : List ℕ) (i : ℕ) where
     tail-inside = omega (arith, tail_le, stands-room {e = record_bytes g.id} (record_nonempty g.id (record_at g s i)) t)
 
   module _ {at : ℕ} (t : Stands bytes_of AnyBytes s at (tail_bytes g.id (record_at g s i))) where
-    pub pairs-there : At g s i 2
+    pub pairs-there : Ready g s → At g s i 2
         → Stands (λ ps. length ps ∷ each (pair_bytes g.id) ps) (λ ps. (length ps ≤ max_count) × All (PairOk g.id) ps) s at (pairs_of (record_at g s i))
-    pairs-there a =
-        let p = pairs-tail g.id (record_at g s i) a.kind (record_ok g s i 2 a) in
+    pairs-there ready a =
+        let p = pairs-tail g.id (record_at g s i) a.kind (record_ok g s i 2 ready a) in
         record { others = t.others; bytes = t.bytes ∙ ap (λ (l : List ℕ). l ++ t.others) p.0; fits = p.1 }
 
-    pub environment-there : At g s i 6 → Environs g.id s at (environment_of (record_at g s i))
-    environment-there a =
-        let p = environment-tail g.id (record_at g s i) a.kind (record_ok g s i 6 a) in
+    pub environment-there : Ready g s → At g s i 6 → Environs g.id s at (environment_of (record_at g s i))
+    environment-there ready a =
+        let p = environment-tail g.id (record_at g s i) a.kind (record_ok g s i 6 ready a) in
         go (environment_of (record_at g s i)) (clauses_of (record_at g s i)) (t.bytes ∙ ap (λ (l : List ℕ). l ++ t.others) p.0) p.1
       where
         go : (e : Option Context) (n : ℕ) → drop at s ≡ (mark (list_bytes g.id) e ++ (n ∷ [])) ++ t.others → Marked (ListOk g.id) e → Environs g.id s at e

@@ -5,12 +5,14 @@ ghost use Rattle.model.specs.Linear.{targets, sources};
 ghost use Rattle.image_spec.specs.Kinds.{tail_bytes};
 ghost use Rattle.image_read_parts.specs.Standing.{Stands};
 ghost use Rattle.image_read_parts.specs.Parts.{list_of};
-ghost use Rattle.image_read_nodes.specs.Nodes.{record_at, At, has_list};
+ghost use Rattle.image_read_nodes.specs.Nodes.{has_list};
 ghost use Rattle.step_rows.specs.Rows.{RowOf};
 ghost use Rattle.step_rows.specs.RecordRows.{bytes_of, AnyBytes, counted_row_lem, pairs_of, environment_of, EnvironmentRow};
+ghost use Rattle.image_read_nodes.specs.Opened.{record_of, IsAt};
+ghost use Rattle.image_kinds.specs.Codes.{code_of};
 
 use crate::Row;
-use image_directory::Frame;
+use image_directory::image::Image;
 use image_kinds::kinds::Kind;
 use image_read_nodes::list_at;
 use image_read_parts::offset;
@@ -30,53 +32,53 @@ fn counted_row(image: &[u8], at: usize, stride: usize, offset: usize, width: usi
 }
 
 // Where the tail of the record at index i begins.
-fn tail_at(image: &[u8], frame: Frame, i: usize, kind: u8) -> usize
-    requires { At frame image.now i kind }
-    ensures { Stands bytes_of AnyBytes image.now result (tail_bytes frame.id (record_at frame image.now i)) }
+fn tail_at(image: &Image<'_>, i: usize, kind: Kind) -> usize
+    requires { IsAt image.now i (code_of kind) }
+    ensures { Stands bytes_of AnyBytes image.now.bytes.now result (tail_bytes image.now.frame.id (record_of image.now i)) }
 {
-    let w = frame.id;
-    offset(image, frame, i) + Kind::fixed(kind, w)
+    let w = image.frame.id;
+    offset(image, i) + kind.fixed(w)
 }
 
 // The IDs of the list of the record at index i.
-pub fn list_row(image: &[u8], frame: Frame, i: usize, kind: u8) -> Row
-    requires { At frame image.now i kind × (has_list kind ≡ true) }
-    ensures { RowOf image.now result (ids (list_of (record_at frame image.now i))) }
+pub fn list_row(image: &Image<'_>, i: usize, kind: Kind) -> Row
+    requires { IsAt image.now i (code_of kind) × (has_list (code_of kind) ≡ true) }
+    ensures { RowOf image.now.bytes.now result (ids (list_of (record_of image.now i))) }
 {
-    let w = frame.id;
-    let at = list_at(image, frame, i, kind);
-    counted_row(image, at, 6 + (w + w), 2, w)
+    let w = image.frame.id;
+    let at = list_at(image, i, kind);
+    counted_row(image.bytes, at, 6 + (w + w), 2, w)
 }
 
 // The IDs that the Substitute at index i gives.
-pub fn target_row(image: &[u8], frame: Frame, i: usize) -> Row
-    requires { At frame image.now i 2 }
-    ensures { RowOf image.now result (targets (pairs_of (record_at frame image.now i))) }
+pub fn target_row(image: &Image<'_>, i: usize) -> Row
+    requires { IsAt image.now i 2 }
+    ensures { RowOf image.now.bytes.now result (targets (pairs_of (record_of image.now i))) }
 {
-    let w = frame.id;
-    let at = tail_at(image, frame, i, Kind::SUBSTITUTE);
-    counted_row(image, at, 8 + (w + (w + w)), 2, w)
+    let w = image.frame.id;
+    let at = tail_at(image, i, Kind::Substitute);
+    counted_row(image.bytes, at, 8 + (w + (w + w)), 2, w)
 }
 
 // The IDs that the Substitute at index i takes.
-pub fn source_row(image: &[u8], frame: Frame, i: usize) -> Row
-    requires { At frame image.now i 2 }
-    ensures { RowOf image.now result (sources (pairs_of (record_at frame image.now i))) }
+pub fn source_row(image: &Image<'_>, i: usize) -> Row
+    requires { IsAt image.now i 2 }
+    ensures { RowOf image.now.bytes.now result (sources (pairs_of (record_of image.now i))) }
 {
-    let w = frame.id;
-    let at = tail_at(image, frame, i, Kind::SUBSTITUTE);
-    counted_row(image, at, 8 + (w + (w + w)), 8 + (w + w), w)
+    let w = image.frame.id;
+    let at = tail_at(image, i, Kind::Substitute);
+    counted_row(image.bytes, at, 8 + (w + (w + w)), 8 + (w + w), w)
 }
 
 // The IDs of the environment of the Create at index i, if it has one.
-pub fn environment_row(image: &[u8], frame: Frame, i: usize) -> Option<Row>
-    requires { At frame image.now i 6 }
-    ensures { EnvironmentRow image.now result (environment_of (record_at frame image.now i)) }
+pub fn environment_row(image: &Image<'_>, i: usize) -> Option<Row>
+    requires { IsAt image.now i 6 }
+    ensures { EnvironmentRow image.now.bytes.now result (environment_of (record_of image.now i)) }
 {
-    let w = frame.id;
-    let at = tail_at(image, frame, i, Kind::CREATE);
-    if image[at] == 0 {
+    let w = image.frame.id;
+    let at = tail_at(image, i, Kind::Create);
+    if image.bytes[at] == 0 {
         return None;
     }
-    Some(counted_row(image, at + 1, 6 + (w + w), 2, w))
+    Some(counted_row(image.bytes, at + 1, 6 + (w + w), 2, w))
 }

@@ -20,6 +20,7 @@ use Rattle.image_spec.specs.Shape.{max_depth}
 use Rattle.image_places_spec.specs.Views.{record_of}
 use Rattle.image_places_spec.specs.Places.{StmtStands}
 use Rattle.image_places_spec.proofs.PlaceLaws.{stmt-parts}
+use Rattle.image_directory.specs.Slots.{Ready}
 use Rattle.image_directory.specs.declared.Frame.{Frame}
 use Rattle.image_read_nodes.specs.Nodes.{record_at, At}
 use Rattle.image_read_parts.specs.Standing.{head_of}
@@ -27,8 +28,7 @@ use Rattle.step_spec.specs.Located.{Machine, Located, records_in, stmt_in}
 use Rattle.step_spec.proofs.Standing.{Stands, Placed}
 use Rattle.step_spec.proofs.Anywhere.{fits-placed}
 use Rattle.step_header.specs.declared.Header.{Header}
-use Rattle.step_rule.specs.declared.Stepper.{Stepper}
-use Rattle.step_rule.specs.Rules.{ProgramOf, Reads, Stored}
+use Rattle.step_rule.specs.Rules.{ImageOf, Reads, Stored}
 use Rattle.step_rule.proofs.Views.{views, reads_of}
 
 -- the statement has this record
@@ -59,13 +59,13 @@ own (PrintI64 newline var next) = is_print next
 own (Exit var) = is_exit
 
 -- the record at a header's position says which statement stands there
-module _ {P : Prog} {stepper : Stepper} {bytes store : List ℕ} {h : Header} {l : Located} (p : ProgramOf P stepper bytes) where
+module _ {P : Prog} {frame : Frame} {definitions : ℕ} {bytes store : List ℕ} {h : Header} {l : Located} (p : ImageOf P frame definitions bytes) where
   pub placed_at : Reads P store h l → Placed P l
   placed_at o = fits-placed P p.shallow l (views o).fits
 
-  pub stands_at : (o : Reads P store h l) (r : Record) → record_at stepper.frame bytes h.position ≡ r → Is (stmt_in P l.position) r
+  pub stands_at : (o : Reads P store h l) (r : Record) → record_at frame bytes h.position ≡ r → Is (stmt_in P l.position) r
   stands_at o r e =
-      let f : record_at stepper.frame bytes h.position ≡ head_of (drop l.position (records_in P)) =
+      let f : record_at frame bytes h.position ≡ head_of (drop l.position (records_in P)) =
       ap₂ {C = Record} (λ (i : ℕ) (rs : List Record). head_of (drop i rs)) (views o).position p.records in
       let g : record_of (stmt_in P l.position) ≡ r = sym (ap head_of (stmt-parts (placed_at o).here).head) ∙ (sym f ∙ e) in
       subst (Is (stmt_in P l.position)) g (own (stmt_in P l.position))
@@ -73,9 +73,9 @@ module _ {P : Prog} {stepper : Stepper} {bytes store : List ℕ} {h : Header} {l
   pub placed : {M : Machine} → Stored M P store h l → Placed P l
   placed o = placed_at (reads_of o)
 
-  pub here : {M : Machine} (o : Stored M P store h l) (r : Record) → record_at stepper.frame bytes h.position ≡ r → Is (stmt_in P l.position) r
+  pub here : {M : Machine} (o : Stored M P store h l) (r : Record) → record_at frame bytes h.position ≡ r → Is (stmt_in P l.position) r
   here o r e = stands_at (reads_of o) r e
 
 -- a place behind a record has four bytes
-pub next_small : {frame : Frame} {bytes : List ℕ} {i k : ℕ} → At frame bytes i k → i + 1 < 2 ^ 32
-next_small a = omega (arith, a.inside, a.ready.few)
+pub next_small : {frame : Frame} {bytes : List ℕ} {i k : ℕ} → Ready frame bytes → At frame bytes i k → i + 1 < 2 ^ 32
+next_small ready a = omega (arith, a.inside, ready.few)

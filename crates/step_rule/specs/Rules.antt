@@ -1,11 +1,12 @@
 -- One step of a machine on a store: what is known before it, and what it must have done.
-use Rattle.std.specs.Prelude.{ℕ, ◌+◌, ◌-◌, ◌*◌, ◌^◌, ◌≤◌, ◌<◌, ◌≡◌, true, false, cond, List, length, Result, Ok, Err}
+use Rattle.std.specs.Prelude.{ℕ, ◌+◌, ◌-◌, ◌*◌, ◌^◌, ◌≤◌, ◌<◌, ◌≡◌, true, false, Bool, cond, List, length, Result, Ok, Err}
 use Rattle.std.proofs.Math.Option.{Option, none, some}
 use Rattle.std.proofs.lemmas.List.Edits.{sets}
 use Rattle.model.specs.Syntax.{Prog}
 use Rattle.image_spec.specs.Parse.{All}
 use Rattle.image_spec.specs.Shape.{DefOk}
 use Rattle.image_directory.specs.Slots as image
+use Rattle.image_directory.specs.declared.Frame.{Frame}
 use Rattle.step_spec.specs.Located.{Machine, source_machine, linear_machine, Located, Stepped, records_in, project, is_stop, located_step}
 use Rattle.step_spec.specs.Store.{header_of, raw_of, store_bytes, state_from}
 use Rattle.step_spec.specs.Events.{shown_bytes}
@@ -13,19 +14,25 @@ use Rattle.step_spec.specs.Calls.{has_room_lem}
 use Rattle.step_header.specs.declared.Header.{Header}
 use Rattle.image_read_nodes.specs.Nodes.{At}
 use Rattle.step_header.specs.Headers.{tuple_of, Holds}
-use Rattle.step_rule.specs.declared.Stepper.{Stepper}
+use Rattle.step_places.specs.declared.stepper.Stepper.{Stepper}
 use Rattle.step_write.specs.declared.Step.{Step}
 use Rattle.step_write.specs.declared.Stop.{Stop}
 use Rattle.step_write.specs.declared.Stop.TheVariants.{NoStep, NoRoom}
 
--- the program of an image that was opened
-pub record ProgramOf (P : Prog) (stepper : Stepper) (bytes : List ℕ) : Type 0 where
-  pub records : image.records_in stepper.frame bytes ≡ records_in P
+-- an image with its records in this frame, and so many definitions, is that of a program
+pub record ImageOf (P : Prog) (g : Frame) (D : ℕ) (bytes : List ℕ) : Type 0 where
+  pub records : image.records_in g bytes ≡ records_in P
   pub shallow : All DefOk P.defs
-  pub count : length P.defs ≡ stepper.definitions
+  pub count : length P.defs ≡ D
+
+abbrev pub ProgramOf : Prog → Stepper → List ℕ → Type 0
+ProgramOf P stepper bytes = ImageOf P stepper.image.frame stepper.definitions bytes
+
+abbrev pub machine_for : (linear : Bool) → Machine
+machine_for linear = cond linear linear_machine source_machine
 
 abbrev pub machine_in : Stepper → Machine
-machine_in s = cond s.linear linear_machine source_machine
+machine_in s = machine_for s.linear
 
 -- the store is read as the state l of this program, whose header is h
 pub record Reads (P : Prog) (store : List ℕ) (h : Header) (l : Located) : Type 0 where
@@ -63,7 +70,7 @@ pub record MakesAs (M : Machine) (stepper : Stepper) (bytes store events : List 
 -- what a rule for a statement of this kind is given: the record at the position, a store that has what its header says, a place in the event buffer,
 -- and room for a cell of 128 values with its own slot and a variable
 pub record Given (stepper : Stepper) (bytes store events scratch : List ℕ) (h : Header) (at kind : ℕ) : Type 0 where
-  pub record' : At stepper.frame bytes h.position kind
+  pub record' : At stepper.image.frame bytes h.position kind
   pub holds : Holds store h
   pub place : at ≤ length events
   pub scratch' : 2080 ≤ length scratch

@@ -4,7 +4,7 @@ use Prim.Native.Nat.{ℕ, ◌+◌, ◌-◌, ◌≤◌, ◌<◌}
 use mathlib.Core.Path.{◌≡◌, refl, sym, ap, ◌∙◌, subst}
 use mathlib.Core.Bool.{Bool, true, false}
 use mathlib.Core.List.{List, [], ◌++◌, append-nil}
-use mathlib.Core.Option.{Option, none, some}
+use mathlib.Core.Option.{Option}
 use native.Mathlib.Omega.{arith}
 use native.Mathlib.Nat.{add-zero}
 use borrow.Author.Tests.{leb-true}
@@ -14,21 +14,18 @@ use lib.Seq.{sets, length-sets}
 use Rattle.model.specs.Syntax.{Prog}
 use Rattle.image_spec.proofs.DirectoryLaws.{and_right}
 use Rattle.step_spec.specs.Located.{Machine, Located, Stepped}
-use Rattle.step_spec.specs.Store.{header_of, raw_of, store_bytes}
+use Rattle.step_spec.specs.Store.{store_bytes}
 use Rattle.step_spec.specs.Events.{shown_bytes}
-use Rattle.step_spec.specs.Calls.{Progress, stays, has_room_lem, making}
+use Rattle.step_spec.specs.Calls.{stays, has_room_lem, making}
 use Rattle.step_spec.proofs.Sound.{Lawful}
 use Rattle.step_header.specs.declared.Header.{Header}
-use Rattle.step_header.specs.Headers.{tuple_of}
 use Rattle.step_write.specs.declared.Step.{Step}
 use Rattle.step_write.specs.declared.Stop.{Stop}
 use Rattle.step_write.specs.declared.Stop.TheVariants.{NoStep, NoRoom}
-use Rattle.step_rule.specs.declared.Stepper.{Stepper}
-use Rattle.step_rule.specs.Rules.{Makes, no_step, no_room, one-step}
+use Rattle.step_places.specs.declared.stepper.Stepper.{Stepper}
 use Rattle.step_turn.specs.Turning.{Living, Lives, Advances}
 use Rattle.step_turn.proofs.Turns.{made_nothing, made-full, MadeStep}
 use Rattle.step_turn.proofs.TurnLaws.{made-living}
-use Rattle.step_run.specs.declared.Ran.{Ran}
 use Rattle.step_run.specs.Runs.{Did, Runs}
 use Rattle.step_run.proofs.RunLaws.{preceded, Running, running_none, same-events, running-all, running_none-left, running-full, running-next}
 

@@ -1,8 +1,8 @@
 -- Steps one after another, as a loop makes them: what is left of a call's steps. Assumes nothing.
-use Prim.Native.Nat.{ℕ, zero, suc, ◌+◌, ◌-◌, ◌≤◌, ◌<◌}
-use mathlib.Core.Path.{◌≡◌, refl, sym, ap, ap₂, ◌∙◌, subst}
+use Prim.Native.Nat.{ℕ, suc, ◌+◌, ◌-◌, ◌≤◌, ◌<◌}
+use mathlib.Core.Path.{◌≡◌, refl, sym, ap, ap₂, ◌∙◌}
 use mathlib.Core.Bool.{Bool, true, false}
-use mathlib.Core.List.{List, [], ◌∷◌, ◌++◌, append_assoc, append-nil}
+use mathlib.Core.List.{List, [], ◌++◌, append_assoc}
 use mathlib.Core.Option.{Option, none, some}
 use native.Mathlib.Omega.{arith}
 use borrow.Author.Tests.{leb-true}
@@ -13,12 +13,9 @@ use Rattle.model.specs.Syntax.{Prog}
 use Rattle.image_spec.proofs.DirectoryLaws.{and_right}
 use Rattle.image_write_parts.proofs.Putting.{sets_append}
 use Rattle.step_spec.specs.Located.{Machine, Located, Stepped, located_step}
-use Rattle.step_spec.specs.Store.{header_of, raw_of, store_bytes}
+use Rattle.step_spec.specs.Store.{store_bytes}
 use Rattle.step_spec.specs.Events.{shown_bytes}
 use Rattle.step_spec.specs.Calls.{Progress, stays, one_more_lem, has_room_lem, if_room, onward, making}
-use Rattle.step_header.specs.declared.Header.{Header}
-use Rattle.step_header.specs.Headers.{tuple_of}
-use Rattle.step_rule.specs.Rules.{Makes, no_step, no_room, one-step}
 
 -- so many steps with these bytes come before
 abbrev pub preceded : ℕ → List ℕ → Progress → Progress

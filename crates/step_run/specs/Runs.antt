@@ -5,7 +5,7 @@ use Rattle.model.specs.Syntax.{Prog}
 use Rattle.step_spec.specs.Located.{Machine, Located}
 use Rattle.step_spec.specs.Calls.{Progress, making}
 use Rattle.step_header.specs.declared.Header.{Header}
-use Rattle.step_rule.specs.declared.Stepper.{Stepper}
+use Rattle.step_places.specs.declared.stepper.Stepper.{Stepper}
 use Rattle.step_turn.specs.Turning.{Living}
 use Rattle.step_run.specs.declared.Ran.{Ran}
 

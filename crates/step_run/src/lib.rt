@@ -7,7 +7,7 @@ ghost use Rattle.step_turn.specs.Turning.{Lives, Workplace};
 ghost use Rattle.step_run.specs.Runs.{Runs};
 
 use step_header::Header;
-use step_rule::Stepper;
+use step_places::stepper::Stepper;
 use step_turn::advance;
 use step_write::Stop;
 
@@ -22,9 +22,7 @@ pub struct Ran {
 // At most so many steps from the state in the store; the events go to the beginning of their buffer. Where one is sure that the IDs of the linear
 // machine's list are distinct, no step asks: they stay so.
 pub fn run(
-    image: &[u8],
-    stepper: Stepper,
-    ends: &[u32],
+    stepper: &Stepper<'_>,
     store: &mut [u8],
     events: &mut [u8],
     scratch: &mut [u8],
@@ -32,13 +30,13 @@ pub fn run(
     steps: u64,
     sure: bool,
 ) -> Ran
-    requires { Workplace stepper image.now ends.now events.old scratch.old 0 × (Lives (machine_in stepper) stepper image.now store.old header × SureIn stepper sure store.old header) }
-    ensures { Runs (machine_in stepper) stepper image.now steps store.old events.old header store.new events.new result }
+    requires { Workplace events.old scratch.old 0 × (Lives (machine_in stepper.now) stepper.now stepper.now.image.bytes.now store.old header × SureIn stepper.now sure store.old header) }
+    ensures { Runs (machine_in stepper.now) stepper.now stepper.now.image.bytes.now steps store.old events.old header store.new events.new result }
 {
     let mut here = header;
     let mut at = 0;
     for made in 0..steps {
-        match advance(image, stepper, ends, store, events, scratch, here, at, sure) {
+        match advance(stepper, store, events, scratch, here, at, sure) {
             Ok(step) => {
                 here = step.header;
                 at = step.at;

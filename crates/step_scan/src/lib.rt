@@ -3,35 +3,33 @@
 
 ghost use Rattle.std.specs.Prelude.{◌≡◌, List, ◌+◌, ◌*◌, ◌≤◌, length, drop};
 ghost use Rattle.model.specs.Syntax.{Prog};
-ghost use Rattle.image_directory.specs.Slots.{Ready, records_in};
 ghost use Rattle.step_slots.specs.Slots.{is_cell_lem};
 ghost use Rattle.step_slots.specs.Views.{slots_at};
 ghost use Rattle.step_slots.specs.declared.Slot as view;
 ghost use Rattle.step_spec.specs.Store.{first_slot, first_record, is_a_statement, is_a_create, entry_ok, every_slot};
 ghost use Rattle.step_spec.specs.Scan.{head_ok, held_ok};
 ghost use Rattle.step_scan.specs.Pass.{Of, pass};
+ghost use Rattle.image_directory.specs.Images.{records_of};
 
-use image_directory::Frame;
+use image_directory::image::Image;
 use image_kinds::kinds::Kind;
 use image_shape::look;
 use step_slots::{Slot, read};
 
-pub fn is_statement(image: &[u8], frame: Frame, i: u32) -> bool
-    requires { Ready frame image.now }
-    ensures { result ≡ first_record is_a_statement (drop i (records_in frame image.now)) }
+pub fn is_statement(image: &Image<'_>, i: u32) -> bool
+    ensures { result ≡ first_record is_a_statement (drop i (records_of image.now)) }
 {
-    match look(image, frame, i as usize) {
-        Some(node) => Kind::SUBSTITUTE <= node.kind && node.kind != Kind::CLAUSE,
+    match look(image, i as usize) {
+        Some(node) => node.kind != Kind::Definition && node.kind != Kind::Clause,
         None => false,
     }
 }
 
-fn is_create(image: &[u8], frame: Frame, i: u32) -> bool
-    requires { Ready frame image.now }
-    ensures { result ≡ first_record is_a_create (drop i (records_in frame image.now)) }
+fn is_create(image: &Image<'_>, i: u32) -> bool
+    ensures { result ≡ first_record is_a_create (drop i (records_of image.now)) }
 {
-    match look(image, frame, i as usize) {
-        Some(node) => node.kind == Kind::CREATE,
+    match look(image, i as usize) {
+        Some(node) => node.kind == Kind::Create,
         None => false,
     }
 }
@@ -71,20 +69,19 @@ fn held_ok(store: &[u8], heap: usize, f: u8, t: Slot) -> bool
 }
 
 // Has a cell's own slot a tag, or the place of a Create?
-fn head_ok(image: &[u8], frame: Frame, t: Slot) -> bool
-    requires { Ready frame image.now }
-    ensures { (P : Prog) (heap : List view.Slot) → Of P frame image.now → result ≡ head_ok P heap t }
+fn head_ok(image: &Image<'_>, t: Slot) -> bool
+    ensures { (P : Prog) (heap : List view.Slot) → Of P image.now.frame image.now.bytes.now → result ≡ head_ok P heap t }
 {
     if t.sort == 3 {
         return t.id < 65536;
     }
-    is_create(image, frame, t.id)
+    is_create(image, t.id)
 }
 
 // The slots of the cells: numbered from 0, with what each may hold, and as many as the header says.
-pub fn cells_ok(image: &[u8], frame: Frame, store: &[u8], cells: u64, heap: usize) -> bool
-    requires { Ready frame image.now × (64 + 16 * heap ≤ length store.now) }
-    ensures { (P : Prog) → Of P frame image.now → result ≡ pass P (slots_at store.now 64 heap) cells 0 0 (slots_at store.now 64 heap) }
+pub fn cells_ok(image: &Image<'_>, store: &[u8], cells: u64, heap: usize) -> bool
+    requires { 64 + 16 * heap ≤ length store.now }
+    ensures { (P : Prog) → Of P image.now.frame image.now.bytes.now → result ≡ pass P (slots_at store.now 64 heap) cells 0 0 (slots_at store.now 64 heap) }
 {
     let mut k: u64 = 0;
     let mut f: u8 = 0;
@@ -94,7 +91,7 @@ pub fn cells_ok(image: &[u8], frame: Frame, store: &[u8], cells: u64, heap: usiz
             return false;
         }
         if 3 <= t.sort {
-            if t.payload != k || !head_ok(image, frame, t) {
+            if t.payload != k || !head_ok(image, t) {
                 return false;
             }
             k += 1;

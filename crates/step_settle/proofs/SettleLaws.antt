@@ -1,7 +1,7 @@
 -- The stopped flag is byte 5: setting it makes the bytes those of the state with the flag. Assumes nothing.
 use Prim.Native.Nat.{ℕ, ◌+◌}
 use mathlib.Core.Path.{◌≡◌, refl, sym, ap, ◌∙◌, subst}
-use mathlib.Core.Bool.{Bool, true, false, cond, false≢true}
+use mathlib.Core.Bool.{Bool, true, false, false≢true}
 use mathlib.Core.List.{List, ◌++◌, map}
 use native.Mathlib.Omega.{arith}
 use lib.ListN.{length, drop, set, length-append}
@@ -10,15 +10,15 @@ use Rattle.model.specs.Syntax.{Prog}
 use Rattle.image_spec.specs.Parse.{each}
 use Rattle.step_slots.specs.Slots.{slot_bytes}
 use Rattle.model.specs.Linear.{linear_step_lem}
-use Rattle.step_spec.specs.Located.{Machine, source_machine, linear_machine, Located, stmt_in, cell_in, state_of, project, is_stop}
+use Rattle.step_spec.specs.Located.{Machine, Located, stmt_in, cell_in, state_of, project, is_stop}
 use Rattle.step_spec.proofs.NeverStops.{source-never-stops}
 use Rattle.step_spec.specs.Store.{heap_of, environment_of, bit, header_of, header_bytes, raw_of, store_bytes}
 use Rattle.step_spec.proofs.OneToOne.{only_its_bytes}
 use Rattle.step_header.specs.declared.Header.{Header}
 use Rattle.step_header.specs.Headers.{tuple_of}
 use Rattle.step_write.proofs.Regions.{sets_same}
-use Rattle.step_rule.specs.declared.Stepper.{Stepper}
-use Rattle.step_rule.specs.Rules.{ProgramOf, machine_in, Reads}
+use Rattle.step_places.specs.declared.stepper.Stepper.{Stepper}
+use Rattle.step_rule.specs.Rules.{ProgramOf, machine_for, machine_in, Reads}
 use Rattle.step_rule.proofs.Views.{views}
 use Rattle.step_settle.specs.Settling.{flagged, stopping, Settles}
 
@@ -74,16 +74,16 @@ module _ {M : Machine} {stepper : Stepper} {bytes store : List ℕ} {h : Header}
   settles-stopped f w q = record { settles = λ P l p o s. rw (f P l p o s) (w ∙ stop-bytes o, ap tuple_of q ∙ stop-heads o) }
 
 -- the machine that the stepper's flag says
-pub settles_as : {stepper : Stepper} {bytes store store' : List ℕ} {h h' : Header} {c : Bool} → stepper.linear ≡ c → Settles (cond c linear_machine source_machine) stepper bytes store h store' h'
+pub settles_as : {stepper : Stepper} {bytes store store' : List ℕ} {h h' : Header} {c : Bool} → stepper.linear ≡ c → Settles (machine_for c) stepper bytes store h store' h'
     → Settles (machine_in stepper) stepper bytes store h store' h'
-settles_as {stepper} {bytes} {store} {store'} {h} {h'} e x = subst (λ (z : Bool). Settles (cond z linear_machine source_machine) stepper bytes store h store' h') (sym e) x
+settles_as {stepper} {bytes} {store} {store'} {h} {h'} e x = subst (λ (z : Bool). Settles (machine_for z) stepper bytes store h store' h') (sym e) x
 
 -- a state that has ended does not stop
-pub ended-goes : {P : Prog} {store : List ℕ} {h : Header} {l : Located} (b : Bool) → Reads P store h l → h.ended ≡ true → is_stop ((cond b linear_machine source_machine).step P (project P l)) ≡ false
+pub ended-goes : {P : Prog} {store : List ℕ} {h : Header} {l : Located} (b : Bool) → Reads P store h l → h.ended ≡ true → is_stop ((machine_for b).step P (project P l)) ≡ false
 unfolding project linear_step_lem
 ended-goes {P} {store} {h} {l} b o e = go b l.has_ended (sym (views o).ended ∙ e)
   where
-    go : (b c : Bool) → c ≡ true → is_stop ((cond b linear_machine source_machine).step P (state_of c (stmt_in P l.position) l.environment (map (cell_in P) l.cells))) ≡ false
+    go : (b c : Bool) → c ≡ true → is_stop ((machine_for b).step P (state_of c (stmt_in P l.position) l.environment (map (cell_in P) l.cells))) ≡ false
     go true true f = refl
     go true false f = absurd (false≢true f)
     go false c f = source-never-stops P _

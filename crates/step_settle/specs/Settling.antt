@@ -6,7 +6,7 @@ use Rattle.step_spec.specs.Located.{Machine, Located, project, is_stop}
 use Rattle.step_spec.specs.Store.{header_of, raw_of, store_bytes}
 use Rattle.step_header.specs.declared.Header.{Header}
 use Rattle.step_header.specs.Headers.{tuple_of}
-use Rattle.step_rule.specs.declared.Stepper.{Stepper}
+use Rattle.step_places.specs.declared.stepper.Stepper.{Stepper}
 use Rattle.step_rule.specs.Rules.{ProgramOf, Reads}
 
 -- the state with this flag

@@ -2,16 +2,14 @@
 #![tactic(auto)]
 
 ghost use Rattle.std.specs.Prelude.{◌≡◌, ◌≤◌, ◌<◌, length, set};
-ghost use Rattle.image_directory.specs.Slots.{Ready, records_in};
 ghost use Rattle.step_header.specs.Headers.{Holds};
-ghost use Rattle.step_places.specs.Ends.{Ends};
 ghost use Rattle.step_rule.specs.Rules.{machine_in};
 ghost use Rattle.step_order.specs.Sure.{SureIn};
 ghost use Rattle.step_settle.specs.Settling.{stopping, Settles};
 
 use step_header::Header;
 use step_order::stops;
-use step_rule::Stepper;
+use step_places::stepper::Stepper;
 
 // The flag set, in the store and in the header.
 pub fn stop(store: &mut [u8], header: Header) -> Header
@@ -26,18 +24,11 @@ pub fn stop(store: &mut [u8], header: Header) -> Header
 }
 
 // The source machine never stops, and a run that has ended does not.
-pub fn settle(
-    image: &[u8],
-    stepper: Stepper,
-    ends: &[u32],
-    store: &mut [u8],
-    header: Header,
-    sure: bool,
-) -> Header
-    requires { Ready stepper.frame image.now × ((header.position < stepper.frame.count) × (Holds store.old header × (Ends (records_in stepper.frame image.now) ends.now × SureIn stepper sure store.old header))) }
-    ensures { Settles (machine_in stepper) stepper image.now store.old header store.new result }
+pub fn settle(stepper: &Stepper<'_>, store: &mut [u8], header: Header, sure: bool) -> Header
+    requires { (header.position < stepper.now.image.frame.count) × (Holds store.old header × SureIn stepper.now sure store.old header) }
+    ensures { Settles (machine_in stepper.now) stepper.now stepper.now.image.bytes.now store.old header store.new result }
 {
-    if !header.ended && stepper.linear && stops(image, stepper, ends, store, header, sure) {
+    if !header.ended && stepper.linear && stops(stepper, store, header, sure) {
         return stop(store, header);
     }
     header

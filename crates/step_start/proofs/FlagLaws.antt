@@ -13,7 +13,7 @@ use Rattle.step_spec.proofs.NeverStops.{source-never-stops}
 use Rattle.step_header.specs.declared.Header.{Header}
 use Rattle.step_rows.specs.declared.Row.{Row}
 use Rattle.step_rows.specs.Rows.{ids_in}
-use Rattle.step_rule.specs.declared.Stepper.{Stepper}
+use Rattle.step_places.specs.declared.stepper.Stepper.{Stepper}
 use Rattle.step_rule.specs.Rules.{machine_in}
 use Rattle.step_settle.specs.Settling.{flagged, Settles}
 use Rattle.step_settle.proofs.SettleLaws.{same_bytes, stop-bytes, clear_is}

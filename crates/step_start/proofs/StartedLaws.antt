@@ -37,7 +37,7 @@ use Rattle.step_gather.specs.Gathering.{renamed}
 use Rattle.step_gather.proofs.Renaming.{renamed-length}
 use Rattle.step_values.specs.Values.{are_given_lem}
 use Rattle.step_values.proofs.ValueLaws.{given_slot, are-given, not_given_all}
-use Rattle.step_rule.specs.declared.Stepper.{Stepper}
+use Rattle.step_places.specs.declared.stepper.Stepper.{Stepper}
 use Rattle.step_rule.specs.Rules.{ProgramOf, machine_in, Reads}
 use Rattle.step_settle.specs.Settling.{flagged}
 use Rattle.std.specs.Prelude.{Ok, Err}
@@ -46,7 +46,7 @@ use Rattle.step_answer_spec.specs.Saying.{result_of}
 use Rattle.step_start.specs.Starting.{first_header_lem, start_stops, Flags, DefinedAt}
 use Rattle.step_start.proofs.StartLaws.{first, ε, first-slots, first-bytes, machine-begins, first-size, first-sound}
 
-module _ {P : Prog} {stepper : Stepper} {bytes : List ℕ} {n i : ℕ} (d : DefinedAt P stepper bytes n i) {row : Row} (r : RowOf bytes row (ids (list_of (record_at stepper.frame bytes i)))) where
+module _ {P : Prog} {stepper : Stepper} {bytes : List ℕ} {n i : ℕ} (d : DefinedAt P stepper bytes n i) {row : Row} (r : RowOf bytes row (ids (list_of (record_at stepper.image.frame bytes i)))) where
   -- the row is that of the parameters
   row_is : ids_in bytes row ≡ ids d.def.context
   row_is = r.ids ∙ ap (λ (t : Record). ids (list_of t)) d.head

@@ -9,6 +9,7 @@ use Rattle.model.specs.Syntax.{Def, Prog}
 use Rattle.model.specs.Machine.{nth}
 use Rattle.image_spec.specs.Records.{definition}
 use Rattle.image_read_nodes.specs.Nodes.{record_at, At}
+use Rattle.image_open.specs.declared.opened.Opened.{Opened}
 use Rattle.step_spec.specs.Located.{Located, project, is_stop, definition_place}
 use Rattle.step_spec.specs.Store.{store_bytes}
 use Rattle.step_spec.specs.Events.{givens}
@@ -17,8 +18,8 @@ use Rattle.step_spec.proofs.Stepping.{Readable}
 use Rattle.step_header.specs.declared.Header.{Header}
 use Rattle.step_rows.specs.declared.Row.{Row}
 use Rattle.step_rows.specs.Rows.{ids_in}
-use Rattle.step_rule.specs.declared.Stepper.{Stepper}
-use Rattle.step_rule.specs.Rules.{ProgramOf, machine_in, Reads}
+use Rattle.step_places.specs.declared.stepper.Stepper.{Stepper}
+use Rattle.step_rule.specs.Rules.{ImageOf, ProgramOf, machine_for, machine_in, Reads}
 use Rattle.step_settle.specs.Settling.{flagged}
 use Rattle.step_answer_spec.specs.declared.Shown.{Shown}
 use Rattle.step_answer_spec.specs.declared.Failure.{Failure}
@@ -43,14 +44,14 @@ pub record DefinedAt (P : Prog) (stepper : Stepper) (bytes : List ℕ) (n i : �
   pub found : nth n P.defs ≡ some def
   pub place : i + 1 ≡ definition_place n P.defs 0
   pub name : Identifier
-  pub head : record_at stepper.frame bytes i ≡ definition name def.context
+  pub head : record_at stepper.image.frame bytes i ≡ definition name def.context
 
 -- an image whose questions were answered with yes, and a definition of its program, whose record is at index i
 pub record HasDefinition (stepper : Stepper) (bytes : List ℕ) (i : ℕ) : Type 0 where
-  pub accepted : Accepted stepper bytes
+  pub accepted : Accepted stepper.image.frame stepper.definitions bytes
   pub place : ℕ
   pub defined : DefinedAt accepted.program stepper bytes place i
-  pub record' : At stepper.frame bytes i 1
+  pub record' : At stepper.image.frame bytes i 1
 
 -- a start at this definition, whatever program the image is that of
 pub record StartsIn (stepper : Stepper) (bytes : List ℕ) (i : ℕ) (values store store' : List ℕ) (r : Result Shown Failure) : Type 0 where
@@ -58,5 +59,5 @@ pub record StartsIn (stepper : Stepper) (bytes : List ℕ) (i : ℕ) (values sto
       → result_of r store' [] ≡ start_with (machine_in stepper) P n (givens (length d.def.context) values) store
 
 -- a start at place n among the definitions, whatever program the image is that of
-pub record StartsOn (stepper : Stepper) (bytes : List ℕ) (n : ℕ) (values store store' : List ℕ) (r : Result Shown Failure) : Type 0 where
-  pub starts : (P : Prog) → ProgramOf P stepper bytes → Readable P → result_of r store' [] ≡ start_at (machine_in stepper) P n (nth n P.defs) values store
+pub record StartsOn (linear : Bool) (o : Opened) (n : ℕ) (values store store' : List ℕ) (r : Result Shown Failure) : Type 0 where
+  pub starts : (P : Prog) → ImageOf P o.image.frame o.definitions o.image.bytes.now → Readable P → result_of r store' [] ≡ start_at (machine_for linear) P n (nth n P.defs) values store

@@ -4,14 +4,12 @@
 ghost use Rattle.std.specs.Prelude.{◌≡◌, true, [], ◌++◌, ◌+◌, ◌*◌, ◌≤◌, ◌<◌, length};
 ghost use Rattle.std.proofs.lemmas.List.Edits.{sets};
 ghost use Rattle.image_spec.specs.Parse.{each};
-ghost use Rattle.image_directory.specs.Slots.{Ready, records_in};
 ghost use Rattle.image_open.specs.Opening.{Known};
 ghost use Rattle.step_slots.specs.Slots.{slot_bytes};
 ghost use Rattle.step_slots.specs.Views.{slots_at, all_slots};
 ghost use Rattle.step_spec.specs.Store.{header_bytes};
 ghost use Rattle.step_spec.specs.Calls.{start_call};
 ghost use Rattle.step_header.specs.Headers.{tuple_of, Holds};
-ghost use Rattle.step_places.specs.Ends.{Ends};
 ghost use Rattle.step_rows.specs.Rows.{Inside, ids_in};
 ghost use Rattle.step_gather.specs.Gathering.{renamed};
 ghost use Rattle.step_ask.specs.Asking.{stepper_of};
@@ -19,18 +17,18 @@ ghost use Rattle.step_answer_spec.specs.Saying.{result_of, Accepted};
 ghost use Rattle.step_start.specs.Starting.{first_header_lem, Flags, HasDefinition, StartsIn, StartsOn};
 
 use image_kinds::kinds::Kind;
+use image_open::opened::Opened;
 use image_spec::Layout;
 use image_write_bytes::bytes::copy;
-use image_write_directory::directory::narrow;
 use step_answer_spec::{Failure, Shown};
 use step_ask::ask;
 use step_gather::rename;
 use step_header::{Header, put_header};
 use step_places::ends::fill_ends;
 use step_places::search::find_definition;
+use step_places::stepper::Stepper;
 use step_rows::records::list_row;
 use step_rows::{Row, distinct};
-use step_rule::Stepper;
 use step_settle::{settle, stop};
 use step_values::are_given;
 
@@ -46,24 +44,18 @@ fn begin(image: &[u8], row: Row, values: &[u8], store: &mut [u8], header: Header
 }
 
 // The stopped flag of a start whose parameters are the row's: set where they repeat an ID, or where the machine stops at the first statement.
-fn flag(
-    image: &[u8],
-    stepper: Stepper,
-    ends: &[u32],
-    row: Row,
-    store: &mut [u8],
-    header: Header,
-) -> Header
-    requires { Inside image.now row × (Ready stepper.frame image.now × ((header.position < stepper.frame.count) × (Holds store.old header × Ends (records_in stepper.frame image.now) ends.now))) }
-    ensures { Flags stepper image.now row store.old header store.new }
+fn flag(stepper: &Stepper<'_>, row: Row, store: &mut [u8], header: Header)
+    requires { Inside stepper.now.image.bytes.now row × ((header.position < stepper.now.image.frame.count) × Holds store.old header) }
+    ensures { Flags stepper.now stepper.now.image.bytes.now row store.old header store.new }
 {
-    if stepper.linear {
-        if distinct(image, row) {
-            return settle(image, stepper, ends, store, header, false);
-        }
-        return stop(store, header);
+    if !stepper.linear {
+        return;
     }
-    header
+    if distinct(stepper.image.bytes, row) {
+        settle(stepper, store, header, false);
+    } else {
+        stop(store, header);
+    }
 }
 
 fn first_header(position: u32, entries: u64) -> Header
@@ -81,18 +73,15 @@ fn first_header(position: u32, entries: u64) -> Header
 
 // At the definition whose record is at index i.
 fn start_in(
-    image: &[u8],
-    stepper: Stepper,
-    ends: &[u32],
+    stepper: &Stepper<'_>,
     i: usize,
     values: &[u8],
     store: &mut [u8],
 ) -> Result<Shown, Failure>
-    requires { HasDefinition stepper image.now i × Ends (records_in stepper.frame image.now) ends.now }
-    ensures { StartsIn stepper image.now i values.now store.old store.new result }
+    requires { HasDefinition stepper.now stepper.now.image.bytes.now i }
+    ensures { StartsIn stepper.now stepper.now.image.bytes.now i values.now store.old store.new result }
 {
-    let frame = stepper.frame;
-    let row = list_row(image, frame, i, Kind::DEFINITION);
+    let row = list_row(&stepper.image, i, Kind::Definition);
     let len = row.len;
     let none = Shown {
         steps: 0,
@@ -104,29 +93,33 @@ fn start_in(
     if store.len() < 64 + 16 * len {
         return Err(Failure::NoRoom(none));
     }
-    let header = first_header(narrow(i + 1), len as u64);
-    begin(image, row, values, store, header);
-    flag(image, stepper, ends, row, store, header);
+    let header = first_header((i + 1) as u32, len as u64);
+    begin(stepper.image.bytes, row, values, store, header);
+    flag(stepper, row, store, header);
     Ok(none)
 }
 
 // A start on an image whose questions were answered with yes.
 fn start_on(
-    image: &[u8],
-    stepper: Stepper,
+    opened: &Opened<'_>,
+    linear: bool,
     definition: usize,
     values: &[u8],
     store: &mut [u8],
 ) -> Result<Shown, Failure>
-    requires { Accepted stepper image.now }
-    ensures { StartsOn stepper image.now definition values.now store.old store.new result }
+    requires { Accepted opened.now.image.frame opened.now.definitions opened.now.image.bytes.now }
+    ensures { StartsOn linear opened.now definition values.now store.old store.new result }
 {
-    let frame = stepper.frame;
-    let definitions = stepper.definitions;
     let mut ends = [0u32; 4000];
-    fill_ends(image, frame, &mut ends);
-    let i = find_definition(image, frame, &ends, definitions, definition).ok_or(Failure::NoState)?;
-    start_in(image, stepper, &ends, i, values, store)
+    fill_ends(&opened.image, &mut ends);
+    let stepper = Stepper {
+        image: opened.image,
+        ends: &ends,
+        definitions: opened.definitions,
+        linear,
+    };
+    let i = find_definition(&stepper, definition).ok_or(Failure::NoState)?;
+    start_in(&stepper, i, values, store)
 }
 
 // A start of the source or the linear stepper at the definition with this place among the definitions.
@@ -141,6 +134,6 @@ pub fn start(
     requires { Known layout }
     ensures { result_of result store.new [] ≡ start_call (stepper_of linear layout) image.now definition values.now store.old }
 {
-    let stepper = ask(image, layout, linear)?;
-    start_on(image, stepper, definition, values, store)
+    let opened = ask(image, layout, linear)?;
+    start_on(&opened, linear, definition, values, store)
 }

@@ -1,47 +1,44 @@
 // call.rs: the definition with this label, and the values under the names of its parameters. Nothing else is in its environment.
 ghost use Rattle.std.specs.Prelude.{◌≡◌, true, ◌*◌, ◌≤◌, length};
-ghost use Rattle.image_directory.specs.Slots.{Ready, records_in};
-ghost use Rattle.image_read_nodes.specs.Nodes.{record_at, first_of, At};
+ghost use Rattle.image_read_nodes.specs.Nodes.{first_of};
 ghost use Rattle.step_slots.specs.Views.{slots_at, all_slots};
 ghost use Rattle.step_spec.specs.Located.{source_machine, linear_machine};
 ghost use Rattle.step_spec.specs.Events.{event_head};
 ghost use Rattle.step_header.specs.Headers.{Holds};
-ghost use Rattle.step_places.specs.Ends.{Ends};
 ghost use Rattle.step_rows.specs.Rows.{ids_in, Inside};
 ghost use Rattle.step_gather.specs.Gathering.{renamed};
 ghost use Rattle.step_rule.specs.Rules.{Given, MakesAs};
 ghost use Rattle.step_enter.specs.Entering.{Enters};
 ghost use Rattle.step_statement_call.specs.Calling.{DefinitionOf};
+ghost use Rattle.image_read_nodes.specs.Opened.{record_of, IsAt};
 
-use image_directory::Frame;
+use image_directory::image::Image;
 use image_kinds::kinds::Kind;
 use image_read_nodes::first;
 use step_enter::{Parameters, enter, fetch, parameters_of};
 use step_gather::gather;
 use step_header::Header;
 use step_places::search::find_label;
+use step_places::stepper::Stepper;
 use step_rows::Row;
 use step_rows::records::list_row;
-use step_rule::Stepper;
 use step_write::{EventHead, Step, Stop};
 
 // The label of the Call at this place.
-fn label_of(image: &[u8], frame: Frame, position: u32) -> u32
-    requires { At frame image.now position 3 }
-    ensures { result ≡ (first_of (record_at frame image.now position)).name.0 }
+fn label_of(image: &Image<'_>, position: u32) -> u32
+    requires { IsAt image.now position 3 }
+    ensures { result ≡ (first_of (record_of image.now position)).name.0 }
 {
-    let label = first(image, frame, position as usize, Kind::CALL);
+    let label = first(image, position as usize, Kind::Call);
     u32::from(label.name.0)
 }
 
 // The first definition with this label.
-fn definition_of(image: &[u8], stepper: Stepper, ends: &[u32], label: u32) -> Option<Parameters>
-    requires { Ready stepper.frame image.now × Ends (records_in stepper.frame image.now) ends.now }
-    ensures { DefinitionOf stepper image.now label result }
+fn definition_of(stepper: &Stepper<'_>, label: u32) -> Option<Parameters>
+    ensures { DefinitionOf stepper.now stepper.now.image.bytes.now label result }
 {
-    let frame = stepper.frame;
-    let found = find_label(image, frame, ends, stepper.definitions, label);
-    parameters_of(image, frame, found, Kind::DEFINITION)
+    let found = find_label(stepper, label);
+    parameters_of(&stepper.image, found, Kind::Definition)
 }
 
 // A step to the body, with the values at the beginning of scratch as the only entries. The label is shown.
@@ -60,7 +57,7 @@ fn jump(
     ensures { Enters store.old events.old header at body (event_head 3 0 label 0 0) 0 0 (renamed (ids_in image.now row) (slots_at scratch.old 0 row.len)) store.new events.new result }
 {
     let event = EventHead {
-        kind: Kind::CALL,
+        kind: Kind::Call,
         detail: 0,
         name: label,
         count: 0,
@@ -73,33 +70,30 @@ fn jump(
 
 // The source machine's: the values are those of the args.
 pub fn source(
-    image: &[u8],
-    stepper: Stepper,
-    ends: &[u32],
+    stepper: &Stepper<'_>,
     store: &mut [u8],
     events: &mut [u8],
     scratch: &mut [u8],
     header: Header,
     at: usize,
 ) -> Result<Step, Stop>
-    requires { Given stepper image.now store.old events.old scratch.old header at 3 × Ends (records_in stepper.frame image.now) ends.now }
-    ensures { MakesAs source_machine stepper image.now store.old events.old header at store.new events.new result }
+    requires { Given stepper.now stepper.now.image.bytes.now store.old events.old scratch.old header at 3 }
+    ensures { MakesAs source_machine stepper.now stepper.now.image.bytes.now store.old events.old header at store.new events.new result }
 {
-    let frame = stepper.frame;
-    let args = list_row(image, frame, header.position as usize, Kind::CALL);
+    let args = list_row(&stepper.image, header.position as usize, Kind::Call);
     let from = 64 + 16 * header.heap as usize;
     let entries = header.entries as usize;
-    if !gather(image, args, store, from, entries, scratch, 0) {
+    if !gather(stepper.image.bytes, args, store, from, entries, scratch, 0) {
         return Err(Stop::NoStep);
     }
-    let label = label_of(image, frame, header.position);
-    let called = definition_of(image, stepper, ends, label).ok_or(Stop::NoStep)?;
+    let label = label_of(&stepper.image, header.position);
+    let called = definition_of(stepper, label).ok_or(Stop::NoStep)?;
     let row = called.row;
     if row.len != args.len {
         return Err(Stop::NoStep);
     }
     jump(
-        image,
+        stepper.image.bytes,
         row,
         store,
         events,
@@ -113,29 +107,27 @@ pub fn source(
 
 // The linear machine's: the values are those of all entries. The args aren't read.
 pub fn linear(
-    image: &[u8],
-    stepper: Stepper,
-    ends: &[u32],
+    stepper: &Stepper<'_>,
     store: &mut [u8],
     events: &mut [u8],
     scratch: &mut [u8],
     header: Header,
     at: usize,
 ) -> Result<Step, Stop>
-    requires { Given stepper image.now store.old events.old scratch.old header at 3 × Ends (records_in stepper.frame image.now) ends.now }
-    ensures { MakesAs linear_machine stepper image.now store.old events.old header at store.new events.new result }
+    requires { Given stepper.now stepper.now.image.bytes.now store.old events.old scratch.old header at 3 }
+    ensures { MakesAs linear_machine stepper.now stepper.now.image.bytes.now store.old events.old header at store.new events.new result }
 {
     let from = 64 + 16 * header.heap as usize;
     let entries = header.entries as usize;
-    let label = label_of(image, stepper.frame, header.position);
-    let called = definition_of(image, stepper, ends, label).ok_or(Stop::NoStep)?;
+    let label = label_of(&stepper.image, header.position);
+    let called = definition_of(stepper, label).ok_or(Stop::NoStep)?;
     let row = called.row;
     if row.len != entries {
         return Err(Stop::NoStep);
     }
     fetch(store, from, entries, scratch);
     jump(
-        image,
+        stepper.image.bytes,
         row,
         store,
         events,

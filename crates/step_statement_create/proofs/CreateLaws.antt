@@ -31,8 +31,7 @@ use Rattle.step_places.proofs.NextPlaces.{bodies-place}
 use Rattle.step_write.specs.declared.Step.{Step}
 use Rattle.step_write.specs.declared.Stop.{Stop}
 use Rattle.step_write.specs.Writing.{Finishes}
-use Rattle.step_rule.specs.declared.Stepper.{Stepper}
-use Rattle.step_rule.specs.Rules.{ProgramOf, Stored}
+use Rattle.step_rule.specs.Rules.{ImageOf, Stored}
 use Rattle.step_rule.proofs.Views.{viewed}
 use Rattle.step_rule.proofs.Leads.{Leads}
 use Rattle.step_rule.proofs.Ways.{entries_stay, lead_made}
@@ -76,17 +75,17 @@ creation (is_ifc thenc elsec) k = absurd (omega arith)
 creation (is_print next) k = absurd (omega arith)
 creation is_exit k = absurd (omega arith)
 
-module _ {M : Machine} {P : Prog} {stepper : Stepper} {bytes store : List ℕ} {h : Header} {l : Located} (p : ProgramOf P stepper bytes) (o : Stored M P store h l)
-    (a : At stepper.frame bytes h.position 6) where
-  pub created : Creation (stmt_in P l.position) (record_at stepper.frame bytes h.position)
-  created = creation (here p o (record_at stepper.frame bytes h.position) refl) a.kind
+module _ {M : Machine} {P : Prog} {frame : Frame} {definitions : ℕ} {bytes store : List ℕ} {h : Header} {l : Located} (p : ImageOf P frame definitions bytes) (o : Stored M P store h l)
+    (a : At frame bytes h.position 6) where
+  pub created : Creation (stmt_in P l.position) (record_at frame bytes h.position)
+  created = creation (here p o (record_at frame bytes h.position) refl) a.kind
 
   -- its body is where the code hops
-  pub body-place : {ends : List ℕ} {r : Parts} → Ends (image.records_in stepper.frame bytes) ends → PartsOf stepper.frame bytes ends h.position r
+  pub body-place : {ends : List ℕ} {r : Parts} → Ends (image.records_in frame bytes) ends → PartsOf frame bytes ends h.position r
       → r.next ≡ bodies_place l.position (stmt_in P l.position)
   body-place {ends} {r} e q =
       let c = created in
-      let k = clauses_of (record_at stepper.frame bytes h.position) in
+      let k = clauses_of (record_at frame bytes h.position) in
       let n : k ≡ clauses_of (record_of (stmt_in P l.position)) = ap clauses_of c.holds ∙ sym (ap (λ (t : Stmt). clauses_of (record_of t)) c.is) in
       let hop : Hopped ends k (l.position + 1) r.next = subst (λ (i : ℕ). Hopped ends k (i + 1) r.next) (viewed o).position q.next in
       bodies-place (subst (λ (rs : List Record). Ends rs ends) p.records e) (placed p o).here n hop

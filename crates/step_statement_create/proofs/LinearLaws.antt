@@ -21,12 +21,12 @@ use Rattle.image_spec.specs.Kinds.{kind_of}
 use Rattle.image_spec.proofs.DirectoryLaws.{and_left}
 use Rattle.image_directory.specs.declared.Frame.{Frame}
 use Rattle.image_directory.specs.Slots as image
+use Rattle.image_directory.specs.Slots.{Ready}
 use Rattle.image_read_nodes.specs.Nodes.{record_at, first_of, At}
 use Rattle.image_read_nodes.proofs.NodeLaws.{record_ok}
 use Rattle.step_slots.specs.declared.Slot.{Slot}
 use Rattle.step_slots.specs.Slots.{slot_bytes}
 use Rattle.step_spec.specs.Located.{linear_machine, made, Located, stmt_in, cell_in, project, located_step}
-use Rattle.step_spec.specs.Store as state
 use Rattle.step_spec.specs.Store.{EntryFits}
 use Rattle.step_spec.specs.Events.{event_head}
 use Rattle.step_spec.proofs.Lists.{each-++, all_drop}
@@ -40,8 +40,7 @@ use Rattle.step_rows.proofs.RecordRowLaws.{environment_none, environment_some}
 use Rattle.step_write.specs.declared.Step.{Step}
 use Rattle.step_write.specs.declared.Stop.{Stop}
 use Rattle.step_write.specs.Writing.{Finishes}
-use Rattle.step_rule.specs.declared.Stepper.{Stepper}
-use Rattle.step_rule.specs.Rules.{ProgramOf, Stored, resting, Makes}
+use Rattle.step_rule.specs.Rules.{ImageOf, Stored, resting, Makes}
 use Rattle.step_rule.proofs.Views.{viewed}
 use Rattle.step_rule.proofs.Leads.{leads-makes}
 use Rattle.step_rule.proofs.Machines.{in_order, linear-works}
@@ -95,17 +94,17 @@ module _ (g : Frame) {s : List ℕ} {i position : ℕ} {r : Maybe Row} (at' : i 
   none_there e = ap (λ (j : ℕ). environment_of (record_at g s j)) (sym at') ∙ environment_none q e
 
   -- .. or a row of it
-  pub some_there : {row : Row} → At g s position 6 → r ≡ Some row → Encloses g s position row.len
-  some_there {row} a e =
+  pub some_there : {row : Row} → Ready g s → At g s position 6 → r ≡ Some row → Encloses g s position row.len
+  some_there {row} ready a e =
       let t = environment_some q e in
       let f : environment_of (record_at g s position) ≡ some t.context = ap (λ (j : ℕ). environment_of (record_at g s j)) (sym at') ∙ t.is in
       let n : length t.context ≡ row.len = sym (length-map t.context id_of) ∙ row-length t.holds in
-      record { context = t.context; is = f; count = n; few = omega (arith, n, few-held g.id t.context (record_at g s position) a.kind (record_ok g s position 6 a) f) }
+      record { context = t.context; is = f; count = n; few = omega (arith, n, few-held g.id t.context (record_at g s position) a.kind (record_ok g s position 6 ready a) f) }
 
-module _ {P : Prog} {stepper : Stepper} {bytes store : List ℕ} {h : Header} {l : Located} (p : ProgramOf P stepper bytes) (o : Stored linear_machine P store h l)
-    (a : At stepper.frame bytes h.position 6) where
+module _ {P : Prog} {frame : Frame} {definitions : ℕ} {bytes store : List ℕ} {h : Header} {l : Located} (p : ImageOf P frame definitions bytes) (o : Stored linear_machine P store h l)
+    (a : At frame bytes h.position 6) where
   abbrev r : Record
-  r = record_at stepper.frame bytes h.position
+  r = record_at frame bytes h.position
 
   -- the environment of the record is that of the statement
   environment_is : (Γ : Option Context) → environment_of r ≡ Γ → (created p o a).environment ≡ Γ
@@ -123,7 +122,7 @@ module _ {P : Prog} {stepper : Stepper} {bytes store : List ℕ} {h : Header} {l
   has-environment e = false≢true (in_order_as none e)
 
   -- .. and the list has its entries
-  pub has-entries : {k : ℕ} → Encloses stepper.frame bytes h.position k → k ≤ h.entries
+  pub has-entries : {k : ℕ} → Encloses frame bytes h.position k → k ≤ h.entries
   unfolding in_order_lem
   has-entries {k} g =
       let Γ = g.context in
@@ -136,7 +135,7 @@ module _ {P : Prog} {stepper : Stepper} {bytes store : List ℕ} {h : Header} {l
   abbrev K : Cells
   K = map (cell_in P) l.cells
 
-  module _ {k : ℕ} (g : Encloses stepper.frame bytes h.position k) where
+  module _ {k : ℕ} (g : Encloses frame bytes h.position k) where
     abbrev c : Creation (stmt_in P l.position) r
     c = created p o a
 
@@ -167,8 +166,8 @@ module _ {P : Prog} {stepper : Stepper} {bytes store : List ℕ} {h : Header} {l
         each-++ slot_bytes T (var ∷ []) ∙ ap₂ {C = List ℕ} (λ (y z : List ℕ). y ++ z) (sym (before-bytes o k)) (append-nil (slot_bytes var)) in
         ap (λ (z : List ℕ). slot_bytes (cell_slot_lem h) ++ z) (each-++ slot_bytes D (T ++ (var ∷ [])) ∙ ap₂ {C = List ℕ} (λ (y z : List ℕ). y ++ z) (sym (last-bytes o k within)) t)
 
-    pub linear-makes : {ends events store' events' : List ℕ} {at' : ℕ} {q : Parts} {m : Result Step Stop} → Ends (image.records_in stepper.frame bytes) ends
-        → PartsOf stepper.frame bytes ends h.position q → Closes store events h at' q k store' events' m
+    pub linear-makes : {ends events store' events' : List ℕ} {at' : ℕ} {q : Parts} {m : Result Step Stop} → Ends (image.records_in frame bytes) ends
+        → PartsOf frame bytes ends h.position q → Closes store events h at' q k store' events' m
         → Makes store events at' (resting (located_step linear_machine P l)) store' events' m
     linear-makes {events = events} {at' = at'} {q = q} en pq w =
         let E = entries_in store h in

@@ -10,6 +10,7 @@ use Rattle.model.specs.Source.{source_work}
 use Rattle.model.specs.Syntax.{Create, Prog}
 use Rattle.image_spec.specs.Parse.{each}
 use Rattle.image_spec.specs.Records.{Record}
+use Rattle.image_directory.specs.declared.Frame.{Frame}
 use Rattle.image_directory.specs.Slots as image
 use Rattle.image_read_nodes.specs.Nodes.{first_of, At}
 use Rattle.step_slots.specs.declared.Slot.{Slot}
@@ -24,8 +25,7 @@ use Rattle.step_places.specs.Ends.{Ends}
 use Rattle.step_write.specs.declared.Step.{Step}
 use Rattle.step_write.specs.declared.Stop.{Stop}
 use Rattle.step_write.specs.Writing.{Finishes}
-use Rattle.step_rule.specs.declared.Stepper.{Stepper}
-use Rattle.step_rule.specs.Rules.{ProgramOf, Stored, resting, Makes}
+use Rattle.step_rule.specs.Rules.{ImageOf, Stored, resting, Makes}
 use Rattle.step_rule.proofs.Views.{viewed}
 use Rattle.step_rule.proofs.Leads.{leads-makes}
 use Rattle.step_rule.proofs.Machines.{source-works}
@@ -49,9 +49,9 @@ module _ {P : Prog} {store : List ℕ} {h : Header} {l : Located} (o : Stored so
       sym (slots-taken store (64 + 16 * h.heap) h.entries (slots-count store (64 + 16 * h.heap) h.entries) (viewed o).entries_slots) in
       ap (λ (z : List ℕ). slot_bytes (cell_slot_lem h) ++ z) (each-++ slot_bytes E (var ∷ E) ∙ ap (λ (z : List ℕ). z ++ (slot_bytes var ++ z)) t)
 
-  pub source-makes : {stepper : Stepper} {bytes ends events store' events' shown : List ℕ} {at' from n : ℕ} {r : Parts} {next : Header} {head var : Slot} {m : Result Step Stop}
-      → ProgramOf P stepper bytes → At stepper.frame bytes h.position 6 → Ends (image.records_in stepper.frame bytes) ends
-      → PartsOf stepper.frame bytes ends h.position r → next ≡ closed h r.next h.entries h.entries → shown ≡ event_head 6 1 0 0 h.cells
+  pub source-makes : {frame : Frame} {definitions : ℕ} {bytes ends events store' events' shown : List ℕ} {at' from n : ℕ} {r : Parts} {next : Header} {head var : Slot} {m : Result Step Stop}
+      → ImageOf P frame definitions bytes → At frame bytes h.position 6 → Ends (image.records_in frame bytes) ends
+      → PartsOf frame bytes ends h.position r → next ≡ closed h r.next h.entries h.entries → shown ≡ event_head 6 1 0 0 h.cells
       → from ≡ 64 + 16 * h.heap → n ≡ h.entries → head ≡ cell_slot_lem h → var ≡ var_slot_lem h r.id
       → Finishes store events at' next shown from (holding store from n head var) store' events' m → Makes store events at' (resting (located_step source_machine P l)) store' events' m
   unfolding source_work

@@ -1,24 +1,21 @@
 // create.rs: the clauses with an environment in a new cell, and the cell under var.
 ghost use Rattle.std.specs.Prelude.{◌≡◌, ◌++◌, ◌+◌, ◌*◌, ◌≤◌, ◌<◌, ◌^◌, length, take, drop};
-ghost use Rattle.image_directory.specs.Slots.{records_in};
-ghost use Rattle.image_read_nodes.specs.Nodes.{At};
 ghost use Rattle.step_slots.specs.Slots.{slot_bytes};
 ghost use Rattle.step_spec.specs.Events.{event_head};
 ghost use Rattle.step_spec.specs.Located.{source_machine, linear_machine};
 ghost use Rattle.step_header.specs.Headers.{Holds};
-ghost use Rattle.step_places.specs.Ends.{Ends};
 ghost use Rattle.step_write.specs.Writing.{head_bytes};
 ghost use Rattle.step_rule.specs.Rules.{Given, MakesAs};
 ghost use Rattle.step_statement_create.specs.Creating.{PartsOf, closed, cell_slot_lem, var_slot_lem, Closes};
+ghost use Rattle.image_read_nodes.specs.Opened.{IsAt};
 
-use image_directory::Frame;
 use image_kinds::kinds::Kind;
 use image_read_nodes::{first, parts_of};
 use image_write_bytes::bytes::copy;
 use step_header::Header;
 use step_places::ends::hop;
+use step_places::stepper::Stepper;
 use step_rows::records::environment_row;
-use step_rule::Stepper;
 use step_slots::{Slot, put_slot};
 use step_write::{EventHead, Step, Stop, finish_before, finish_holding};
 
@@ -30,14 +27,14 @@ pub struct Parts {
 }
 
 // The parts of the Create at this place.
-fn read_parts(image: &[u8], frame: Frame, ends: &[u32], position: u32) -> Parts
-    requires { At frame image.now position 6 }
-    ensures { PartsOf frame image.now ends.now position result }
+fn read_parts(stepper: &Stepper<'_>, position: u32) -> Parts
+    requires { IsAt stepper.now.image position 6 }
+    ensures { PartsOf stepper.now.image.frame stepper.now.image.bytes.now stepper.now.ends.now position result }
 {
     let i = position as usize;
-    let var = first(image, frame, i, Kind::CREATE);
-    let follows = parts_of(image, frame, i);
-    let body = hop(ends, i + 1, follows.clauses);
+    let var = first(&stepper.image, i, Kind::Create);
+    let follows = parts_of(&stepper.image, i);
+    let body = hop(stepper.ends, i + 1, follows.clauses);
     Parts {
         id: var.id.0,
         next: body as u32,
@@ -64,7 +61,7 @@ fn event(header: Header) -> EventHead
     ensures { head_bytes result ≡ event_head 6 1 0 0 header.cells }
 {
     EventHead {
-        kind: Kind::CREATE,
+        kind: Kind::Create,
         detail: 1,
         name: 0,
         count: 0,
@@ -96,20 +93,18 @@ fn var_slot(header: Header, id: u32) -> Slot
 
 // The source machine's: the cell holds the whole environment, which stays behind var.
 pub fn source(
-    image: &[u8],
-    stepper: Stepper,
-    ends: &[u32],
+    stepper: &Stepper<'_>,
     store: &mut [u8],
     events: &mut [u8],
     header: Header,
     at: usize,
 ) -> Result<Step, Stop>
-    requires { At stepper.frame image.now header.position 6 × (Holds store.old header × ((at ≤ length events.old) × Ends (records_in stepper.frame image.now) ends.now)) }
-    ensures { MakesAs source_machine stepper image.now store.old events.old header at store.new events.new result }
+    requires { IsAt stepper.now.image header.position 6 × (Holds store.old header × (at ≤ length events.old)) }
+    ensures { MakesAs source_machine stepper.now stepper.now.image.bytes.now store.old events.old header at store.new events.new result }
 {
     let from = 64 + 16 * header.heap as usize;
     let n = header.entries as usize;
-    let create = read_parts(image, stepper.frame, ends, header.position);
+    let create = read_parts(stepper, header.position);
     let next = after(header, create.next, header.entries, header.entries);
     let cell = cell_slot(header);
     let var = var_slot(header, create.id);
@@ -161,23 +156,20 @@ fn close_over(
 
 // The linear machine's. With no environment, or a longer one than the list, it would have stopped.
 pub fn linear(
-    image: &[u8],
-    stepper: Stepper,
-    ends: &[u32],
+    stepper: &Stepper<'_>,
     store: &mut [u8],
     events: &mut [u8],
     scratch: &mut [u8],
     header: Header,
     at: usize,
 ) -> Result<Step, Stop>
-    requires { Given stepper image.now store.old events.old scratch.old header at 6 × Ends (records_in stepper.frame image.now) ends.now }
-    ensures { MakesAs linear_machine stepper image.now store.old events.old header at store.new events.new result }
+    requires { Given stepper.now stepper.now.image.bytes.now store.old events.old scratch.old header at 6 }
+    ensures { MakesAs linear_machine stepper.now stepper.now.image.bytes.now store.old events.old header at store.new events.new result }
 {
-    let frame = stepper.frame;
-    let row = environment_row(image, frame, header.position as usize).ok_or(Stop::NoStep)?;
+    let row = environment_row(&stepper.image, header.position as usize).ok_or(Stop::NoStep)?;
     if (header.entries as usize) < row.len {
         return Err(Stop::NoStep);
     }
-    let create = read_parts(image, frame, ends, header.position);
+    let create = read_parts(stepper, header.position);
     close_over(store, events, scratch, header, at, create, row.len)
 }

@@ -16,6 +16,7 @@ use Rattle.model.specs.Machine.{Value, int, cell, outside, ended, Outcome, shows
 use Rattle.model.specs.Source.{source_work}
 use Rattle.model.specs.Linear.{linear_work}
 use Rattle.image_spec.specs.Records.{exit}
+use Rattle.image_directory.specs.declared.Frame.{Frame}
 use Rattle.image_read_nodes.specs.Nodes.{record_at}
 use Rattle.step_slots.specs.declared.Slot.{Slot}
 use Rattle.step_spec.specs.Located.{Machine, Located, stmt_in, cell_in, project, next_place_lem, located_step}
@@ -28,8 +29,7 @@ use Rattle.step_entries.specs.Named.{named}
 use Rattle.step_write.specs.declared.Step.{Step}
 use Rattle.step_write.specs.declared.Stop.{Stop}
 use Rattle.step_write.specs.declared.Stop.TheVariants.{NoStep}
-use Rattle.step_rule.specs.declared.Stepper.{Stepper}
-use Rattle.step_rule.specs.Rules.{ProgramOf, Stored, resting, Makes}
+use Rattle.step_rule.specs.Rules.{ImageOf, Stored, resting, Makes}
 use Rattle.step_rule.proofs.Views.{viewed}
 use Rattle.step_rule.proofs.Finds.{Sees, sees_none, sees-int, sees-cell, sees-outside, sees}
 use Rattle.step_rule.proofs.Statements.{Is, is_exit, here}
@@ -93,8 +93,8 @@ module _ (P : Prog) (l : Located) (v : Identifier) (e : stmt_in P l.position ≡
 exit-there : {v : Identifier} {t : Stmt} → Is t (exit v) → t ≡ Exit v
 exit-there is_exit = refl
 
-module _ (b : Bool) {P : Prog} {stepper : Stepper} {bytes store : List ℕ} {h : Header} {l : Located} {v : Identifier} {t : Slot}
-    (p : ProgramOf P stepper bytes) (o : Stored (machine b) P store h l) (e : record_at stepper.frame bytes h.position ≡ exit v) (q : t ≡ named v.id.0 (entries_in store h))
+module _ (b : Bool) {P : Prog} {frame : Frame} {definitions : ℕ} {bytes store : List ℕ} {h : Header} {l : Located} {v : Identifier} {t : Slot}
+    (p : ImageOf P frame definitions bytes) (o : Stored (machine b) P store h l) (e : record_at frame bytes h.position ≡ exit v) (q : t ≡ named v.id.0 (entries_in store h))
     (events : List ℕ) (at' : ℕ) where
   pub exit-halts : t.sort ≡ 5 → Makes store events at' (resting (located_step (machine b) P l)) store events (Err NoStep)
   exit-halts s = nothing-made o events at' (goes P l v (exit-there (here p o (exit v) e)) b o) (absent o v.id (sees o v.id q) s)

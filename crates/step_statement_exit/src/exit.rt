@@ -8,7 +8,7 @@ use image_kinds::kinds::Kind;
 use pass_records as records;
 use step_header::Header;
 use step_lookup::slot_of;
-use step_rule::Stepper;
+use step_places::stepper::Stepper;
 use step_slots::{Slot, read};
 use step_stay::stay;
 use step_write::{EventHead, Step, Stop};
@@ -36,24 +36,23 @@ fn payload_of(store: &[u8], header: Header, value: Slot) -> u64
 }
 
 pub fn exit(
-    image: &[u8],
-    stepper: Stepper,
+    stepper: &Stepper<'_>,
     store: &mut [u8],
     events: &mut [u8],
     scratch: &mut [u8],
     header: Header,
     at: usize,
 ) -> Result<Step, Stop>
-    requires { Given stepper image.now store.old events.old scratch.old header at 13 }
-    ensures { MakesAs (machine_in stepper) stepper image.now store.old events.old header at store.new events.new result }
+    requires { Given stepper.now stepper.now.image.bytes.now store.old events.old scratch.old header at 13 }
+    ensures { MakesAs (machine_in stepper.now) stepper.now stepper.now.image.bytes.now store.old events.old header at store.new events.new result }
 {
-    let statement = records::exit(image, stepper.frame, header.position as usize);
+    let statement = records::exit(&stepper.image, header.position as usize);
     let value = slot_of(store, header, statement.var.id.0);
     if value.sort == 5 {
         return Err(Stop::NoStep);
     }
     let event = EventHead {
-        kind: Kind::EXIT,
+        kind: Kind::Exit,
         detail: value.sort,
         name: 0,
         count: 0,

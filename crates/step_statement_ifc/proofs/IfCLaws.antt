@@ -18,6 +18,7 @@ use Rattle.model.specs.Linear.{linear_work}
 use Rattle.image_spec.specs.Records.{Record, ifc}
 use Rattle.image_spec.specs.Shape.{flatten_clauses, max_depth}
 use Rattle.image_places_spec.specs.Places.{StmtStands}
+use Rattle.image_directory.specs.declared.Frame.{Frame}
 use Rattle.image_directory.specs.Slots as image
 use Rattle.image_read_nodes.specs.Nodes.{record_at}
 use Rattle.step_spec.specs.Located.{Machine, Located, records_in, stmt_in, cell_in, project, second_place, next_place_lem, located_step}
@@ -31,8 +32,7 @@ use Rattle.step_write.specs.declared.Stop.{Stop}
 use Rattle.step_write.specs.declared.Stop.TheVariants.{NoStep}
 use Rattle.step_places.specs.Ends.{Ends, Hopped}
 use Rattle.step_places.proofs.NextPlaces.{else_place}
-use Rattle.step_rule.specs.declared.Stepper.{Stepper}
-use Rattle.step_rule.specs.Rules.{ProgramOf, Stored, resting, Makes}
+use Rattle.step_rule.specs.Rules.{ImageOf, Stored, resting, Makes}
 use Rattle.step_rule.proofs.Views.{viewed}
 use Rattle.step_rule.proofs.Statements.{Is, is_ifc, placed, here}
 use Rattle.step_rule.proofs.Machines.{source-works, linear-works}
@@ -90,8 +90,8 @@ module _ (P : Prog) (l : Located) (sort : IfSort) (fst : Identifier) (snd : Opti
 there : {sort : IfSort} {fst : Identifier} {snd : Option Identifier} {t : Stmt} → Is t (ifc sort fst snd) → (thenc : Stmt) × (elsec : Stmt) × (t ≡ IfC sort fst snd thenc elsec)
 there (is_ifc thenc elsec) = (thenc, elsec, refl)
 
-module _ (b : Bool) {P : Prog} {stepper : Stepper} {bytes store : List ℕ} {h : Header} {l : Located} {sort : IfSort} {fst : Identifier} {snd : Option Identifier}
-    (p : ProgramOf P stepper bytes) (o : Stored (machine b) P store h l) (e : record_at stepper.frame bytes h.position ≡ ifc sort fst snd) (events : List ℕ) (at' : ℕ) where
+module _ (b : Bool) {P : Prog} {frame : Frame} {definitions : ℕ} {bytes store : List ℕ} {h : Header} {l : Located} {sort : IfSort} {fst : Identifier} {snd : Option Identifier}
+    (p : ImageOf P frame definitions bytes) (o : Stored (machine b) P store h l) (e : record_at frame bytes h.position ≡ ifc sort fst snd) (events : List ℕ) (at' : ℕ) where
   pub ifc-halts : none ≡ shown store h sort fst snd → Makes store events at' (resting (located_step (machine b) P l)) store events (Err NoStep)
   ifc-halts w = let t = there (here p o (ifc sort fst snd) e) in nothing-made o events at' (goes P l sort fst snd t.0 t.1 t.2 b o) w
 
@@ -107,7 +107,7 @@ module _ (b : Bool) {P : Prog} {stepper : Stepper} {bytes store : List ℕ} {h :
         → Makes store events at' (resting (located_step (machine b) P l)) store' events' m
     then_makes w s = let t = there (here p o (ifc sort fst snd) e) in ifc-makes true w (then_at P l sort fst snd t.0 t.1 t.2 h (viewed o).position) s
 
-    pub else_makes : {r : ℕ} {ends : List ℕ} → some false ≡ shown store h sort fst snd → Ends (image.records_in stepper.frame bytes) ends → Hopped ends 1 (h.position + 1) r
+    pub else_makes : {r : ℕ} {ends : List ℕ} → some false ≡ shown store h sort fst snd → Ends (image.records_in frame bytes) ends → Hopped ends 1 (h.position + 1) r
         → Stays store events h at' r false (event_head 10 0 0 0 0) store' events' m → Makes store events at' (resting (located_step (machine b) P l)) store' events' m
     else_makes {r} {ends} w n j s =
         let t = there (here p o (ifc sort fst snd) e) in

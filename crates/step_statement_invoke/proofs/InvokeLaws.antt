@@ -20,6 +20,7 @@ use Rattle.image_spec.specs.Records.{Record, invoke}
 use Rattle.image_spec.specs.Kinds.{kind_of}
 use Rattle.image_spec.specs.Shape.{max_depth}
 use Rattle.image_places_spec.specs.Views.{clauses_in}
+use Rattle.image_directory.specs.declared.Frame.{Frame}
 use Rattle.image_directory.specs.Slots as image
 use Rattle.image_directory.specs.Slots.{Ready}
 use Rattle.image_read_nodes.specs.Nodes.{record_at, At}
@@ -48,8 +49,7 @@ use Rattle.step_show.proofs.ShownLaws.{shown_anywhere}
 use Rattle.step_enter.specs.declared.Parameters.{Parameters}
 use Rattle.step_enter.proofs.Around.{nothing_makes}
 use Rattle.step_enter.proofs.ParameterLaws.{with_values, absent-halts, uneven_halts, enters_with}
-use Rattle.step_rule.specs.declared.Stepper.{Stepper}
-use Rattle.step_rule.specs.Rules.{ProgramOf, Stored, resting, Makes}
+use Rattle.step_rule.specs.Rules.{ImageOf, Stored, resting, Makes}
 use Rattle.step_rule.proofs.Views.{viewed}
 use Rattle.step_rule.proofs.Leads.{leads-makes}
 use Rattle.step_rule.proofs.Ways.{lead_same, lead_ended}
@@ -82,9 +82,9 @@ invocation (is_ifc thenc elsec) k = absurd (omega arith)
 invocation (is_print next) k = absurd (omega arith)
 invocation is_exit k = absurd (omega arith)
 
-pub invocation-at : {M : Machine} {P : Prog} {stepper : Stepper} {bytes store : List ℕ} {h : Header} {l : Located} → ProgramOf P stepper bytes → Stored M P store h l
-    → At stepper.frame bytes h.position 7 → Invocation (stmt_in P l.position) (record_at stepper.frame bytes h.position)
-invocation-at {stepper = stepper} {bytes} {h = h} p o a = invocation (here p o (record_at stepper.frame bytes h.position) refl) a.kind
+pub invocation-at : {M : Machine} {P : Prog} {frame : Frame} {definitions : ℕ} {bytes store : List ℕ} {h : Header} {l : Located} → ImageOf P frame definitions bytes → Stored M P store h l
+    → At frame bytes h.position 7 → Invocation (stmt_in P l.position) (record_at frame bytes h.position)
+invocation-at {frame = frame} {bytes} {h = h} p o a = invocation (here p o (record_at frame bytes h.position) refl) a.kind
 
 -- ---- the rule, which the machines have in common
 
@@ -103,7 +103,7 @@ pub record Valued (store : List ℕ) (h : Header) (l : Located) (values : List S
   pub shown : map (shown_as (heap_in store h)) values ≡ map shown_slot args
   pub named : (xs : List VarId) → renamed xs values ≡ renamed xs (map (value_slot (place_of l.cells) 0) args)
 
-module _ {M : Machine} {P : Prog} {stepper : Stepper} {bytes store : List ℕ} {h : Header} {l : Located} (p : ProgramOf P stepper bytes) (o : Stored M P store h l) (ready : Ready stepper.frame bytes)
+module _ {M : Machine} {P : Prog} {frame : Frame} {definitions : ℕ} {bytes store : List ℕ} {h : Header} {l : Located} (p : ImageOf P frame definitions bytes) (o : Stored M P store h l) (ready : Ready frame bytes)
     {t : Stmt} {tag : Name} {w : Option Value} {args : List Value} (rule : Rule M P l t tag w args) {value : Slot} {values : List Slot} (valued : Valued store h l values args)
     (met : Meets P store h l w value (cell_in' (heap_in store h) value)) where
   abbrev cell : Cell
@@ -145,12 +145,12 @@ module _ {M : Machine} {P : Prog} {stepper : Stepper} {bytes store : List ℕ} {
       ∙ (ap (λ (x : Option Target). or_halt x rule.enter) (invoked-create c) ∙ rule.enters cell.number c.entries (clauses_in (stmt_in P cell.id))))
 
   -- what the search found of its clauses
-  searched : OfCreate P store h l w cell → {r : Maybe Parameters} (f : ClauseOf stepper.frame bytes cell.id tag.0 r)
-      → Finds (λ c. c.0) (λ c. c.1) 11 (max_depth - 1) (image.records_in stepper.frame bytes) (clause_place tag (clauses_in (stmt_in P cell.id)) (cell.id + 1))
+  searched : OfCreate P store h l w cell → {r : Maybe Parameters} (f : ClauseOf frame bytes cell.id tag.0 r)
+      → Finds (λ c. c.0) (λ c. c.1) 11 (max_depth - 1) (image.records_in frame bytes) (clause_place tag (clauses_in (stmt_in P cell.id)) (cell.id + 1))
       (find_clause_lem tag (clauses_in (stmt_in P cell.id))) f.found
   searched c f = f.finds.finds (max_depth - 1) (clauses_in (stmt_in P cell.id)) (created p o ready c).clauses
 
-  nothing-step : (value.sort ≡ 2 → ⊥) → EntranceOf stepper.frame bytes cell tag.0 (length values) None → M.step P (project P l) ≡ halts
+  nothing-step : (value.sort ≡ 2 → ⊥) → EntranceOf frame bytes cell tag.0 (length values) None → M.step P (project P l) ≡ halts
   nothing-step s (no-closure n) =
       rule.goes ∙ lacks_halts (no_target met s n) (λ v. or_halt (invoked (cells_of P l) v) rule.enter) (λ v e. ap (λ (x : Option Target). or_halt x rule.enter) e)
   nothing-step s (no_record k n) = absurd (omega (arith, n, (created p o ready (is_create_lem met k)).at.inside))
@@ -180,7 +180,7 @@ module _ {M : Machine} {P : Prog} {stepper : Stepper} {bytes store : List ℕ} {
     closure-count : (xs : List VarId) → length xs ≡ length values → length values + cell.len ≡ length (renamed xs values ++ held)
     closure-count xs n = omega (arith, n, renamed-length xs values n, c.holds.count, length-append (renamed xs values) held)
 
-    closure-makes : {events store' events' : List ℕ} {at' : ℕ} {q : Parameters} {m : Result Step Stop} → Entered stepper.frame bytes cell tag.0 (length values) q
+    closure-makes : {events store' events' : List ℕ} {at' : ℕ} {q : Parameters} {m : Result Step Stop} → Entered frame bytes cell tag.0 (length values) q
         → EntersClause store events h at' cell q.body (ids_in bytes q.row) values tag.0 store' events' m → Makes store events at' (resting (located_step M P l)) store' events' m
     unfolding event_bytes
     closure-makes {events} {store'} {events'} {at'} {q} {m} x f =
@@ -199,7 +199,7 @@ module _ {M : Machine} {P : Prog} {stepper : Stepper} {bytes store : List ℕ} {
 
   -- ---- what is written is the step
 
-  pub invokes-makes : {events store' events' : List ℕ} {at' : ℕ} {m : Result Step Stop} → Invokes stepper.frame bytes store events h at' value values tag.0 store' events' m
+  pub invokes-makes : {events store' events' : List ℕ} {at' : ℕ} {m : Result Step Stop} → Invokes frame bytes store events h at' value values tag.0 store' events' m
       → Makes store events at' (resting (located_step M P l)) store' events' m
   invokes-makes (of-outside s f) = outside-makes s f
   invokes-makes (of-nothing s e) = nothing_makes o (nothing-step s e)

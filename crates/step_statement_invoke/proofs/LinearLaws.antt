@@ -12,6 +12,8 @@ use Rattle.model.specs.Linear.{first, before_last, shows_unless_twice, last_valu
 use Rattle.model.specs.Syntax.{Stmt, Invoke, Prog}
 use Rattle.image_spec.specs.Parse.{All}
 use Rattle.image_spec.specs.Records.{Record}
+use Rattle.image_directory.specs.declared.Frame.{Frame}
+use Rattle.image_directory.specs.Slots.{Ready}
 use Rattle.image_read_nodes.specs.Nodes.{record_at, At}
 use Rattle.step_slots.specs.declared.Slot.{Slot}
 use Rattle.step_slots.specs.Views.{no_slot, slot_at, slots_at}
@@ -29,8 +31,7 @@ use Rattle.step_tags.specs.Tags.{tag_in}
 use Rattle.step_write.specs.declared.Step.{Step}
 use Rattle.step_write.specs.declared.Stop.{Stop}
 use Rattle.step_write.specs.declared.Stop.TheVariants.{NoStep}
-use Rattle.step_rule.specs.declared.Stepper.{Stepper}
-use Rattle.step_rule.specs.Rules.{ProgramOf, Stored, resting, Makes}
+use Rattle.step_rule.specs.Rules.{ImageOf, Stored, resting, Makes}
 use Rattle.step_rule.proofs.Views.{viewed}
 use Rattle.step_rule.proofs.Machines.{linear-works}
 use Rattle.step_last.proofs.LastEntries.{environment-count, before-slots}
@@ -112,17 +113,17 @@ module _ {P : Prog} {store : List ℕ} {h : Header} {l : Located} (o : Stored li
       go [] e = refl
       go (x ∷ ε) e = absurd (omega arith)
 
-  module _ {stepper : Stepper} {bytes : List ℕ} (p : ProgramOf P stepper bytes) (a : At stepper.frame bytes h.position 7) where
-    pub linear-makes : {events store' events' : List ℕ} {at' : ℕ} {value : Slot} {k tag : ℕ} {m : Result Step Stop} → 0 < h.entries → value ≡ slot_at store (64 + 16 * h.heap + 16 * (h.entries - 1))
-        → k ≡ h.entries - 1 → tag ≡ (tag_in (record_at stepper.frame bytes h.position)).name.0
-        → Invokes stepper.frame bytes store events h at' value (slots_at store (64 + 16 * h.heap) k) tag store' events' m
+  module _ {frame : Frame} {definitions : ℕ} {bytes : List ℕ} (p : ImageOf P frame definitions bytes) (a : At frame bytes h.position 7) where
+    pub linear-makes : {events store' events' : List ℕ} {at' : ℕ} {value : Slot} {k tag : ℕ} {m : Result Step Stop} → Ready frame bytes → 0 < h.entries → value ≡ slot_at store (64 + 16 * h.heap + 16 * (h.entries - 1))
+        → k ≡ h.entries - 1 → tag ≡ (tag_in (record_at frame bytes h.position)).name.0
+        → Invokes frame bytes store events h at' value (slots_at store (64 + 16 * h.heap) k) tag store' events' m
         → Makes store events at' (resting (located_step linear_machine P l)) store' events' m
-    linear-makes {events} {store'} {events'} {at'} {value} {k} {tag} {m} n e c g w =
+    linear-makes {events} {store'} {events'} {at'} {value} {k} {tag} {m} ready n e c g w =
         let i = invocation-at p o a in
         let q : tag ≡ i.tag.name.0 = g ∙ ap (λ (r : Record). (tag_in r).name.0) i.holds in
-        let Is : ℕ × ℕ → Type 0 = λ (z : ℕ × ℕ). Invokes stepper.frame bytes store events h at' value (slots_at store (64 + 16 * h.heap) z.0) z.1 store' events' m in
+        let Is : ℕ × ℕ → Type 0 = λ (z : ℕ × ℕ). Invokes frame bytes store events h at' value (slots_at store (64 + 16 * h.heap) z.0) z.1 store' events' m in
         let x = last l.environment (h.entries - 1) (omega (arith, n, environment-count o)) in
-        invokes-makes p o a.ready (linear-rule i) before-valued (last_met n x e) (subst Is (λ j. (c j, q j)) w)
+        invokes-makes p o ready (linear-rule i) before-valued (last_met n x e) (subst Is (λ j. (c j, q j)) w)
 
     pub linear_none : {events : List ℕ} {at' : ℕ} → h.entries ≡ 0 → Makes store events at' (resting (located_step linear_machine P l)) store events (Err NoStep)
     linear_none n =

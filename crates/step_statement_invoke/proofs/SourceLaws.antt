@@ -13,6 +13,7 @@ use Rattle.model.specs.Source.{source_enter_lem, source_work}
 use Rattle.model.specs.Syntax.{Stmt, Invoke, Prog}
 use Rattle.image_spec.specs.Records.{Record}
 use Rattle.image_directory.specs.declared.Frame.{Frame}
+use Rattle.image_directory.specs.Slots.{Ready}
 use Rattle.image_read_parts.specs.Parts.{list_of}
 use Rattle.image_read_nodes.specs.Nodes.{record_at, At, first_of}
 use Rattle.step_slots.specs.declared.Slot.{Slot}
@@ -32,8 +33,7 @@ use Rattle.step_write.specs.declared.Step.{Step}
 use Rattle.step_write.specs.declared.Stop.{Stop}
 use Rattle.step_write.specs.declared.Stop.TheVariants.{NoStep}
 use Rattle.step_enter.proofs.Around.{nothing_makes}
-use Rattle.step_rule.specs.declared.Stepper.{Stepper}
-use Rattle.step_rule.specs.Rules.{ProgramOf, Stored, resting, Makes}
+use Rattle.step_rule.specs.Rules.{ImageOf, Stored, resting, Makes}
 use Rattle.step_rule.proofs.Finds.{sees}
 use Rattle.step_rule.proofs.Machines.{source-works}
 use Rattle.step_statement_invoke.specs.Invoking.{Invokes}
@@ -79,16 +79,16 @@ module _ {P : Prog} {store : List ℕ} {h : Header} {l : Located} (o : Stored so
   source-halts : lookups (ids i.args) l.environment ≡ none → source_machine.step P (project P l) ≡ halts
   source-halts e = works e ∙ or_halts (lookup i.var.id l.environment)
 
-module _ {P : Prog} {stepper : Stepper} {bytes store : List ℕ} {h : Header} {l : Located} {value : Slot} {tag : ℕ} {row : Row} (p : ProgramOf P stepper bytes) (o : Stored source_machine P store h l)
-    (a : At stepper.frame bytes h.position 7) (x : Looked stepper.frame bytes h.position (entries_in store h) value tag row) where
-  abbrev i : Invocation (stmt_in P l.position) (record_at stepper.frame bytes h.position)
+module _ {P : Prog} {frame : Frame} {definitions : ℕ} {bytes store : List ℕ} {h : Header} {l : Located} {value : Slot} {tag : ℕ} {row : Row} (p : ImageOf P frame definitions bytes) (o : Stored source_machine P store h l)
+    (ready : Ready frame bytes) (a : At frame bytes h.position 7) (x : Looked frame bytes h.position (entries_in store h) value tag row) where
+  abbrev i : Invocation (stmt_in P l.position) (record_at frame bytes h.position)
   i = invocation-at p o a
 
   args_are : ids_in bytes row ≡ ids i.args
   args_are = x.args.ids ∙ ap (λ (r : Record). ids (list_of r)) i.holds
 
   pub source-makes : {events store' events' : List ℕ} {at' : ℕ} {values : List Slot} {m : Result Step Stop} → all_found_lem (entries_in store h) (ids_in bytes row) ≡ true
-      → values ≡ found_slots (entries_in store h) (ids_in bytes row) → Invokes stepper.frame bytes store events h at' value values tag store' events' m
+      → values ≡ found_slots (entries_in store h) (ids_in bytes row) → Invokes frame bytes store events h at' value values tag store' events' m
       → Makes store events at' (resting (located_step source_machine P l)) store' events' m
   source-makes {events} {store'} {events'} {at'} {values} {m} f e w =
       let E = entries_in store h in
@@ -102,8 +102,8 @@ module _ {P : Prog} {stepper : Stepper} {bytes store : List ℕ} {h : Header} {l
       } in
       let v : value ≡ named i.var.id.0 E = x.found ∙ ap (λ (r : Record). named (first_of r).id.0 E) i.holds in
       let n : tag ≡ i.tag.name.0 = x.tagged ∙ ap (λ (r : Record). (tag_in r).name.0) i.holds in
-      invokes-makes p o a.ready (source-rule o i g.found g.looked) valued (looked-up o i.var.id (sees o i.var.id v) refl)
-      (subst (λ (k : ℕ). Invokes stepper.frame bytes store events h at' value values k store' events' m) n w)
+      invokes-makes p o ready (source-rule o i g.found g.looked) valued (looked-up o i.var.id (sees o i.var.id v) refl)
+      (subst (λ (k : ℕ). Invokes frame bytes store events h at' value values k store' events' m) n w)
 
   pub source_none : {events : List ℕ} {at' : ℕ} → all_found_lem (entries_in store h) (ids_in bytes row) ≡ false → Makes store events at' (resting (located_step source_machine P l)) store events (Err NoStep)
   source_none f = nothing_makes o (source-halts o i (not_gathered o (ids i.args) (ap (all_found_lem (entries_in store h)) (sym args_are) ∙ f)))

@@ -2,19 +2,17 @@
 // outside number, the end of the run.
 ghost use Rattle.std.specs.Prelude.{◌≡◌, true, ◌+◌, ◌*◌, ◌≤◌};
 ghost use Rattle.image_spec.specs.Parse.{field};
-ghost use Rattle.image_directory.specs.Slots.{Ready, records_in};
-ghost use Rattle.image_read_nodes.specs.Nodes.{record_at, At};
 ghost use Rattle.step_slots.specs.Views.{slots_at, all_slots};
 ghost use Rattle.step_spec.specs.Events.{event_head};
 ghost use Rattle.step_spec.specs.Located.{source_machine, linear_machine};
-ghost use Rattle.step_places.specs.Ends.{Ends};
 ghost use Rattle.step_rows.specs.Rows.{ids_in};
 ghost use Rattle.step_tags.specs.Tags.{tag_in};
 ghost use Rattle.step_write.specs.Writing.{head_bytes};
 ghost use Rattle.step_rule.specs.Rules.{Given, MakesAs};
 ghost use Rattle.step_statement_invoke.specs.Invoking.{EntranceOf, Enterable, EntersClause, over, Invokes};
+ghost use Rattle.image_read_nodes.specs.Opened.{record_of, IsAt};
 
-use image_directory::Frame;
+use image_directory::image::Image;
 use image_kinds::kinds::Kind;
 use image_read_nodes::first;
 use step_cells::{Cell, cell_of};
@@ -22,39 +20,31 @@ use step_enter::{Parameters, clause_of, fetch};
 use step_gather::{gather, rename};
 use step_header::Header;
 use step_lookup::slot_of;
+use step_places::stepper::Stepper;
 use step_rows::Row;
 use step_rows::records::list_row;
-use step_rule::Stepper;
 use step_show::{finish_showing, finish_showing_from};
 use step_slots::{Slot, read};
 use step_tags::tag_of;
 use step_write::{EventHead, Step, Stop, finish_entering};
 
 // The name of the tag of the Invoke at index i.
-fn read_tag(image: &[u8], frame: Frame, i: usize) -> u32
-    requires { At frame image.now i 7 }
-    ensures { result ≡ (tag_in (record_at frame image.now i)).name.0 }
+fn read_tag(image: &Image<'_>, i: usize) -> u32
+    requires { IsAt image.now i 7 }
+    ensures { result ≡ (tag_in (record_of image.now i)).name.0 }
 {
-    let tag = tag_of(image, frame, i, Kind::INVOKE);
+    let tag = tag_of(image, i, Kind::Invoke);
     u32::from(tag.name.0)
 }
 
 // The parameters of the first clause with this tag of the closure in a cell; absent also where they are not k, or the cell is no closure.
-fn entrance_of(
-    image: &[u8],
-    frame: Frame,
-    ends: &[u32],
-    cell: Cell,
-    tag: u32,
-    k: usize,
-) -> Option<Parameters>
-    requires { Ready frame image.now × Ends (records_in frame image.now) ends.now }
-    ensures { EntranceOf frame image.now cell tag k result }
+fn entrance_of(stepper: &Stepper<'_>, cell: Cell, tag: u32, k: usize) -> Option<Parameters>
+    ensures { EntranceOf stepper.now.image.frame stepper.now.image.bytes.now cell tag k result }
 {
-    if cell.sort != 4 || frame.count <= cell.id as usize {
+    if cell.sort != 4 || stepper.image.frame.count <= cell.id as usize {
         return None;
     }
-    let clause = clause_of(image, frame, ends, cell.id, tag)?;
+    let clause = clause_of(stepper, cell.id, tag)?;
     if clause.row.len != k {
         return None;
     }
@@ -66,7 +56,7 @@ fn event(cell: Cell, tag: u32) -> EventHead
     ensures { head_bytes result ≡ event_head 7 1 tag 0 cell.number }
 {
     EventHead {
-        kind: Kind::INVOKE,
+        kind: Kind::Invoke,
         detail: 1,
         name: tag,
         count: 0,
@@ -127,7 +117,7 @@ fn last_event(tag: u32, number: u64, n: usize) -> EventHead
     ensures { head_bytes result ≡ event_head 7 2 tag n number }
 {
     EventHead {
-        kind: Kind::INVOKE,
+        kind: Kind::Invoke,
         detail: 2,
         name: tag,
         count: short_count(n),
@@ -148,9 +138,7 @@ fn ended(header: Header) -> Header
 
 // The values of the k args are in `scratch`.
 fn source_enter(
-    image: &[u8],
-    stepper: Stepper,
-    ends: &[u32],
+    stepper: &Stepper<'_>,
     store: &mut [u8],
     events: &mut [u8],
     scratch: &mut [u8],
@@ -160,17 +148,17 @@ fn source_enter(
     tag: u32,
     k: usize,
 ) -> Result<Step, Stop>
-    requires { Given stepper image.now store.old events.old scratch.old header at 7 × (Ends (records_in stepper.frame image.now) ends.now × ((k ≤ 128) × (all_slots (slots_at scratch.old 0 k) ≡ true))) }
-    ensures { Invokes stepper.frame image.now store.old events.old header at value (slots_at scratch.old 0 k) tag store.new events.new result }
+    requires { Given stepper.now stepper.now.image.bytes.now store.old events.old scratch.old header at 7 × ((k ≤ 128) × (all_slots (slots_at scratch.old 0 k) ≡ true)) }
+    ensures { Invokes stepper.now.image.frame stepper.now.image.bytes.now store.old events.old header at value (slots_at scratch.old 0 k) tag store.new events.new result }
 {
     if value.sort == 2 {
         let shown = last_event(tag, value.payload, k);
         return finish_showing_from(store, events, at, shown, ended(header), scratch, k);
     }
     let cell = cell_of(store, header, value);
-    let clause = entrance_of(image, stepper.frame, ends, cell, tag, k).ok_or(Stop::NoStep)?;
+    let clause = entrance_of(stepper, cell, tag, k).ok_or(Stop::NoStep)?;
     enter_clause(
-        image,
+        stepper.image.bytes,
         clause.row,
         store,
         events,
@@ -185,39 +173,34 @@ fn source_enter(
 
 // The source machine's: var and the args are looked up.
 pub fn source(
-    image: &[u8],
-    stepper: Stepper,
-    ends: &[u32],
+    stepper: &Stepper<'_>,
     store: &mut [u8],
     events: &mut [u8],
     scratch: &mut [u8],
     header: Header,
     at: usize,
 ) -> Result<Step, Stop>
-    requires { Given stepper image.now store.old events.old scratch.old header at 7 × Ends (records_in stepper.frame image.now) ends.now }
-    ensures { MakesAs source_machine stepper image.now store.old events.old header at store.new events.new result }
+    requires { Given stepper.now stepper.now.image.bytes.now store.old events.old scratch.old header at 7 }
+    ensures { MakesAs source_machine stepper.now stepper.now.image.bytes.now store.old events.old header at store.new events.new result }
 {
-    let frame = stepper.frame;
     let i = header.position as usize;
     let from = 64 + 16 * header.heap as usize;
     let n = header.entries as usize;
-    let var = first(image, frame, i, Kind::INVOKE);
+    let var = first(&stepper.image, i, Kind::Invoke);
     let value = slot_of(store, header, var.id.0);
-    let tag = read_tag(image, frame, i);
-    let row = list_row(image, frame, i, Kind::INVOKE);
-    if !gather(image, row, store, from, n, scratch, 0) {
+    let tag = read_tag(&stepper.image, i);
+    let row = list_row(&stepper.image, i, Kind::Invoke);
+    if !gather(stepper.image.bytes, row, store, from, n, scratch, 0) {
         return Err(Stop::NoStep);
     }
     source_enter(
-        image, stepper, ends, store, events, scratch, header, at, value, tag, row.len,
+        stepper, store, events, scratch, header, at, value, tag, row.len,
     )
 }
 
 // The values of the args are the first k entries.
 fn linear_enter(
-    image: &[u8],
-    stepper: Stepper,
-    ends: &[u32],
+    stepper: &Stepper<'_>,
     store: &mut [u8],
     events: &mut [u8],
     scratch: &mut [u8],
@@ -227,8 +210,8 @@ fn linear_enter(
     tag: u32,
     k: usize,
 ) -> Result<Step, Stop>
-    requires { Given stepper image.now store.old events.old scratch.old header at 7 × (Ends (records_in stepper.frame image.now) ends.now × (k ≤ header.entries)) }
-    ensures { Invokes stepper.frame image.now store.old events.old header at value (slots_at store.old (64 + 16 * header.heap) k) tag store.new events.new result }
+    requires { Given stepper.now stepper.now.image.bytes.now store.old events.old scratch.old header at 7 × (k ≤ header.entries) }
+    ensures { Invokes stepper.now.image.frame stepper.now.image.bytes.now store.old events.old header at value (slots_at store.old (64 + 16 * header.heap) k) tag store.new events.new result }
 {
     let from = 64 + 16 * header.heap as usize;
     if value.sort == 2 {
@@ -236,10 +219,10 @@ fn linear_enter(
         return finish_showing(store, events, at, last, ended(header), from, k);
     }
     let cell = cell_of(store, header, value);
-    let clause = entrance_of(image, stepper.frame, ends, cell, tag, k).ok_or(Stop::NoStep)?;
+    let clause = entrance_of(stepper, cell, tag, k).ok_or(Stop::NoStep)?;
     fetch(store, from, k, scratch);
     enter_clause(
-        image,
+        stepper.image.bytes,
         clause.row,
         store,
         events,
@@ -254,17 +237,15 @@ fn linear_enter(
 
 // The linear machine's: var is the last entry, and the args are those before it.
 pub fn linear(
-    image: &[u8],
-    stepper: Stepper,
-    ends: &[u32],
+    stepper: &Stepper<'_>,
     store: &mut [u8],
     events: &mut [u8],
     scratch: &mut [u8],
     header: Header,
     at: usize,
 ) -> Result<Step, Stop>
-    requires { Given stepper image.now store.old events.old scratch.old header at 7 × Ends (records_in stepper.frame image.now) ends.now }
-    ensures { MakesAs linear_machine stepper image.now store.old events.old header at store.new events.new result }
+    requires { Given stepper.now stepper.now.image.bytes.now store.old events.old scratch.old header at 7 }
+    ensures { MakesAs linear_machine stepper.now stepper.now.image.bytes.now store.old events.old header at store.new events.new result }
 {
     let heap = header.heap as usize;
     let n = header.entries as usize;
@@ -273,8 +254,6 @@ pub fn linear(
     }
     let k = n - 1;
     let value = read(store, 64 + 16 * heap + 16 * k);
-    let tag = read_tag(image, stepper.frame, header.position as usize);
-    linear_enter(
-        image, stepper, ends, store, events, scratch, header, at, value, tag, k,
-    )
+    let tag = read_tag(&stepper.image, header.position as usize);
+    linear_enter(stepper, store, events, scratch, header, at, value, tag, k)
 }

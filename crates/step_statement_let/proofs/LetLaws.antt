@@ -16,6 +16,7 @@ use Rattle.image_spec.specs.Records.{Record, let'}
 use Rattle.image_spec.specs.Kinds.{kind_of}
 use Rattle.image_spec.specs.Shape.{flatten_clauses}
 use Rattle.image_directory.specs.declared.Frame.{Frame}
+use Rattle.image_directory.specs.Slots.{Ready}
 use Rattle.image_read_parts.specs.Parts.{list_of}
 use Rattle.image_read_nodes.specs.Nodes.{record_at, At, has_list}
 use Rattle.image_read_nodes.proofs.NodeLaws.{record_ok}
@@ -29,8 +30,7 @@ use Rattle.step_header.specs.declared.Header.{Header}
 use Rattle.step_rows.specs.declared.Row.{Row}
 use Rattle.step_rows.specs.Rows.{RowOf}
 use Rattle.step_rows.proofs.RowLaws.{row-length}
-use Rattle.step_rule.specs.declared.Stepper.{Stepper}
-use Rattle.step_rule.specs.Rules.{ProgramOf, Stored}
+use Rattle.step_rule.specs.Rules.{ImageOf, Stored}
 use Rattle.step_rule.proofs.Views.{viewed}
 use Rattle.step_rule.proofs.Leads.{Leads}
 use Rattle.step_rule.proofs.Ways.{fields_stay, lead_made}
@@ -41,10 +41,10 @@ use Rattle.step_statement_let.specs.Letting.{kept, cell_slot_lem}
 -- ── the statement ──
 
 -- a list has at most 128 bindings
-pub row-short : (g : Frame) (s : List ℕ) (i k : ℕ) {row : Row} → At g s i k → has_list k ≡ true → RowOf s row (ids (list_of (record_at g s i))) → row.len ≤ 128
-row-short g s i k a h w =
+pub row-short : (g : Frame) (s : List ℕ) (i k : ℕ) {row : Row} → Ready g s → At g s i k → has_list k ≡ true → RowOf s row (ids (list_of (record_at g s i))) → row.len ≤ 128
+row-short g s i k ready a h w =
     let Γ = list_of (record_at g s i) in
-    omega (arith, row-length w, length-map Γ id_of, (list-stands g.id (record_at g s i) k a.kind h (record_ok g s i k a)).fits.0)
+    omega (arith, row-length w, length-map Γ id_of, (list-stands g.id (record_at g s i) k a.kind h (record_ok g s i k ready a)).fits.0)
 
 -- it is a Let, and this is its record
 pub record Letting (t : Stmt) (r : Record) : Type 0 where
@@ -69,9 +69,9 @@ letting (is_ifc thenc elsec) k = absurd (omega arith)
 letting (is_print next) k = absurd (omega arith)
 letting is_exit k = absurd (omega arith)
 
-pub let_here : {M : Machine} {P : Prog} {stepper : Stepper} {bytes store : List ℕ} {h : Header} {l : Located} → ProgramOf P stepper bytes → Stored M P store h l
-    → At stepper.frame bytes h.position 4 → Letting (stmt_in P l.position) (record_at stepper.frame bytes h.position)
-let_here {stepper = stepper} {bytes = bytes} {h = h} p o a = letting (here p o (record_at stepper.frame bytes h.position) refl) a.kind
+pub let_here : {M : Machine} {P : Prog} {frame : Frame} {definitions : ℕ} {bytes store : List ℕ} {h : Header} {l : Located} → ImageOf P frame definitions bytes → Stored M P store h l
+    → At frame bytes h.position 4 → Letting (stmt_in P l.position) (record_at frame bytes h.position)
+let_here {frame = frame} {bytes = bytes} {h = h} p o a = letting (here p o (record_at frame bytes h.position) refl) a.kind
 
 -- ── the step in slots ──
 

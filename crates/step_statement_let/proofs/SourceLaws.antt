@@ -15,6 +15,7 @@ use Rattle.model.specs.Machine.{Value, cell, Cells, xtor, at, shows, or_halt, Le
 use Rattle.model.specs.Source.{source_work}
 use Rattle.image_spec.specs.Parse.{each}
 use Rattle.image_spec.specs.Records.{Record}
+use Rattle.image_directory.specs.declared.Frame.{Frame}
 use Rattle.image_read_parts.specs.Parts.{list_of}
 use Rattle.image_read_nodes.specs.Nodes.{record_at, first_of, At}
 use Rattle.step_slots.specs.declared.Slot.{Slot}
@@ -32,8 +33,7 @@ use Rattle.step_rows.proofs.RowLaws.{ids-length}
 use Rattle.step_write.specs.declared.Step.{Step}
 use Rattle.step_write.specs.declared.Stop.{Stop}
 use Rattle.step_write.specs.declared.Stop.TheVariants.{NoStep}
-use Rattle.step_rule.specs.declared.Stepper.{Stepper}
-use Rattle.step_rule.specs.Rules.{ProgramOf, Stored, resting, Makes, no_step}
+use Rattle.step_rule.specs.Rules.{ImageOf, Stored, resting, Makes, no_step}
 use Rattle.step_rule.proofs.Views.{viewed}
 use Rattle.step_rule.proofs.Leads.{Leads, leads-makes}
 use Rattle.step_rule.proofs.Ways.{halted}
@@ -46,10 +46,10 @@ use Rattle.step_statement_let.specs.declared.let_.Parts.{Parts}
 use Rattle.step_statement_let.specs.Letting.{PartsOf, kept, cell_slot_lem, var_slot_lem, Packs, Adds}
 use Rattle.step_statement_let.proofs.LetLaws.{Letting, let_here, lead_let}
 
-module _ {P : Prog} {stepper : Stepper} {bytes store : List ℕ} {h : Header} {l : Located} (p : ProgramOf P stepper bytes) (o : Stored source_machine P store h l)
-    (a : At stepper.frame bytes h.position 4) where
+module _ {P : Prog} {frame : Frame} {definitions : ℕ} {bytes store : List ℕ} {h : Header} {l : Located} (p : ImageOf P frame definitions bytes) (o : Stored source_machine P store h l)
+    (a : At frame bytes h.position 4) where
   abbrev r : Record
-  r = record_at stepper.frame bytes h.position
+  r = record_at frame bytes h.position
 
   abbrev c : Letting (stmt_in P l.position) r
   c = let_here p o a

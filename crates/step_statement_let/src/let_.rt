@@ -1,7 +1,6 @@
 // let.rs: the values of the args with the tag in a new cell, and the cell under var.
 ghost use Rattle.std.specs.Prelude.{◌≡◌, ◌∷◌, ◌++◌, map, ◌+◌, ◌-◌, ◌*◌, ◌≤◌, ◌<◌, ◌^◌, length, take, drop};
 ghost use Rattle.image_spec.specs.Parse.{each};
-ghost use Rattle.image_read_nodes.specs.Nodes.{record_at, At};
 ghost use Rattle.step_slots.specs.Slots.{slot_bytes};
 ghost use Rattle.step_spec.specs.Events.{event_head};
 ghost use Rattle.step_spec.specs.Located.{source_machine, linear_machine};
@@ -11,16 +10,17 @@ ghost use Rattle.step_entries.specs.Named.{under};
 ghost use Rattle.step_write.specs.Writing.{head_bytes};
 ghost use Rattle.step_rule.specs.Rules.{Given, MakesAs};
 ghost use Rattle.step_statement_let.specs.Letting.{PartsOf, kept, cell_slot_lem, var_slot_lem, Packs, Adds};
+ghost use Rattle.image_read_nodes.specs.Opened.{record_of, IsAt};
 
-use image_directory::Frame;
+use image_directory::image::Image;
 use image_kinds::kinds::Kind;
 use image_read_nodes::first;
 use image_write_bytes::bytes::copy;
 use step_gather::{erase, gather};
 use step_header::Header;
+use step_places::stepper::Stepper;
 use step_rows::Row;
 use step_rows::records::list_row;
-use step_rule::Stepper;
 use step_slots::{Slot, put_slot};
 use step_tags::tag_of;
 use step_write::{EventHead, Step, Stop, finish, finish_before};
@@ -34,14 +34,14 @@ pub struct Parts {
 }
 
 // The parts of the Let at this place.
-fn read_parts(image: &[u8], frame: Frame, position: u32) -> Parts
-    requires { At frame image.now position 4 }
-    ensures { PartsOf image.now (record_at frame image.now position) result }
+fn read_parts(image: &Image<'_>, position: u32) -> Parts
+    requires { IsAt image.now position 4 }
+    ensures { PartsOf image.now.bytes.now (record_of image.now position) result }
 {
     let i = position as usize;
-    let var = first(image, frame, i, Kind::LET);
-    let tag = tag_of(image, frame, i, Kind::LET);
-    let args = list_row(image, frame, i, Kind::LET);
+    let var = first(image, i, Kind::Let);
+    let tag = tag_of(image, i, Kind::Let);
+    let args = list_row(image, i, Kind::Let);
     Parts {
         id: var.id.0,
         tag: u32::from(tag.name.0),
@@ -69,7 +69,7 @@ fn event(header: Header, tag: u32) -> EventHead
     ensures { head_bytes result ≡ event_head 4 1 tag 0 header.cells }
 {
     EventHead {
-        kind: Kind::LET,
+        kind: Kind::Let,
         detail: 1,
         name: tag,
         count: 0,
@@ -147,19 +147,18 @@ fn add_before(
 
 // The source machine's: the args are looked up, and the environment stays behind var.
 pub fn source(
-    image: &[u8],
-    stepper: Stepper,
+    stepper: &Stepper<'_>,
     store: &mut [u8],
     events: &mut [u8],
     scratch: &mut [u8],
     header: Header,
     at: usize,
 ) -> Result<Step, Stop>
-    requires { Given stepper image.now store.old events.old scratch.old header at 4 }
-    ensures { MakesAs source_machine stepper image.now store.old events.old header at store.new events.new result }
+    requires { Given stepper.now stepper.now.image.bytes.now store.old events.old scratch.old header at 4 }
+    ensures { MakesAs source_machine stepper.now stepper.now.image.bytes.now store.old events.old header at store.new events.new result }
 {
-    let parts = read_parts(image, stepper.frame, header.position);
-    if !pack_found(image, store, header, parts, scratch) {
+    let parts = read_parts(&stepper.image, header.position);
+    if !pack_found(stepper.image.bytes, store, header, parts, scratch) {
         return Err(Stop::NoStep);
     }
     add_before(store, events, scratch, header, at, parts, parts.args.len)
@@ -211,18 +210,17 @@ fn add_behind(
 
 // The linear machine's: the last entries become the cell's values. With fewer entries than args it would have stopped.
 pub fn linear(
-    image: &[u8],
-    stepper: Stepper,
+    stepper: &Stepper<'_>,
     store: &mut [u8],
     events: &mut [u8],
     scratch: &mut [u8],
     header: Header,
     at: usize,
 ) -> Result<Step, Stop>
-    requires { Given stepper image.now store.old events.old scratch.old header at 4 }
-    ensures { MakesAs linear_machine stepper image.now store.old events.old header at store.new events.new result }
+    requires { Given stepper.now stepper.now.image.bytes.now store.old events.old scratch.old header at 4 }
+    ensures { MakesAs linear_machine stepper.now stepper.now.image.bytes.now store.old events.old header at store.new events.new result }
 {
-    let parts = read_parts(image, stepper.frame, header.position);
+    let parts = read_parts(&stepper.image, header.position);
     let k = parts.args.len;
     if (header.entries as usize) < k {
         return Err(Stop::NoStep);

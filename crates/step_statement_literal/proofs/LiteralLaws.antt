@@ -1,7 +1,7 @@
 -- Literal: the step of either machine. Assumes nothing.
 use Rattle.std.specs.Prelude.{Result}
 use Prim.Native.Nat.{ℕ, ◌+◌}
-use mathlib.Core.Path.{◌≡◌, refl, sym, ap, ap₂, ◌∙◌, subst}
+use mathlib.Core.Path.{◌≡◌, refl}
 use mathlib.Core.Bool.{Bool, true, false, cond}
 use mathlib.Core.List.{List, map}
 use mathlib.Core.Option.{some}
@@ -16,14 +16,14 @@ use Rattle.model.specs.Source.{source_work}
 use Rattle.model.specs.Linear.{linear_work}
 use Rattle.image_spec.specs.Records.{literal}
 use Rattle.image_spec.specs.Shape.{flatten_clauses}
+use Rattle.image_directory.specs.declared.Frame.{Frame}
 use Rattle.image_read_nodes.specs.Nodes.{record_at}
-use Rattle.step_spec.specs.Located.{Machine, source_machine, linear_machine, Located, stmt_in, cell_in, project, next_place_lem, located_step}
+use Rattle.step_spec.specs.Located.{source_machine, linear_machine, Located, stmt_in, cell_in, project, next_place_lem, located_step}
 use Rattle.step_spec.specs.Events.{event_bytes}
 use Rattle.step_header.specs.declared.Header.{Header}
 use Rattle.step_write.specs.declared.Step.{Step}
 use Rattle.step_write.specs.declared.Stop.{Stop}
-use Rattle.step_rule.specs.declared.Stepper.{Stepper}
-use Rattle.step_rule.specs.Rules.{ProgramOf, Stored, resting, Makes}
+use Rattle.step_rule.specs.Rules.{ImageOf, Stored, resting, Makes}
 use Rattle.step_rule.proofs.Views.{viewed}
 use Rattle.step_rule.proofs.Statements.{Is, is_literal, here}
 use Rattle.step_rule.proofs.Machines.{source-works, linear-works}
@@ -43,11 +43,11 @@ next_place : (P : Prog) (h : Header) (l : Located) (z : ℤ) (v : Identifier) (n
 unfolding next_place_lem flatten_clauses
 next_place P h l z v next p e = rw e (omega (arith, p))
 
-pub literal-makes : (b : Bool) {P : Prog} {stepper : Stepper} {bytes store events store' events' : List ℕ} {h : Header} {l : Located} {at' payload : ℕ} {z : ℤ} {v : Identifier} {m : Result Step Stop}
-    → ProgramOf P stepper bytes → Stored (cond b linear_machine source_machine) P store h l → record_at stepper.frame bytes h.position ≡ literal z v → payload ≡ of_z w64 z
+pub literal-makes : (b : Bool) {P : Prog} {frame : Frame} {definitions : ℕ} {bytes store events store' events' : List ℕ} {h : Header} {l : Located} {at' payload : ℕ} {z : ℤ} {v : Identifier} {m : Result Step Stop}
+    → ImageOf P frame definitions bytes → Stored (cond b linear_machine source_machine) P store h l → record_at frame bytes h.position ≡ literal z v → payload ≡ of_z w64 z
     → Binds b store events h at' 8 v.id.0 payload store' events' m → Makes store events at' (resting (located_step (cond b linear_machine source_machine) P l)) store' events' m
 unfolding event_bytes
-literal-makes b {P} {stepper} {bytes} {store} {events} {store'} {events'} {h} {l} {at'} {payload} {z} {v} {m} p o e q w = go (stmt_in P l.position) refl (here p o (literal z v) e)
+literal-makes b {P} {bytes} {store} {events} {store'} {events'} {h} {l} {at'} {payload} {z} {v} {m} p o e q w = go (stmt_in P l.position) refl (here p o (literal z v) e)
   where
     go : (t : Stmt) → stmt_in P l.position ≡ t → Is t (literal z v) → Makes store events at' (resting (located_step (cond b linear_machine source_machine) P l)) store' events' m
     go t f (is_literal next) = binds-makes b o (Literal' z) next v.id z (goes P h l z v b o next f) (next_place P h l z v next (viewed o).position f) q refl w

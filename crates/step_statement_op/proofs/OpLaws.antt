@@ -19,6 +19,7 @@ use Rattle.model.specs.Source.{source_work}
 use Rattle.model.specs.Linear.{linear_work}
 use Rattle.image_spec.specs.Records.{op}
 use Rattle.image_spec.specs.Shape.{flatten_clauses}
+use Rattle.image_directory.specs.declared.Frame.{Frame}
 use Rattle.image_read_nodes.specs.Nodes.{record_at}
 use Rattle.step_spec.specs.Located.{Located, stmt_in, cell_in, project, next_place_lem, located_step}
 use Rattle.step_spec.specs.Events.{event_bytes}
@@ -28,8 +29,7 @@ use Rattle.step_entries.specs.Named.{named}
 use Rattle.step_write.specs.declared.Step.{Step}
 use Rattle.step_write.specs.declared.Stop.{Stop}
 use Rattle.step_write.specs.declared.Stop.TheVariants.{NoStep}
-use Rattle.step_rule.specs.declared.Stepper.{Stepper}
-use Rattle.step_rule.specs.Rules.{ProgramOf, Stored, resting, Makes}
+use Rattle.step_rule.specs.Rules.{ImageOf, Stored, resting, Makes}
 use Rattle.step_rule.proofs.Views.{viewed}
 use Rattle.step_rule.proofs.Statements.{Is, is_op, here}
 use Rattle.step_rule.proofs.Machines.{source-works, linear-works}
@@ -73,8 +73,8 @@ module _ (P : Prog) (l : Located) (fst : Identifier) (f : BinOp) (snd v : Identi
 there : {fst : Identifier} {f : BinOp} {snd v : Identifier} {t : Stmt} → Is t (op fst f snd v) → (next : Stmt) × (t ≡ Op fst f snd v next)
 there (is_op next) = (next, refl)
 
-module _ (b : Bool) {P : Prog} {stepper : Stepper} {bytes store : List ℕ} {h : Header} {l : Located} {fst : Identifier} {f : BinOp} {snd v : Identifier}
-    (p : ProgramOf P stepper bytes) (o : Stored (machine b) P store h l) (e : record_at stepper.frame bytes h.position ≡ op fst f snd v) (events : List ℕ) (at' : ℕ) where
+module _ (b : Bool) {P : Prog} {frame : Frame} {definitions : ℕ} {bytes store : List ℕ} {h : Header} {l : Located} {fst : Identifier} {f : BinOp} {snd v : Identifier}
+    (p : ImageOf P frame definitions bytes) (o : Stored (machine b) P store h l) (e : record_at frame bytes h.position ≡ op fst f snd v) (events : List ℕ) (at' : ℕ) where
   pub op-halts : none ≡ shown store h fst f snd → Makes store events at' (resting (located_step (machine b) P l)) store events (Err NoStep)
   op-halts w = let t = there (here p o (op fst f snd v) e) in nothing-made o events at' (goes P l fst f snd v t.0 t.1 b o) w
 

@@ -18,6 +18,7 @@ use Rattle.model.specs.Linear.{linear_work}
 use Rattle.image_spec.specs.Fields.{newline_code_lem}
 use Rattle.image_spec.specs.Records.{print}
 use Rattle.image_spec.specs.Shape.{flatten_clauses}
+use Rattle.image_directory.specs.declared.Frame.{Frame}
 use Rattle.image_read_nodes.specs.Nodes.{record_at}
 use Rattle.step_spec.specs.Located.{Located, stmt_in, cell_in, project, next_place_lem, located_step}
 use Rattle.step_spec.specs.Store.{bit}
@@ -28,8 +29,7 @@ use Rattle.step_entries.specs.Named.{named}
 use Rattle.step_write.specs.declared.Step.{Step}
 use Rattle.step_write.specs.declared.Stop.{Stop}
 use Rattle.step_write.specs.declared.Stop.TheVariants.{NoStep}
-use Rattle.step_rule.specs.declared.Stepper.{Stepper}
-use Rattle.step_rule.specs.Rules.{ProgramOf, Stored, resting, Makes}
+use Rattle.step_rule.specs.Rules.{ImageOf, Stored, resting, Makes}
 use Rattle.step_rule.proofs.Views.{viewed}
 use Rattle.step_rule.proofs.Statements.{Is, is_print, here}
 use Rattle.step_rule.proofs.Machines.{source-works, linear-works}
@@ -71,8 +71,8 @@ module _ (P : Prog) (l : Located) (newline : Bool) (v : Identifier) (next : Stmt
 there : {newline : Bool} {v : Identifier} {t : Stmt} → Is t (print newline v) → (next : Stmt) × (t ≡ PrintI64 newline v next)
 there (is_print next) = (next, refl)
 
-module _ (b : Bool) {P : Prog} {stepper : Stepper} {bytes store : List ℕ} {h : Header} {l : Located} {newline : Bool} {v : Identifier}
-    (p : ProgramOf P stepper bytes) (o : Stored (machine b) P store h l) (e : record_at stepper.frame bytes h.position ≡ print newline v) (events : List ℕ) (at' : ℕ) where
+module _ (b : Bool) {P : Prog} {frame : Frame} {definitions : ℕ} {bytes store : List ℕ} {h : Header} {l : Located} {newline : Bool} {v : Identifier}
+    (p : ImageOf P frame definitions bytes) (o : Stored (machine b) P store h l) (e : record_at frame bytes h.position ≡ print newline v) (events : List ℕ) (at' : ℕ) where
   pub print-halts : none ≡ shown store h v → Makes store events at' (resting (located_step (machine b) P l)) store events (Err NoStep)
   print-halts w = let t = there (here p o (print newline v) e) in nothing-made o events at' (goes P l newline v t.0 t.1 b o) w
 

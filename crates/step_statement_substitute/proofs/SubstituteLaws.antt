@@ -18,6 +18,7 @@ use Rattle.image_spec.specs.Records.{Record, definition, substitute, call, let',
 use Rattle.image_spec.specs.Kinds.{kind_of}
 use Rattle.image_spec.specs.Shape.{flatten_clauses}
 use Rattle.image_directory.specs.declared.Frame.{Frame}
+use Rattle.image_directory.specs.Slots.{Ready}
 use Rattle.image_read_nodes.specs.Nodes.{record_at, At}
 use Rattle.image_read_nodes.proofs.NodeLaws.{record_ok}
 use Rattle.step_slots.specs.declared.Slot.{Slot}
@@ -32,8 +33,7 @@ use Rattle.step_rows.proofs.RowLaws.{row-length, ids-length}
 use Rattle.step_write.specs.declared.Step.{Step}
 use Rattle.step_write.specs.declared.Stop.{Stop}
 use Rattle.step_write.specs.declared.Stop.TheVariants.{NoStep}
-use Rattle.step_rule.specs.declared.Stepper.{Stepper}
-use Rattle.step_rule.specs.Rules.{ProgramOf, Stored, resting, Makes, no_step}
+use Rattle.step_rule.specs.Rules.{ImageOf, Stored, resting, Makes, no_step}
 use Rattle.step_rule.proofs.Views.{viewed}
 use Rattle.step_rule.proofs.Leads.{Leads, leads-makes}
 use Rattle.step_rule.proofs.Ways.{lead_silent, halted}
@@ -48,9 +48,9 @@ use Rattle.step_statement_substitute.specs.Substituting.{PartsOf, rebuilt, Packs
 -- ── the statement ──
 
 -- it has at most 128 pairs
-pub pairs-short : (g : Frame) (s : List ℕ) (i : ℕ) → At g s i 2 → length (pairs_of (record_at g s i)) ≤ 128
+pub pairs-short : (g : Frame) (s : List ℕ) (i : ℕ) → Ready g s → At g s i 2 → length (pairs_of (record_at g s i)) ≤ 128
 unfolding RecordOk
-pairs-short g s i a = go (record_at g s i) a.kind (record_ok g s i 2 a)
+pairs-short g s i ready a = go (record_at g s i) a.kind (record_ok g s i 2 ready a)
   where
     go : (r : Record) → kind_of r ≡ 2 → RecordOk g.id r → length (pairs_of r) ≤ 128
     go (definition x Γ) k ok = absurd (omega arith)
@@ -96,10 +96,10 @@ same_count {r = r} q =
 
 -- ── the step ──
 
-module _ {P : Prog} {stepper : Stepper} {bytes store : List ℕ} {h : Header} {l : Located} (p : ProgramOf P stepper bytes) (o : Stored linear_machine P store h l)
-    (a : At stepper.frame bytes h.position 2) where
+module _ {P : Prog} {frame : Frame} {definitions : ℕ} {bytes store : List ℕ} {h : Header} {l : Located} (p : ImageOf P frame definitions bytes) (o : Stored linear_machine P store h l)
+    (a : At frame bytes h.position 2) where
   abbrev r : Record
-  r = record_at stepper.frame bytes h.position
+  r = record_at frame bytes h.position
 
   c : Substituting (stmt_in P l.position) r
   c = substituting (here p o r refl) a.kind

@@ -1,18 +1,18 @@
 // substitute.rs: the list rebuilt from the pairs.
 ghost use Rattle.std.specs.Prelude.{◌≡◌, ◌+◌, ◌*◌, ◌≤◌, ◌<◌, ◌^◌, length, take};
-ghost use Rattle.image_read_nodes.specs.Nodes.{record_at, At};
 ghost use Rattle.step_spec.specs.Located.{linear_machine};
 ghost use Rattle.step_header.specs.Headers.{entries_in, Holds};
 ghost use Rattle.step_rows.specs.Rows.{ids_in, Inside};
 ghost use Rattle.step_rule.specs.Rules.{Given, MakesAs};
 ghost use Rattle.step_statement_substitute.specs.Substituting.{PartsOf, rebuilt, Packs, Replaces};
+ghost use Rattle.image_read_nodes.specs.Opened.{record_of, IsAt};
 
-use image_directory::Frame;
+use image_directory::image::Image;
 use step_gather::{gather, rename};
 use step_header::Header;
+use step_places::stepper::Stepper;
 use step_rows::Row;
 use step_rows::records::{source_row, target_row};
-use step_rule::Stepper;
 use step_write::{Step, Stop, finish_silent};
 
 // What is read of a Substitute: the IDs that it gives, and those that it takes the values from.
@@ -23,13 +23,13 @@ pub struct Parts {
 }
 
 // The parts of the Substitute at this place.
-fn read_parts(image: &[u8], frame: Frame, position: u32) -> Parts
-    requires { At frame image.now position 2 }
-    ensures { PartsOf image.now (record_at frame image.now position) result }
+fn read_parts(image: &Image<'_>, position: u32) -> Parts
+    requires { IsAt image.now position 2 }
+    ensures { PartsOf image.now.bytes.now (record_of image.now position) result }
 {
     let i = position as usize;
-    let targets = target_row(image, frame, i);
-    let sources = source_row(image, frame, i);
+    let targets = target_row(image, i);
+    let sources = source_row(image, i);
     Parts { targets, sources }
 }
 
@@ -80,19 +80,18 @@ fn replace(
 
 // The linear machine's. (The source machine has no rule.)
 pub fn linear(
-    image: &[u8],
-    stepper: Stepper,
+    stepper: &Stepper<'_>,
     store: &mut [u8],
     events: &mut [u8],
     scratch: &mut [u8],
     header: Header,
     at: usize,
 ) -> Result<Step, Stop>
-    requires { Given stepper image.now store.old events.old scratch.old header at 2 }
-    ensures { MakesAs linear_machine stepper image.now store.old events.old header at store.new events.new result }
+    requires { Given stepper.now stepper.now.image.bytes.now store.old events.old scratch.old header at 2 }
+    ensures { MakesAs linear_machine stepper.now stepper.now.image.bytes.now store.old events.old header at store.new events.new result }
 {
-    let parts = read_parts(image, stepper.frame, header.position);
-    if !pack(image, store, header, parts, scratch) {
+    let parts = read_parts(&stepper.image, header.position);
+    if !pack(stepper.image.bytes, store, header, parts, scratch) {
         return Err(Stop::NoStep);
     }
     replace(store, events, scratch, header, at, parts.targets.len)

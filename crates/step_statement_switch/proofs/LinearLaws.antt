@@ -11,6 +11,7 @@ use Rattle.syntax.specs.declared.names.Name.{Name}
 use Rattle.model.specs.Syntax.{Stmt, Switch, Prog}
 use Rattle.model.specs.Machine.{Value, Entries, values, at, Outcome, shows, or_halt, matched, Switch'}
 use Rattle.model.specs.Linear.{last_of, before_last, first, last_value_lem, shows_unless_twice, linear_work}
+use Rattle.image_directory.specs.declared.Frame.{Frame}
 use Rattle.image_read_nodes.specs.Nodes.{record_at, At}
 use Rattle.step_slots.specs.declared.Slot.{Slot}
 use Rattle.step_slots.specs.Views.{slot_at, slots_at}
@@ -25,8 +26,7 @@ use Rattle.step_cells.proofs.CellLaws.{Meets, cells_of, meets}
 use Rattle.step_write.specs.declared.Step.{Step}
 use Rattle.step_write.specs.declared.Stop.{Stop}
 use Rattle.step_write.specs.declared.Stop.TheVariants.{NoStep}
-use Rattle.step_rule.specs.declared.Stepper.{Stepper}
-use Rattle.step_rule.specs.Rules.{ProgramOf, Stored, resting, Makes}
+use Rattle.step_rule.specs.Rules.{ImageOf, Stored, resting, Makes}
 use Rattle.step_rule.proofs.Views.{viewed}
 use Rattle.step_rule.proofs.Machines.{linear-works}
 use Rattle.step_last.proofs.LastEntries.{environment-count, last-slots, before-slots}
@@ -70,8 +70,8 @@ module _ {P : Prog} {store : List ℕ} {h : Header} {l : Located} (o : Stored li
 
   -- ── the step ──
 
-  module _ {stepper : Stepper} {bytes : List ℕ} (p : ProgramOf P stepper bytes) (a : At stepper.frame bytes h.position 5) where
-    works : (t : Switching (stmt_in P l.position) (record_at stepper.frame bytes h.position))
+  module _ {frame : Frame} {definitions : ℕ} {bytes : List ℕ} (p : ImageOf P frame definitions bytes) (a : At frame bytes h.position 5) where
+    works : (t : Switching (stmt_in P l.position) (record_at frame bytes h.position))
         → Works linear_machine P l t.clauses (last_value_lem l.environment) (before_last 1 l.environment) []
     unfolding linear_work
     works t =
@@ -95,9 +95,9 @@ module _ {P : Prog} {store : List ℕ} {h : Header} {l : Located} (o : Stored li
         nothing_makes o (w.works ∙ ap (λ (v : Option Value). or_halt v λ v. or_halt (matched (cells_of P l) v) (entering t.clauses w.enter)) q)
 
     pub linear-makes : {heap n at' : ℕ} {value : Slot} {events store' events' : List ℕ} {m : Result Step Stop} → heap ≡ h.heap → n ≡ h.entries → 0 < n → value ≡ slot_at store (64 + 16 * (heap + (n - 1)))
-        → Switches stepper.frame bytes store events h at' value (n - 1) 0 store' events' m → Makes store events at' (resting (located_step linear_machine P l)) store' events' m
+        → Switches frame bytes store events h at' value (n - 1) 0 store' events' m → Makes store events at' (resting (located_step linear_machine P l)) store' events' m
     linear-makes {heap} {n} {at'} {value} {events} {store'} {events'} {m} e f s v w =
         let t = the_switch p o a in
         let k : 64 + 16 * (heap + (n - 1)) ≡ 64 + 16 * (h.heap + (h.entries - 1)) = ap₂ {C = ℕ} (λ (i j : ℕ). 64 + 16 * (i + (j - 1))) e f in
         switches-makes p o t (works t) (last_met (omega (arith, f, s)) k v) before_others
-        (subst (λ (j : ℕ). Switches stepper.frame bytes store events h at' value (j - 1) 0 store' events' m) f w)
+        (subst (λ (j : ℕ). Switches frame bytes store events h at' value (j - 1) 0 store' events' m) f w)

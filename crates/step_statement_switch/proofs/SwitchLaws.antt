@@ -27,8 +27,7 @@ use Rattle.step_cells.proofs.CellLaws.{OfLet, Meets, cells_of, is_let, matched_l
 use Rattle.step_gather.specs.Gathering.{renamed}
 use Rattle.step_write.specs.declared.Step.{Step}
 use Rattle.step_write.specs.declared.Stop.{Stop}
-use Rattle.step_rule.specs.declared.Stepper.{Stepper}
-use Rattle.step_rule.specs.Rules.{ProgramOf, Stored, resting, Makes}
+use Rattle.step_rule.specs.Rules.{ImageOf, Stored, resting, Makes}
 use Rattle.step_enter.specs.declared.Parameters.{Parameters}
 use Rattle.step_enter.specs.Entering.{Enters}
 use Rattle.step_enter.proofs.ParameterLaws.{Fitting, fitting, with_values, absent-halts, uneven_halts, enters_with}
@@ -73,8 +72,8 @@ pub record Works (M : Machine) (P : Prog) (l : Located) (cs : Clauses) (w : Opti
   pub shown : (k : ℕ) (tag : Name) (c : Context × Stmt) (new : Entries) → M.step P (project P l) ≡ enter k tag c new
       → M.step P (project P l) ≡ shows (Switch' k tag) (at c.1 (front ++ (new ++ back)) (cells_of P l))
 
-module _ {M : Machine} {P : Prog} {stepper : Stepper} {bytes store : List ℕ} {h : Header} {l : Located} (p : ProgramOf P stepper bytes) (o : Stored M P store h l)
-    (t : Switching (stmt_in P l.position) (record_at stepper.frame bytes h.position)) where
+module _ {M : Machine} {P : Prog} {frame : Frame} {definitions : ℕ} {bytes store : List ℕ} {h : Header} {l : Located} (p : ImageOf P frame definitions bytes) (o : Stored M P store h l)
+    (t : Switching (stmt_in P l.position) (record_at frame bytes h.position)) where
   module _ {w : Option Value} {front back : Entries} (s : Works M P l t.clauses w front back) {cell' : Cell} where
     -- with the cell of a Let
     with_let : (c : OfLet P store h l w cell') → M.step P (project P l) ≡ entering t.clauses s.enter (cell'.number, name_of cell'.id, c.fields)
@@ -86,7 +85,7 @@ module _ {M : Machine} {P : Prog} {stepper : Stepper} {bytes store : List ℕ} {
     held c = c.holds.count ∙ length-map c.fields (value_slot (place_of l.cells) 0)
 
     pub switches-makes : {value : Slot} {j n : ℕ} {events store' events' : List ℕ} {at' : ℕ} {m : Result Step Stop} → Meets P store h l w value cell' → Around l.cells store h j n front back
-        → SwitchesOn stepper.frame bytes store events h at' cell' j n store' events' m
+        → SwitchesOn frame bytes store events h at' cell' j n store' events' m
         → Makes store events at' (resting (located_step M P l)) store' events' m
     unfolding event_bytes environment_of
     switches-makes met around (not_switched (other-cell e)) =

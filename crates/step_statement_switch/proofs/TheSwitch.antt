@@ -16,13 +16,13 @@ use Rattle.image_spec.specs.Shape.{max_depth}
 use Rattle.image_places_spec.specs.Views.{clauses_in}
 use Rattle.image_places_spec.specs.Places.{StmtStands, ClausesStand}
 use Rattle.image_places_spec.proofs.PlaceLaws.{stmt-parts}
+use Rattle.image_directory.specs.declared.Frame.{Frame}
 use Rattle.image_directory.specs.Slots as image
 use Rattle.image_read_nodes.specs.Nodes.{record_at, At}
 use Rattle.step_spec.specs.Located.{Machine, Located, records_in, stmt_in, clause_place, next_place_lem}
 use Rattle.step_header.specs.declared.Header.{Header}
 use Rattle.step_places.specs.Searches.{name_of, Finds, FindsClause}
-use Rattle.step_rule.specs.declared.Stepper.{Stepper}
-use Rattle.step_rule.specs.Rules.{ProgramOf, Stored}
+use Rattle.step_rule.specs.Rules.{ImageOf, Stored}
 use Rattle.step_rule.proofs.Views.{viewed}
 use Rattle.step_rule.proofs.Statements.{Is, is_substitute, is_call, is_let, is_switch, is_create_lem, is_invoke, is_literal, is_op, is_ifc, is_print, is_exit, here, placed}
 
@@ -47,26 +47,26 @@ switching (is_ifc thenc elsec) k = absurd (omega arith)
 switching (is_print next) k = absurd (omega arith)
 switching is_exit k = absurd (omega arith)
 
-module _ {M : Machine} {P : Prog} {stepper : Stepper} {bytes store : List ℕ} {h : Header} {l : Located} (p : ProgramOf P stepper bytes) (o : Stored M P store h l) where
-  pub the_switch : At stepper.frame bytes h.position 5 → Switching (stmt_in P l.position) (record_at stepper.frame bytes h.position)
-  the_switch a = switching (here p o (record_at stepper.frame bytes h.position) refl) a.kind
+module _ {M : Machine} {P : Prog} {frame : Frame} {definitions : ℕ} {bytes store : List ℕ} {h : Header} {l : Located} (p : ImageOf P frame definitions bytes) (o : Stored M P store h l) where
+  pub the_switch : At frame bytes h.position 5 → Switching (stmt_in P l.position) (record_at frame bytes h.position)
+  the_switch a = switching (here p o (record_at frame bytes h.position) refl) a.kind
 
-  module _ (t : Switching (stmt_in P l.position) (record_at stepper.frame bytes h.position)) where
+  module _ (t : Switching (stmt_in P l.position) (record_at frame bytes h.position)) where
     abbrev cs : Clauses
     cs = t.clauses
 
     -- its clauses are behind its record
-    clauses-stand : ClausesStand (max_depth - 1) (clauses_of (record_at stepper.frame bytes h.position)) (image.records_in stepper.frame bytes) (h.position + 1) cs
+    clauses-stand : ClausesStand (max_depth - 1) (clauses_of (record_at frame bytes h.position)) (image.records_in frame bytes) (h.position + 1) cs
     clauses-stand =
         let s : StmtStands max_depth (records_in P) l.position (Switch t.var t.ty cs) = subst (StmtStands max_depth (records_in P) l.position) t.is (placed p o).here in
         let F : ℕ → List Record → ℕ → Type 0 = λ (n : ℕ) (rs : List Record) (i : ℕ). ClausesStand (max_depth - 1) n rs (i + 1) cs in
-        subst (λ (n : ℕ). F n (image.records_in stepper.frame bytes) h.position) (sym (ap clauses_of t.holds))
+        subst (λ (n : ℕ). F n (image.records_in frame bytes) h.position) (sym (ap clauses_of t.holds))
         (subst (λ (rs : List Record). F (count_clauses cs) rs h.position) (sym p.records)
         (subst (F (count_clauses cs) (records_in P)) (sym (viewed o).position) (stmt-parts s).clauses))
 
     -- what a search finds of them
-    pub clause-found : (tag : ℕ) {found : Maybe ℕ} → FindsClause stepper.frame bytes (clauses_of (record_at stepper.frame bytes h.position)) (h.position + 1) tag found
-        → Finds (λ c. c.0) (λ c. c.1) 11 (max_depth - 1) (image.records_in stepper.frame bytes) (clause_place (name_of tag) cs (h.position + 1)) (find_clause_lem (name_of tag) cs) found
+    pub clause-found : (tag : ℕ) {found : Maybe ℕ} → FindsClause frame bytes (clauses_of (record_at frame bytes h.position)) (h.position + 1) tag found
+        → Finds (λ c. c.0) (λ c. c.1) 11 (max_depth - 1) (image.records_in frame bytes) (clause_place (name_of tag) cs (h.position + 1)) (find_clause_lem (name_of tag) cs) found
     clause-found tag f = f.finds (max_depth - 1) cs clauses-stand
 
     -- and where the next statement is

@@ -1,40 +1,31 @@
 // switch.rs: the clause with the tag of var's cell, and what the cell holds under the clause's names.
 ghost use Rattle.std.specs.Prelude.{◌≡◌, ◌+◌, ◌≤◌};
-ghost use Rattle.image_directory.specs.Slots.{records_in};
-ghost use Rattle.image_read_nodes.specs.Nodes.{At};
 ghost use Rattle.step_spec.specs.Located.{source_machine, linear_machine};
 ghost use Rattle.step_spec.specs.Events.{event_head};
-ghost use Rattle.step_places.specs.Ends.{Ends};
 ghost use Rattle.step_write.specs.Writing.{head_bytes};
 ghost use Rattle.step_rule.specs.Rules.{Given, MakesAs};
 ghost use Rattle.step_statement_switch.specs.Switching.{ClauseFor, Switches};
+ghost use Rattle.image_read_nodes.specs.Opened.{IsAt};
 
-use image_directory::Frame;
 use image_kinds::kinds::Kind;
 use image_read_nodes::first;
 use step_cells::{Cell, cell_of};
 use step_enter::{Parameters, clause_of, enter, fetch};
 use step_header::Header;
 use step_lookup::slot_of;
-use step_rule::Stepper;
+use step_places::stepper::Stepper;
 use step_slots::{Slot, read};
 use step_write::{EventHead, Step, Stop};
 
 // The clause that is entered for this cell, by the Switch at this place.
-fn clause_for(
-    image: &[u8],
-    frame: Frame,
-    ends: &[u32],
-    position: u32,
-    cell: Cell,
-) -> Option<Parameters>
-    requires { At frame image.now position 5 × Ends (records_in frame image.now) ends.now }
-    ensures { ClauseFor frame image.now position cell result }
+fn clause_for(stepper: &Stepper<'_>, position: u32, cell: Cell) -> Option<Parameters>
+    requires { IsAt stepper.now.image position 5 }
+    ensures { ClauseFor stepper.now.image.frame stepper.now.image.bytes.now position cell result }
 {
     if cell.sort != 3 {
         return None;
     }
-    let clause = clause_of(image, frame, ends, position, cell.id)?;
+    let clause = clause_of(stepper, position, cell.id)?;
     if clause.row.len != cell.len {
         return None;
     }
@@ -46,7 +37,7 @@ fn event(cell: Cell) -> EventHead
     ensures { head_bytes result ≡ event_head 5 1 cell.id 0 cell.number }
 {
     EventHead {
-        kind: Kind::SWITCH,
+        kind: Kind::Switch,
         detail: 1,
         name: cell.id,
         count: 0,
@@ -56,9 +47,7 @@ fn event(cell: Cell) -> EventHead
 
 // A Switch on this value. Of the entries that there are the first `front` stay, and the `back` that follow them come behind the new ones.
 fn switch(
-    image: &[u8],
-    stepper: Stepper,
-    ends: &[u32],
+    stepper: &Stepper<'_>,
     store: &mut [u8],
     events: &mut [u8],
     scratch: &mut [u8],
@@ -68,16 +57,15 @@ fn switch(
     front: usize,
     back: usize,
 ) -> Result<Step, Stop>
-    requires { Given stepper image.now store.old events.old scratch.old header at 5 × (Ends (records_in stepper.frame image.now) ends.now × (front + back ≤ header.entries)) }
-    ensures { Switches stepper.frame image.now store.old events.old header at value front back store.new events.new result }
+    requires { Given stepper.now stepper.now.image.bytes.now store.old events.old scratch.old header at 5 × (front + back ≤ header.entries) }
+    ensures { Switches stepper.now.image.frame stepper.now.image.bytes.now store.old events.old header at value front back store.new events.new result }
 {
-    let frame = stepper.frame;
     let cell = cell_of(store, header, value);
-    let clause = clause_for(image, frame, ends, header.position, cell).ok_or(Stop::NoStep)?;
+    let clause = clause_for(stepper, header.position, cell).ok_or(Stop::NoStep)?;
     let row = clause.row;
     fetch(store, cell.from, row.len, scratch);
     enter(
-        image,
+        stepper.image.bytes,
         row,
         store,
         events,
@@ -93,40 +81,34 @@ fn switch(
 
 // The source machine's: the new variables come before all others, var among them.
 pub fn source(
-    image: &[u8],
-    stepper: Stepper,
-    ends: &[u32],
+    stepper: &Stepper<'_>,
     store: &mut [u8],
     events: &mut [u8],
     scratch: &mut [u8],
     header: Header,
     at: usize,
 ) -> Result<Step, Stop>
-    requires { Given stepper image.now store.old events.old scratch.old header at 5 × Ends (records_in stepper.frame image.now) ends.now }
-    ensures { MakesAs source_machine stepper image.now store.old events.old header at store.new events.new result }
+    requires { Given stepper.now stepper.now.image.bytes.now store.old events.old scratch.old header at 5 }
+    ensures { MakesAs source_machine stepper.now stepper.now.image.bytes.now store.old events.old header at store.new events.new result }
 {
     let i = header.position as usize;
-    let var = first(image, stepper.frame, i, Kind::SWITCH);
+    let var = first(&stepper.image, i, Kind::Switch);
     let value = slot_of(store, header, var.id.0);
     let back = header.entries as usize;
-    switch(
-        image, stepper, ends, store, events, scratch, header, at, value, 0, back,
-    )
+    switch(stepper, store, events, scratch, header, at, value, 0, back)
 }
 
 // The linear machine's: the value is that of the last entry, and the new variables take its place.
 pub fn linear(
-    image: &[u8],
-    stepper: Stepper,
-    ends: &[u32],
+    stepper: &Stepper<'_>,
     store: &mut [u8],
     events: &mut [u8],
     scratch: &mut [u8],
     header: Header,
     at: usize,
 ) -> Result<Step, Stop>
-    requires { Given stepper image.now store.old events.old scratch.old header at 5 × Ends (records_in stepper.frame image.now) ends.now }
-    ensures { MakesAs linear_machine stepper image.now store.old events.old header at store.new events.new result }
+    requires { Given stepper.now stepper.now.image.bytes.now store.old events.old scratch.old header at 5 }
+    ensures { MakesAs linear_machine stepper.now stepper.now.image.bytes.now store.old events.old header at store.new events.new result }
 {
     let heap = header.heap as usize;
     let entries = header.entries as usize;
@@ -135,7 +117,5 @@ pub fn linear(
     }
     let front = entries - 1;
     let value = read(store, 64 + 16 * (heap + front));
-    switch(
-        image, stepper, ends, store, events, scratch, header, at, value, front, 0,
-    )
+    switch(stepper, store, events, scratch, header, at, value, front, 0)
 }

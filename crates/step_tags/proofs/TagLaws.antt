@@ -6,6 +6,7 @@ use mathlib.Core.List.{List}
 use Rattle.image_spec.specs.Fields.{identifier_bytes, IdentifierOk}
 use Rattle.image_spec.specs.Records.{Record, definition, substitute, call, let', switch, create, invoke, literal, op, ifc, clause', print, exit, record_bytes, RecordOk}
 use Rattle.image_spec.specs.Kinds.{kind_of}
+use Rattle.image_directory.specs.Slots.{Ready}
 use Rattle.image_directory.specs.declared.Frame.{Frame}
 use Rattle.image_read_parts.specs.Standing.{Stands}
 use Rattle.image_read_parts.proofs.PartPlaces.{let_tag, invoke-tag}
@@ -29,9 +30,9 @@ tag-stands w (print n v) k ok = absurd (false≢true k)
 tag-stands w (exit v) k ok = absurd (false≢true k)
 
 -- the same, of the record at an index
-pub tag-there : (g : Frame) (s : List ℕ) (i k : ℕ) {p : ℕ} → At g s i k → has_tag k ≡ true → p ≡ tag_at g.id k
+pub tag-there : (g : Frame) (s : List ℕ) (i k : ℕ) {p : ℕ} → Ready g s → At g s i k → has_tag k ≡ true → p ≡ tag_at g.id k
     → Stands (identifier_bytes g.id) (IdentifierOk g.id) (record_bytes g.id (record_at g s i)) p (tag_in (record_at g s i))
-tag-there g s i k a h e =
+tag-there g s i k ready a h e =
     let r = record_at g s i in
     subst (λ (z : ℕ). Stands (identifier_bytes g.id) (IdentifierOk g.id) (record_bytes g.id r) z (tag_in r)) (ap (tag_at g.id) a.kind ∙ sym e)
-    (tag-stands g.id r (ap has_tag a.kind ∙ h) (record_ok g s i k a))
+    (tag-stands g.id r (ap has_tag a.kind ∙ h) (record_ok g s i k ready a))

@@ -2,29 +2,29 @@
 #![tactic(auto)]
 
 ghost use Rattle.std.specs.Prelude.{◌≡◌, true, ◌≤◌};
-ghost use Rattle.image_read_nodes.specs.Nodes.{record_at, At};
 ghost use Rattle.step_tags.specs.Tags.{has_tag, tag_at, tag_in};
+ghost use Rattle.image_read_nodes.specs.Opened.{record_of, IsAt};
+ghost use Rattle.image_kinds.specs.Codes.{code_of};
 
-use image_directory::Frame;
+use image_directory::image::Image;
 use image_kinds::kinds::Kind;
 use image_read_parts::identifier;
 use syntax::names::Identifier;
 
-fn tag_at(kind: u8, w: usize) -> usize
+fn tag_at(kind: Kind, w: usize) -> usize
     requires { w ≤ 4 }
-    ensures { result ≡ tag_at w kind }
+    ensures { result ≡ tag_at w (code_of kind) }
 {
-    if kind == Kind::LET {
-        6 + (w + w)
-    } else {
-        3 + w
+    match kind {
+        Kind::Let => 6 + (w + w),
+        _ => 3 + w,
     }
 }
 
 // The tag of the Let or Invoke at index i.
-pub fn tag_of(image: &[u8], frame: Frame, i: usize, kind: u8) -> Identifier
-    requires { At frame image.now i kind × (has_tag kind ≡ true) }
-    ensures { result ≡ tag_in (record_at frame image.now i) }
+pub fn tag_of(image: &Image<'_>, i: usize, kind: Kind) -> Identifier
+    requires { IsAt image.now i (code_of kind) × (has_tag (code_of kind) ≡ true) }
+    ensures { result ≡ tag_in (record_of image.now i) }
 {
-    identifier(image, frame, i, tag_at(kind, frame.id))
+    identifier(image, i, tag_at(kind, image.frame.id))
 }

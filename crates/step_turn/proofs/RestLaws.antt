@@ -4,13 +4,13 @@ use Prim.Native.Nat.{ℕ, ◌<◌}
 use mathlib.Core.Path.{◌≡◌, refl, sym, ap, ◌∙◌, subst}
 use mathlib.Core.Bool.{Bool, true, false, cond}
 use mathlib.Core.List.{List, map}
-use mathlib.Core.Option.{Option, none}
+use mathlib.Core.Option.{none}
 use native.Mathlib.Omega.{arith}
 use Rattle.model.specs.Syntax.{Prog}
 use Rattle.model.specs.Source.{source_step_lem}
 use Rattle.model.specs.Linear.{linear_step_lem}
-use Rattle.step_spec.specs.Located.{Machine, source_machine, linear_machine, Located, Stepped, stmt_in, cell_in, state_of, project, unless_stopped, follow, located_step}
-use Rattle.step_spec.specs.Store.{bit, raw_of}
+use Rattle.step_spec.specs.Located.{source_machine, linear_machine, Located, stmt_in, cell_in, state_of, project, unless_stopped, follow, located_step}
+use Rattle.step_spec.specs.Store.{bit}
 use Rattle.step_spec.proofs.Projects.{stopped-step}
 use Rattle.step_spec.proofs.Sound.{Lawful, source_lawful, linear_lawful}
 use Rattle.image_directory.specs.Slots.{Ready}
@@ -19,8 +19,8 @@ use Rattle.step_header.specs.Headers.{Holds}
 use Rattle.step_write.specs.declared.Step.{Step}
 use Rattle.step_write.specs.declared.Stop.{Stop}
 use Rattle.step_write.specs.declared.Stop.TheVariants.{NoStep}
-use Rattle.step_rule.specs.declared.Stepper.{Stepper}
-use Rattle.step_rule.specs.Rules.{machine_in, Reads, Stored, resting, Makes, no_step, MakesAs}
+use Rattle.step_places.specs.declared.stepper.Stepper.{Stepper}
+use Rattle.step_rule.specs.Rules.{machine_in, Stored, resting, Makes, no_step, MakesAs}
 use Rattle.step_rule.proofs.Views.{views}
 use Rattle.step_settle.specs.Settling.{Settles}
 use Rattle.step_settle.proofs.Reading.{reads-holds, reads-inside}
@@ -70,7 +70,7 @@ module _ {stepper : Stepper} {bytes store : List ℕ} {h : Header} (ended : h.en
 
     module _ {step : Step} (e : m ≡ Ok step) where
       -- what was written is a state: whether the machine stops there may be asked
-      pub asked-holds : Ready stepper.frame bytes → Lives (machine_in stepper) stepper bytes store h → (step.header.position < stepper.frame.count) × Holds store₁ step.header
+      pub asked-holds : Ready stepper.image.frame bytes → Lives (machine_in stepper) stepper bytes store h → (step.header.position < stepper.image.frame.count) × Holds store₁ step.header
       asked-holds y w =
           let v = w.living in
           let r = (made-rests (lawful_in stepper.linear) v (made_as (Ok step) e w.program w.state v)).reads in

@@ -13,7 +13,7 @@ use Rattle.step_spec.proofs.StaysDistinct.{located-stays-distinct}
 use Rattle.step_header.specs.declared.Header.{Header}
 use Rattle.step_write.specs.declared.Step.{Step}
 use Rattle.step_write.specs.declared.Stop.{Stop}
-use Rattle.step_rule.specs.declared.Stepper.{Stepper}
+use Rattle.step_places.specs.declared.stepper.Stepper.{Stepper}
 use Rattle.step_rule.specs.Rules.{machine_in, Reads, MakesAs}
 use Rattle.step_rule.proofs.Views.{views}
 use Rattle.step_order.specs.Sure.{SureIn}

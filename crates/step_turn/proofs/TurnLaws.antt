@@ -1,8 +1,8 @@
 -- One turn: a rule's step, and then the stopped flag of the state that it leads to. Assumes nothing.
 use Rattle.std.specs.Prelude.{Ok}
-use Prim.Native.Nat.{ℕ, ◌+◌, ◌-◌, ◌^◌, ◌≤◌, ◌<◌}
+use Prim.Native.Nat.{ℕ, ◌+◌, ◌-◌, ◌≤◌}
 use mathlib.Core.Path.{◌≡◌, refl, sym, ap, ap₂, ◌∙◌, subst}
-use mathlib.Core.Bool.{Bool, true, false, ◌&&◌, false≢true}
+use mathlib.Core.Bool.{Bool, true, false, ◌&&◌}
 use mathlib.Core.List.{List}
 use mathlib.Core.Option.{Option, none, some}
 use native.Mathlib.Omega.{arith}
@@ -19,18 +19,16 @@ use Rattle.step_spec.specs.Store.{header_of, raw_of, store_bytes, state_from}
 use Rattle.step_spec.specs.Events.{shown_bytes}
 use Rattle.step_spec.specs.Calls.{has_room_lem}
 use Rattle.step_spec.specs.Claims.{SameStep, both_show, both-silent, both_halt, both-stop}
-use Rattle.step_spec.proofs.Standing.{Placed}
 use Rattle.step_spec.proofs.Projects.{same_step, stopped-step}
 use Rattle.step_spec.proofs.Sound.{Lawful, Sound}
 use Rattle.step_spec.proofs.Reached.{sound-next}
 use Rattle.step_spec.proofs.Making.{written}
-use Rattle.step_spec.proofs.Stepping.{Readable}
 use Rattle.step_spec.proofs.AnyStore.{fits-sound}
 use Rattle.step_header.specs.declared.Header.{Header}
 use Rattle.step_header.specs.Headers.{tuple_of}
 use Rattle.step_write.specs.declared.Step.{Step}
-use Rattle.step_rule.specs.declared.Stepper.{Stepper}
-use Rattle.step_rule.specs.Rules.{ProgramOf, Reads, Stored, going', resting, Makes, no_step, no_room, one-step}
+use Rattle.step_places.specs.declared.stepper.Stepper.{Stepper}
+use Rattle.step_rule.specs.Rules.{Reads, Stored, going', resting, Makes, one-step}
 use Rattle.step_rule.proofs.Views.{views}
 use Rattle.step_rule.proofs.Statements.{placed_at}
 use Rattle.step_settle.specs.Settling.{flagged, Settles}

@@ -1,14 +1,12 @@
 -- One turn of a stepper: a state in a store whose stopped flag is right, and its step.
-use Rattle.std.specs.Prelude.{ℕ, ◌^◌, ◌≤◌, ◌<◌, ◌≡◌, Bool, false, List, length, Result}
+use Rattle.std.specs.Prelude.{ℕ, ◌^◌, ◌≤◌, ◌<◌, ◌≡◌, false, List, length, Result}
 use Rattle.model.specs.Syntax.{Prog}
-use Rattle.image_directory.specs.Slots.{Ready, records_in}
 use Rattle.step_spec.specs.Located.{Machine, Located, project, is_stop, located_step}
 use Rattle.step_spec.proofs.Stepping.{Readable}
 use Rattle.step_header.specs.declared.Header.{Header}
-use Rattle.step_places.specs.Ends.{Ends}
 use Rattle.step_write.specs.declared.Step.{Step}
 use Rattle.step_write.specs.declared.Stop.{Stop}
-use Rattle.step_rule.specs.declared.Stepper.{Stepper}
+use Rattle.step_places.specs.declared.stepper.Stepper.{Stepper}
 use Rattle.step_rule.specs.Rules.{ProgramOf, Reads, Makes}
 
 -- the store is read as the state l of the image's program, and where its stopped flag is clear the machine does not stop
@@ -25,10 +23,8 @@ pub record Lives (M : Machine) (stepper : Stepper) (bytes store : List ℕ) (h :
   pub state : Located
   pub living : Living M program stepper bytes store h state
 
--- what a turn works with: the image's records, the table of their ends, a place in the event buffer, room for 130 slots
-pub record Workplace (stepper : Stepper) (bytes ends events scratch : List ℕ) (at : ℕ) : Type 0 where
-  pub ready : Ready stepper.frame bytes
-  pub ends' : Ends (records_in stepper.frame bytes) ends
+-- what a turn works with: a place in the event buffer, room for 130 slots
+pub record Workplace (events scratch : List ℕ) (at : ℕ) : Type 0 where
   pub place : at ≤ length events
   pub room : 2080 ≤ length scratch
 

@@ -8,15 +8,13 @@ ghost use Rattle.step_turn.specs.Turning.{Lives, Workplace, Advances};
 use image_read_nodes::parts_of;
 use step_dispatch::statement;
 use step_header::Header;
-use step_rule::Stepper;
+use step_places::stepper::Stepper;
 use step_settle::settle;
 use step_write::{Step, Stop};
 
 // The stepper's step from the state in the store, if it has one and there is room for it.
 pub fn advance(
-    image: &[u8],
-    stepper: Stepper,
-    ends: &[u32],
+    stepper: &Stepper<'_>,
     store: &mut [u8],
     events: &mut [u8],
     scratch: &mut [u8],
@@ -24,26 +22,16 @@ pub fn advance(
     at: usize,
     sure: bool,
 ) -> Result<Step, Stop>
-    requires { Workplace stepper image.now ends.now events.old scratch.old at × (Lives (machine_in stepper) stepper image.now store.old header × SureIn stepper sure store.old header) }
-    ensures { Advances (machine_in stepper) stepper image.now store.old events.old header at store.new events.new result }
+    requires { Workplace events.old scratch.old at × (Lives (machine_in stepper.now) stepper.now stepper.now.image.bytes.now store.old header × SureIn stepper.now sure store.old header) }
+    ensures { Advances (machine_in stepper.now) stepper.now stepper.now.image.bytes.now store.old events.old header at store.new events.new result }
 {
     if header.ended || header.stopped {
         return Err(Stop::NoStep);
     }
-    let follows = parts_of(image, stepper.frame, header.position as usize);
-    let step = statement(
-        image,
-        stepper,
-        ends,
-        store,
-        events,
-        scratch,
-        header,
-        at,
-        follows.kind,
-    )?;
+    let follows = parts_of(&stepper.image, header.position as usize);
+    let step = statement(stepper, store, events, scratch, header, at, follows.kind)?;
     Ok(Step {
-        header: settle(image, stepper, ends, store, step.header, sure),
+        header: settle(stepper, store, step.header, sure),
         at: step.at,
     })
 }

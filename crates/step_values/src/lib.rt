@@ -31,10 +31,7 @@ pub fn are_given(values: &[u8], n: usize) -> bool
     ensures { result ≡ are_given_lem n values.now }
 {
     let len = values.len();
-    if len % 16 != 0 {
-        return false;
-    }
-    if len / 16 != n {
+    if len % 16 != 0 || len / 16 != n {
         return false;
     }
     every_given(values, n)

@@ -1,6 +1,7 @@
 -- What is written for a step: its event and the state after it, where there is room for both.
 use Rattle.std.specs.Prelude.{ℕ, ◌+◌, ◌-◌, ◌*◌, ◌^◌, ◌≤◌, ◌<◌, ◌≡◌, Bool, true, false, ◌&&◌, List, leb, length, Result, Ok, Err}
 use Rattle.std.proofs.lemmas.List.Edits.{sets}
+use Rattle.image_kinds.specs.Codes.{code_of}
 use Rattle.step_spec.specs.Store.{header_bytes}
 use Rattle.step_spec.specs.Events.{event_head}
 use Rattle.step_header.specs.declared.Header.{Header}
@@ -11,7 +12,7 @@ use Rattle.step_write.specs.declared.Stop.{Stop}
 use Rattle.step_write.specs.declared.Stop.TheVariants.{NoRoom}
 
 abbrev pub head_bytes : EventHead → List ℕ
-head_bytes e = event_head e.kind e.detail e.name e.count e.payload
+head_bytes e = event_head (code_of e.kind) e.detail e.name e.count e.payload
 
 -- how many bytes the state with this header takes
 abbrev pub size : Header → ℕ

@@ -7,9 +7,10 @@ ghost use Rattle.image_write_parts.specs.Puts.{Puts};
 ghost use Rattle.step_slots.specs.Slots.{slot_bytes};
 ghost use Rattle.step_write.specs.Writing.{head_bytes, size, Ending, Sealed, Finishes};
 
+use image_kinds::kinds::Kind;
 use image_write_bytes::bytes::{copy, move_up};
 use image_write_parts::{put_byte, store_pair};
-use step_header::{Header, place, put_header};
+use step_header::{Header, put_header};
 use step_slots::{Slot, put_four, put_long, put_slot};
 
 // What a step leaves: the header of the state after it, and the place behind its event.
@@ -29,7 +30,7 @@ pub enum Stop {
 // The sixteen bytes that an event begins with.
 #[derive(Clone, Copy)]
 pub struct EventHead {
-    pub kind: u8,
+    pub kind: Kind,
     pub detail: u8,
     pub name: u32,
     pub count: u32,
@@ -41,7 +42,7 @@ pub fn has_room(store: usize, header: Header, events: usize, at: usize, bytes: u
     requires { (64 ≤ store) × ((at ≤ events) × (header.heap + header.entries < 2 ^ 64)) }
     ensures { result ≡ leb (size header) store && leb bytes (events - at) }
 {
-    let slots = place(header.heap) + place(header.entries);
+    let slots = header.heap as usize + header.entries as usize;
     slots <= (store - 64) / 16 && bytes <= events - at
 }
 
@@ -49,7 +50,7 @@ pub fn put_event(events: &mut [u8], at: usize, event: EventHead) -> usize
     requires { at + 16 ≤ length events.old }
     ensures { Puts events.old events.new at result (head_bytes event) }
 {
-    let after_kind = put_byte(events, at, event.kind);
+    let after_kind = put_byte(events, at, event.kind as u8);
     let after_detail = put_byte(events, after_kind, event.detail);
     let after_name = store_pair(events, after_detail, event.name);
     let after_count = put_four(events, after_name, event.count);

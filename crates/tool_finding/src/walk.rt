@@ -4,7 +4,8 @@ use crate::place::Place;
 use crate::refusal::Refusal;
 use std::alloc::{AllocError, Global};
 use try_building::image::Image;
-use try_building::record::{Bindings, Identifier, Record};
+use try_building::lists::{Bindings, Identifier};
+use try_building::record::Record;
 
 // The most statements in depth, for questions 5 and 7.
 const DEEPEST: usize = 128;

@@ -1,7 +1,9 @@
 // The line of a record.
 use crate::page::Page;
 use std::io::{self, Write};
-use try_building::record::{Bindings, Comparison, Identifier, Operator, Record, Substitutions, Ty};
+use try_building::codes::{Comparison, Operator};
+use try_building::lists::{Bindings, Identifier, Substitutions, Ty};
+use try_building::record::Record;
 
 // What is asked of a listing.
 #[derive(Clone, Copy, PartialEq, Eq)]

@@ -1,7 +1,8 @@
 // Identifiers, types, bindings and lists of them.
 use crate::page::Page;
 use std::io::{self, Write};
-use try_building::record::{Binding, Bindings, Chirality, Identifier, Substitutions, Ty};
+use try_building::codes::Chirality;
+use try_building::lists::{Binding, Bindings, Identifier, Substitutions, Ty};
 
 impl Page<'_> {
     // A variable: its name and its ID.

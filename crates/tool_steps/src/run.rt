@@ -23,6 +23,7 @@ pub fn run(
 ) -> std::io::Result<Ran> {
     let mut events = io::large_buffer();
     let mut left = steps;
+    // no range: how many steps a call makes is the library's to say
     while 0 < left {
         let made = match machine.step(image, left, store, &mut events) {
             Ok(made) => made,

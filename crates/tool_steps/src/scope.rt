@@ -1,6 +1,7 @@
 // The names of variables. A store has IDs alone; the name of an ID is that of the innermost binder around the statement that has it.
 use try_building::image::Image;
-use try_building::record::{Identifier, Record};
+use try_building::lists::Identifier;
+use try_building::record::Record;
 
 // How many records come right behind a record as its parts: clauses and bodies.
 fn parts(image: Image<'_>, k: u16) -> usize {

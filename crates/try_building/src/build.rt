@@ -1,7 +1,7 @@
 // An image from a line of text.
 use crate::image::{Pair, body, header};
 use crate::layout::{NAME, Part, layout};
-use crate::record::{Binding, Identifier, Ty};
+use crate::lists::{Binding, Identifier, Ty};
 use crate::text::{Text, external};
 use std::alloc::{AllocError, AllocFailed, Global};
 use std::io::{self, ErrorKind};

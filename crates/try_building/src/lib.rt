@@ -1,4 +1,4 @@
-// Images built from lines of text, images printed as such lines, and answers printed. A case is a line: a name, a colon, a space,
+// Images built from lines of text, images printed as such lines, records read, and answers printed. A case is a line: a name, a colon, a space,
 // max_id, and the records.
 //
 //   d(1 2)    a definition with these parameters    s1 2      a Switch on 1 with two clauses
@@ -19,8 +19,10 @@
 #![tactic(auto)]
 
 pub mod build;
+pub mod codes;
 pub mod image;
 pub mod layout;
+pub mod lists;
 pub mod notation;
 pub mod reader;
 pub mod record;

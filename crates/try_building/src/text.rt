@@ -1,7 +1,8 @@
 // A line of text, read from the front.
 use crate::build::BuildError;
+use crate::codes::Chirality;
 use crate::layout::{NAME, TYPE};
-use crate::record::{Binding, Chirality, Identifier, Substitution, Ty};
+use crate::lists::{Binding, Identifier, Substitution, Ty};
 
 #[derive(Clone, Copy)]
 pub struct Text<'a> {

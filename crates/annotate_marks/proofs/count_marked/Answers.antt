@@ -1,31 +1,21 @@
-use Prim.Native.Nat.{◌+◌, ◌-◌, ◌≤◌}
-use mathlib.Core.Path.{◌≡◌, refl, sym, ap, ◌∙◌}
+use mathlib.Core.Path.{ap}
 use native.Mathlib.Omega.{arith}
-use mathlib.Core.List.{List}
-use lib.ListN.{length, drop}
-use Rattle.syntax.specs.declared.names.VarId.{VarId}
-use Rattle.scope_spec.specs.Marking.{marked_from}
+use lib.ListN.{length}
 use Rattle.annotate_marks.proofs.MarkedLaws.{marked_none, count-one, marked-past}
 use Rattle.annotate_marks.proofs.count_marked.Goals as goal
-
-pub loop-i-init : goal.loop-i-init
-loop-i-init c = ((refl, omega arith), (omega arith, omega arith))
-
-pub loop-i-preserved-then-row-i-eq0 : goal.loop-i-preserved-then-row-i-eq0
-loop-i-preserved-then-row-i-eq0 c =
-    let l = c.loop-i in
-    let r = c.args.row.now in
-    let e = marked_none r l.i (omega arith) c.if-row-i-eq0.true in
-    ((refl, omega arith), (omega arith, ap (λ (z : List VarId). l.marked + length z) (sym e) ∙ l.invariant.1.1))
+use Rattle.annotate_marks.proofs.count_marked.Goals.{then-row-i-ne0, else-row-i-ne0}
 
 pub loop-i-preserved : goal.loop-i-preserved
 loop-i-preserved c =
     let l = c.loop-i in
     let r = c.args.row.now in
-    ((refl, omega arith), (omega arith, count-one r l.i l.marked (omega arith) c.if-row-i-eq0.false ∙ l.invariant.1.1))
+    elim c.if-row-i-ne0.branch [
+      | then-row-i-ne0 w ↦ let e = count-one r l.i l.marked (omega arith) w.if-row-i-ne0.true in (omega arith, omega arith)
+      | else-row-i-ne0 w ↦ let e = ap length (marked_none r l.i (omega arith) w.if-row-i-ne0.false) in (omega arith, omega arith)
+    ]
 
 pub returns : goal.returns
 returns c =
     let l = c.loop-i in
     let e = ap length (marked-past c.args.row.now l.i (omega arith)) in
-    omega (arith, e, l.invariant.1.1)
+    omega (arith, e, l.invariant.1)

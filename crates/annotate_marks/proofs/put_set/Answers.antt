@@ -1,4 +1,3 @@
-use borrow.Author.Rules.{rules}
 use Rattle.scope_spec.specs.Marking.{marked_from}
 use Rattle.annotate_marks.proofs.MarkedLaws.{set-put}
 use Rattle.annotate_marks.proofs.put_set.Goals as goal

@@ -1,18 +1,19 @@
-use mathlib.Core.Path.{sym, ◌∙◌}
+use mathlib.Core.Path.{refl, sym, ◌∙◌}
+use Rattle.image_open.specs.Opens.{closed, opened}
 use Rattle.image_open.proofs.Stages.{many, gaps, unformed, misshapen, accepted}
 use Rattle.image_open.proofs.open_records.Goals as goal
 
 pub returns-then-count-gt-MAX_RECORDS : goal.returns-then-count-gt-MAX_RECORDS
-returns-then-count-gt-MAX_RECORDS c = sym (many _ _ _ _ _ c.requires.1 c.if-count-gt-MAX_RECORDS.true)
+returns-then-count-gt-MAX_RECORDS c = closed (many _ _ _ _ _ c.requires.1 c.if-count-gt-MAX_RECORDS.true)
 
 pub returns-then-not-tiled : goal.returns-then-not-tiled
-returns-then-not-tiled c = sym (gaps _ _ _ _ _ c.requires.1 c.if-count-gt-MAX_RECORDS.false (sym c.tiled.ensures ∙ c.if-not-tiled.true))
+returns-then-not-tiled c = closed (gaps _ _ _ _ _ c.requires.1 c.if-count-gt-MAX_RECORDS.false (sym c.tiled.ensures ∙ c.if-not-tiled.true))
 
 pub returns-then-not-all_formed : goal.returns-then-not-all_formed
-returns-then-not-all_formed c = sym (unformed _ _ _ _ _ c.requires.1 c.if-count-gt-MAX_RECORDS.false (sym c.tiled.ensures ∙ c.if-not-tiled.false) (sym c.all_formed.ensures ∙ c.if-not-all_formed.true))
+returns-then-not-all_formed c = closed (unformed _ _ _ _ _ c.requires.1 c.if-count-gt-MAX_RECORDS.false (sym c.tiled.ensures ∙ c.if-not-tiled.false) (sym c.all_formed.ensures ∙ c.if-not-all_formed.true))
 
 pub returns-then-not-shaped : goal.returns-then-not-shaped
-returns-then-not-shaped c = sym (misshapen _ _ _ _ _ c.requires.1 c.if-count-gt-MAX_RECORDS.false (sym c.tiled.ensures ∙ c.if-not-tiled.false) (sym c.all_formed.ensures ∙ c.if-not-all_formed.false) (sym c.shaped.ensures ∙ c.if-not-shaped.true))
+returns-then-not-shaped c = closed (misshapen _ _ _ _ _ c.requires.1 c.if-count-gt-MAX_RECORDS.false (sym c.tiled.ensures ∙ c.if-not-tiled.false) (sym c.all_formed.ensures ∙ c.if-not-all_formed.false) (sym c.shaped.ensures ∙ c.if-not-shaped.true))
 
 pub returns : goal.returns
-returns c = sym (accepted _ _ _ _ _ c.requires.1 c.if-count-gt-MAX_RECORDS.false (sym c.tiled.ensures ∙ c.if-not-tiled.false) (sym c.all_formed.ensures ∙ c.if-not-all_formed.false) (sym c.shaped.ensures ∙ c.if-not-shaped.false))
+returns c = opened (accepted _ _ _ _ _ c.requires.1 c.if-count-gt-MAX_RECORDS.false (sym c.tiled.ensures ∙ c.if-not-tiled.false) (sym c.all_formed.ensures ∙ c.if-not-all_formed.false) (sym c.shaped.ensures ∙ c.if-not-shaped.false)) refl

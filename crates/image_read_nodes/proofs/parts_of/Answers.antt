@@ -6,19 +6,16 @@ use Rattle.image_read_nodes.proofs.parts_of.Goals as goal
 use Rattle.image_read_nodes.proofs.parts_of.Goals.{After-unwrap-node}
 
 -- the record that was looked at
-here : (c : After-unwrap-node) → Looked c.args.frame c.args.image.now c.args.i c.unwrap-node.result
+here : (c : After-unwrap-node) → Looked c.args.image.now.frame c.args.image.now.bytes.now c.args.i c.unwrap-node.result
 here c =
     let a = c.args in
-    looked a.frame a.image.now a.i _ c.requires.0 (sym c.look.ensures ∙ c.unwrap-node.ensures)
+    looked a.image.now.frame a.image.now.bytes.now a.i _ c.args.image.now.ready (sym c.look.ensures ∙ c.unwrap-node.ensures)
 
 pub unwrap-node-requires : goal.unwrap-node-requires
 unwrap-node-requires c =
     let a = c.args in
-    let v = seen a.frame a.image.now a.i c.requires.0 c.requires.1 in
+    let v = seen a.image.now.frame a.image.now.bytes.now a.i c.args.image.now.ready c.requires in
     rw (c.look.ensures, v.list) refl
-
-pub bodies-requires : goal.bodies-requires
-bodies-requires c = (here (goal.at.bodies-requires c).After-unwrap-node).small
 
 pub returns : goal.returns
 returns c =

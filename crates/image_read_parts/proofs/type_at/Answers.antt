@@ -1,4 +1,3 @@
-use borrow.Author.Rules.{rules}
 use Rattle.image_read_parts.proofs.StandingLaws.{type_i64, type_decl}
 use Rattle.image_read_parts.proofs.type_at.Goals as goal
 

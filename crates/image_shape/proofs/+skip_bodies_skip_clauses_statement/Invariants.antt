@@ -16,10 +16,10 @@ decreases-statement l = 2 * l.depth
 
 abbrev pub invariant-skip_bodies-loop : goal.invariant-skip_bodies-loop
 invariant-skip_bodies-loop l =
-    (l.here ≤ length (records_in l.frame l.image))
-    × (stop (times l.n (stmt l.depth)) (records_in l.frame l.image) l.at ≡ stop (times (l.n - l.counter) (stmt l.depth)) (records_in l.frame l.image) l.here)
+    (l.here ≤ length (records_in l.image.frame l.image.bytes.now))
+    × (stop (times l.n (stmt l.depth)) (records_in l.image.frame l.image.bytes.now) l.at ≡ stop (times (l.n - l.counter) (stmt l.depth)) (records_in l.image.frame l.image.bytes.now) l.here)
 
 abbrev pub invariant-skip_clauses-loop : goal.invariant-skip_clauses-loop
 invariant-skip_clauses-loop l =
-    (l.here ≤ length (records_in l.frame l.image))
-    × (stop (clauses (stmt l.depth) l.n) (records_in l.frame l.image) l.at ≡ stop (clauses (stmt l.depth) (l.n - l.counter)) (records_in l.frame l.image) l.here)
+    (l.here ≤ length (records_in l.image.frame l.image.bytes.now))
+    × (stop (clauses (stmt l.depth) l.n) (records_in l.image.frame l.image.bytes.now) l.at ≡ stop (clauses (stmt l.depth) (l.n - l.counter)) (records_in l.image.frame l.image.bytes.now) l.here)

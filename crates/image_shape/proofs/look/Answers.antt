@@ -1,21 +1,24 @@
-use Rattle.std.proofs.Common.{arith, sym, ap, ◌∙◌, eq-eqb, ne_eqb, inl, inr}
+use Rattle.std.proofs.Common.{arith, refl, sym, ap, ◌∙◌, ◌≡◌}
+use lib.ListN.{get_or}
+use Rattle.image_kinds.specs.Codes.{code_of}
+use Rattle.image_kinds.proofs.KindNames.{record-decodes}
 use Rattle.image_shape.specs.Nodes.{node_of}
 use Rattle.image_directory.proofs.Places.{Spot, spot, no_short, unseen}
-use Rattle.image_shape.proofs.Heads.{spot_node}
+use Rattle.image_shape.proofs.Heads.{spot_counted, spot_plain}
 use Rattle.image_shape.proofs.look.Goals as goal
-use Rattle.image_shape.proofs.look.Goals.{In_ok-slot}
+use Rattle.image_shape.proofs.look.Goals.{In_ok-slot, After-unwrap-kind}
 
 -- the record that was looked for
-here : (c : In_ok-slot) → Spot c.args.frame c.args.image.now c.args.i c.in_ok-slot.slot
+here : (c : In_ok-slot) → Spot c.args.image.now.frame c.args.image.now.bytes.now c.args.i c.in_ok-slot.slot
 here c =
     let a = c.args in
-    spot a.frame a.image.now a.i _ c.requires c.if-frame-i.false (sym c.read_slot.ensures ∙ c.in_ok-slot.was)
+    spot a.image.now.frame a.image.now.bytes.now a.i _ c.args.image.now.ready c.if-image-i.false (sym c.read_slot.ensures ∙ c.in_ok-slot.was)
 
-pub returns-then-frame-i : goal.returns-then-frame-i
-returns-then-frame-i c = let a = c.args in sym (ap node_of (unseen a.frame a.image.now a.i c.requires c.if-frame-i.true))
+pub returns-then-image-i : goal.returns-then-image-i
+returns-then-image-i c = let a = c.args in sym (ap node_of (unseen a.image.now.frame a.image.now.bytes.now a.i c.args.image.now.ready c.if-image-i.true))
 
 pub returns-in_err-slot : goal.returns-in_err-slot
-returns-in_err-slot c = let a = c.args in absurd (no_short a.frame a.image.now a.i c.requires c.if-frame-i.false (sym c.read_slot.ensures ∙ c.in_err-slot.was))
+returns-in_err-slot c = let a = c.args in absurd (no_short a.image.now.frame a.image.now.bytes.now a.i c.args.image.now.ready c.if-image-i.false (sym c.read_slot.ensures ∙ c.in_err-slot.was))
 
 pub bounds-image-slot : goal.bounds-image-slot
 bounds-image-slot c =
@@ -32,21 +35,26 @@ overflow_sub-clauses c =
     let t = here (goal.at.overflow_sub-clauses c).In_ok-slot in
     omega arith
 
-pub bounds-image-slot-then-kind-eq-CREATE : goal.bounds-image-slot-then-kind-eq-CREATE
-bounds-image-slot-then-kind-eq-CREATE c =
-    let t = here (goal.at.bounds-image-slot-then-kind-eq-CREATE c).In_ok-slot in
+pub bounds-image-slot-in-Switch : goal.bounds-image-slot-in-Switch
+bounds-image-slot-in-Switch c =
+    let t = here (goal.at.bounds-image-slot-in-Switch c).In_ok-slot in
     omega arith
 
-pub returns-then-kind-eq-CREATE : goal.returns-then-kind-eq-CREATE
-returns-then-kind-eq-CREATE c =
-    let t = here (goal.at.returns-then-kind-eq-CREATE c).In_ok-slot in
-    elim c.if-kind-eq-CREATE.either [
-      | inl e ↦ sym (spot_node t ∙ rw (eq-eqb _ _ e))
-      | inr q ↦ sym (spot_node t ∙ rw (ne_eqb _ _ q.0, eq-eqb _ _ q.1))
-    ]
+pub unwrap-kind-requires : goal.unwrap-kind-requires
+unwrap-kind-requires c =
+    let t = here (goal.at.unwrap-kind-requires c).In_ok-slot in
+    rw (record-decodes t.head c.try_from.result t.says.kind c.try_from.ensures) refl
 
-pub returns-else-kind-eq-CREATE : goal.returns-else-kind-eq-CREATE
-returns-else-kind-eq-CREATE c =
-    let t = here (goal.at.returns-else-kind-eq-CREATE c).In_ok-slot in
-    let h = c.if-kind-eq-CREATE.false in
-    sym (spot_node t ∙ rw (ne_eqb _ _ h.0, ne_eqb _ _ h.1))
+-- its kind's byte
+kind_byte : (c : After-unwrap-kind) → code_of c.unwrap-kind.result ≡ get_or c.args.image.now.bytes.now c.in_ok-slot.slot.offset 0
+kind_byte c = rw c.unwrap-kind.ensures at c.try_from.ensures
+
+pub returns-in-Switch : goal.returns-in-Switch
+returns-in-Switch c =
+    let t = here (goal.at.returns-in-Switch c).In_ok-slot in
+    sym (spot_counted t c.unwrap-kind.result (kind_byte (goal.at.returns-in-Switch c).After-unwrap-kind) c.in-Switch.is)
+
+pub returns-in_default : goal.returns-in_default
+returns-in_default c =
+    let t = here (goal.at.returns-in_default c).In_ok-slot in
+    sym (spot_plain t c.unwrap-kind.result (kind_byte (goal.at.returns-in_default c).After-unwrap-kind) c.in_default.not-Switch c.in_default.not-Create)

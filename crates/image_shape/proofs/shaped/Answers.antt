@@ -6,4 +6,4 @@ use Rattle.image_shape.proofs.shaped.Goals as goal
 pub returns : goal.returns
 returns c =
     let a = c.args in
-    rw (program-ends a.defs (records_in a.frame a.image.now), records-length a.frame a.image.now c.requires, ← c.skip_definitions.ensures) c.eq.ensures
+    rw (program-ends a.defs (records_in a.image.now.frame a.image.now.bytes.now), records-length a.image.now.frame a.image.now.bytes.now c.args.image.now.ready, ← c.skip_definitions.ensures) c.eq.ensures

@@ -10,7 +10,7 @@ use Rattle.image_shape.proofs.skip_definitions.Goals as goal
 pub returns-in_err-body : goal.returns-in_err-body
 returns-in_err-body c =
     let a = c.args in
-    let rs = records_in a.frame a.image.now in
+    let rs = records_in a.image.now.frame a.image.now.bytes.now in
     let l = c.loop in
     let e : option_and_then (stop (stmt max_depth) rs) (stop definition_head rs l.here) ≡ None = ap (option_and_then (stop (stmt max_depth) rs)) (sym c.head.ensures ∙ c.in_err-body.was) in
     cc (
@@ -22,7 +22,7 @@ returns-in_err-body c =
 pub returns-in_err-here : goal.returns-in_err-here
 returns-in_err-here c =
     let a = c.args in
-    let rs = records_in a.frame a.image.now in
+    let rs = records_in a.image.now.frame a.image.now.bytes.now in
     let l = c.loop in
     let e : option_and_then (stop (stmt max_depth) rs) (stop definition_head rs l.here) ≡ None =
     ap (option_and_then (stop (stmt max_depth) rs)) (sym c.head.ensures ∙ c.in_ok-body.was) ∙ (sym c.statement.ensures ∙ c.in_err-here.was) in
@@ -35,7 +35,7 @@ returns-in_err-here c =
 pub loop-preserved : goal.loop-preserved
 loop-preserved c =
     let a = c.args in
-    let rs = records_in a.frame a.image.now in
+    let rs = records_in a.image.now.frame a.image.now.bytes.now in
     let l = c.loop in
     let s = sym c.statement.ensures ∙ c.in_ok-here.was in
     let e : option_and_then (stop (stmt max_depth) rs) (stop definition_head rs l.here) ≡ Some c.in_ok-here.here =
@@ -48,7 +48,7 @@ loop-preserved c =
 pub returns : goal.returns
 returns c =
     let a = c.args in
-    let rs = records_in a.frame a.image.now in
+    let rs = records_in a.image.now.frame a.image.now.bytes.now in
     let l = c.loop in
     let z : a.n - l.counter ≡ 0 = omega arith in
     sym (l.invariant.1 ∙ (ap (λ n. stop (times n one_def) rs l.here) z ∙ stop_none [] rs l.here l.invariant.0))

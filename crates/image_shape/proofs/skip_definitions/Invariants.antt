@@ -7,5 +7,5 @@ use Rattle.image_shape.proofs.skip_definitions.Given as goal
 
 abbrev pub invariant-loop : goal.invariant-loop
 invariant-loop l =
-    (l.here ≤ length (records_in l.frame l.image))
-    × (stop (times l.n one_def) (records_in l.frame l.image) 0 ≡ stop (times (l.n - l.counter) one_def) (records_in l.frame l.image) l.here)
+    (l.here ≤ length (records_in l.image.frame l.image.bytes.now))
+    × (stop (times l.n one_def) (records_in l.image.frame l.image.bytes.now) 0 ≡ stop (times (l.n - l.counter) one_def) (records_in l.image.frame l.image.bytes.now) l.here)

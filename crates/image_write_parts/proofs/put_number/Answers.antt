@@ -1,8 +1,6 @@
 use Prim.Native.Nat.{◌+◌, ◌-◌}
 use mathlib.Core.Path.{◌≡◌, ◌∙◌, sym}
 use native.Mathlib.Omega.{arith}
-use lib.Seq.{sets}
-use Rattle.image_spec.specs.Parse.{field}
 use Rattle.image_spec.proofs.FieldLaws.{field-length}
 use Rattle.image_write_parts.proofs.Putting.{put_step}
 use Rattle.image_write_parts.proofs.put_number.Goals as goal

@@ -1,4 +1,3 @@
-use borrow.Author.Rules.{rules}
 use mathlib.Core.List.{◌∷◌, []}
 use mathlib.Core.Path.{ap, sym}
 use Rattle.image_spec.specs.Fields.{type_bytes}

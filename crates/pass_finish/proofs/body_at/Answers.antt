@@ -1,6 +1,5 @@
 -- `body_at` meets its contract: a directory is small. Assumes nothing.
 use native.Mathlib.Omega.{arith}
-use borrow.Author.Rules.{rules}
 use Rattle.pass_finish.proofs.FinishLaws.{directory_small, body-small}
 use Rattle.pass_finish.proofs.body_at.Goals as goal
 

@@ -1,7 +1,6 @@
 -- `complete` meets its contract: the moved records, the header and the directory, one after the other. Assumes nothing.
 use Prim.Native.Nat.{◌-◌}
 use native.Mathlib.Omega.{arith}
-use borrow.Author.Rules.{rules}
 use lib.ListN.{take}
 use Rattle.pass_finish.proofs.FinishLaws.{body-small, header-ends, completes}
 use Rattle.pass_finish.proofs.complete.Goals as goal

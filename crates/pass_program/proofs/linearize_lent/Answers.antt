@@ -11,8 +11,9 @@ pub linearize_program-requires : goal.linearize_program-requires
 linearize_program-requires c =
     let k = c.check_image.ensures in
     let x = checked_yes c.requires.0 (sym k.0 ∙ c.in_ok-check_image.was) in
-    let room = c.requires.1 (few x) in
-    (x, (rows-begin x c.args.rows.now room.0 (k.1 (passed x)), room.1))
+    let ready = c.args.opened.now.image.ready in
+    let room = c.requires.1 (few ready x) in
+    (x, (rows-begin ready x c.args.rows.now room.0 (k.1 (passed ready x)), room.1))
 
 pub returns : goal.returns
 returns c =
@@ -22,5 +23,5 @@ returns c =
 pub returns-in_err-check_image : goal.returns-in_err-check_image
 returns-in_err-check_image c =
     let a = c.args in
-    let r = checked_no a.layout (program_in a.defs (records_in a.frame a.image.now) a.max_id) (length a.out.now) a.out.now (sym c.check_image.ensures.0 ∙ c.in_err-check_image.was) in
+    let r = checked_no a.layout (program_in a.opened.now.definitions (records_in a.opened.now.image.frame a.opened.now.image.bytes.now) a.opened.now.max_id) (length a.out.now) a.out.now (sym c.check_image.ensures.0 ∙ c.in_err-check_image.was) in
     search (rules, r)

@@ -1,4 +1,3 @@
-use borrow.Author.Rules.{rules}
 use Prim.Native.Nat.{◌+◌}
 use mathlib.Core.Option.{none}
 use mathlib.Core.Path.{sym, ◌∙◌}
@@ -10,20 +9,20 @@ use Rattle.pass_records.proofs.create.Goals as goal
 use Rattle.pass_records.proofs.create.Goals.{After-offset-start}
 
 -- where the parts stand
-there : (c : After-offset-start) → HeadThere c.args.frame.id c.args.image.now c.offset-start.result (record_at c.args.frame c.args.image.now c.args.i) (λ v t n. create v t none n) (7 + (c.args.frame.id + c.args.frame.id))
+there : (c : After-offset-start) → HeadThere c.args.image.now.frame.id c.args.image.now.bytes.now c.offset-start.result (record_at c.args.image.now.frame c.args.image.now.bytes.now c.args.i) (λ v t n. create v t none n) (7 + (c.args.image.now.frame.id + c.args.image.now.frame.id))
 there c = create-there _ _ _ _ c.requires.0.kind c.requires.1 c.offset-start.ensures
 
 pub overflow_add-start : goal.overflow_add-start
 overflow_add-start c = omega (arith, (there (goal.at.overflow_add-start c).After-offset-start).inside)
 
 pub identifier_at-var-requires : goal.identifier_at-var-requires
-identifier_at-var-requires c = record { width = c.requires.0.ready.id.1; inside = omega (arith, (there (goal.at.identifier_at-var-requires c).After-offset-start).inside) }
+identifier_at-var-requires c = record { width = c.args.image.now.ready.id.1; inside = omega (arith, (there (goal.at.identifier_at-var-requires c).After-offset-start).inside) }
 
 pub overflow_add-start-2 : goal.overflow_add-start-2
 overflow_add-start-2 c = omega (arith, (there (goal.at.overflow_add-start-2 c).After-offset-start).inside)
 
 pub type_at-ty-requires : goal.type_at-ty-requires
-type_at-ty-requires c = record { width = c.requires.0.ready.id.1; inside = omega (arith, (there (goal.at.type_at-ty-requires c).After-offset-start).inside) }
+type_at-ty-requires c = record { width = c.args.image.now.ready.id.1; inside = omega (arith, (there (goal.at.type_at-ty-requires c).After-offset-start).inside) }
 
 pub overflow_add-clauses-3 : goal.overflow_add-clauses-3
 overflow_add-clauses-3 c = omega (arith, (there (goal.at.overflow_add-clauses-3 c).After-offset-start).inside)

@@ -1,4 +1,3 @@
-use borrow.Author.Rules.{rules}
 use mathlib.Core.Path.{sym, ◌∙◌}
 use native.Mathlib.Omega.{arith}
 use Rattle.image_spec.specs.Records.{exit}
@@ -8,14 +7,14 @@ use Rattle.pass_records.proofs.exit.Goals as goal
 use Rattle.pass_records.proofs.exit.Goals.{After-offset-start}
 
 -- where the var stands
-there : (c : After-offset-start) → ExitThere c.args.frame.id c.args.image.now c.offset-start.result (record_at c.args.frame c.args.image.now c.args.i)
+there : (c : After-offset-start) → ExitThere c.args.image.now.frame.id c.args.image.now.bytes.now c.offset-start.result (record_at c.args.image.now.frame c.args.image.now.bytes.now c.args.i)
 there c = exit-there _ _ _ _ c.requires.kind c.offset-start.ensures
 
 pub overflow_add-start : goal.overflow_add-start
 overflow_add-start c = omega (arith, (there (goal.at.overflow_add-start c).After-offset-start).inside)
 
 pub identifier_at-var-requires : goal.identifier_at-var-requires
-identifier_at-var-requires c = record { width = c.requires.ready.id.1; inside = omega (arith, (there (goal.at.identifier_at-var-requires c).After-offset-start).inside) }
+identifier_at-var-requires c = record { width = c.args.image.now.ready.id.1; inside = omega (arith, (there (goal.at.identifier_at-var-requires c).After-offset-start).inside) }
 
 pub returns : goal.returns
 returns c =

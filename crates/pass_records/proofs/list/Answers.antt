@@ -1,15 +1,13 @@
 -- `list` meets its contract: j bindings are stored, and the others stand behind. Assumes nothing.
-use Prim.Native.Nat.{◌-◌}
 use mathlib.Core.Path.{refl, ◌∙◌}
 use borrow.Author.Rules.{rules}
 use lib.ListN.{length-map}
 use native.Mathlib.Omega.{arith}
 use Rattle.syntax.specs.Flat.{binding_of}
-use Rattle.syntax.specs.Arrays.{bindings_in}
 use Rattle.syntax.proofs.Lists.{long}
 use Rattle.syntax.proofs.Flats.{seen-set}
 use Rattle.image_read_nodes.proofs.ListLaws.{list-run}
-use Rattle.pass_records.proofs.FillLaws.{Filling, filling_start, filling_inside, filling_turn, filling_end}
+use Rattle.pass_records.proofs.FillLaws.{filling_start, filling_inside, filling_turn, filling_end}
 use Rattle.pass_records.proofs.list.Goals as goal
 
 pub overflow_add-size : goal.overflow_add-size

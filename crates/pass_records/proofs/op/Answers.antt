@@ -1,4 +1,3 @@
-use borrow.Author.Rules.{rules}
 use Rattle.std.specs.Prelude.{Ok}
 use mathlib.Core.Path.{◌≡◌, sym, ◌∙◌}
 use native.Mathlib.Omega.{arith}
@@ -11,18 +10,18 @@ use Rattle.pass_records.proofs.op.Goals as goal
 use Rattle.pass_records.proofs.op.Goals.{After-offset-start, After-try_from}
 
 -- where the parts stand
-there : (c : After-offset-start) → OpThere c.args.frame.id c.args.image.now c.offset-start.result (record_at c.args.frame c.args.image.now c.args.i)
+there : (c : After-offset-start) → OpThere c.args.image.now.frame.id c.args.image.now.bytes.now c.offset-start.result (record_at c.args.image.now.frame c.args.image.now.bytes.now c.args.i)
 there c = op-there _ _ _ _ c.requires.kind c.offset-start.ensures
 
 -- the byte is the code of what stands there
-coded : (c : After-try_from) (t : OpThere c.args.frame.id c.args.image.now c.offset-start.result (record_at c.args.frame c.args.image.now c.args.i)) → c.try_from.result ≡ Ok t.operator
+coded : (c : After-try_from) (t : OpThere c.args.image.now.frame.id c.args.image.now.bytes.now c.offset-start.result (record_at c.args.image.now.frame c.args.image.now.bytes.now c.args.i)) → c.try_from.result ≡ Ok t.operator
 coded c t = code-decodes operator_code_lem operators t.operator c.try_from.result operator_exact c.try_from.ensures t.operator-at
 
 pub overflow_add-start : goal.overflow_add-start
 overflow_add-start c = omega (arith, (there (goal.at.overflow_add-start c).After-offset-start).inside)
 
 pub identifier_at-fst-requires : goal.identifier_at-fst-requires
-identifier_at-fst-requires c = record { width = c.requires.ready.id.1; inside = omega (arith, (there (goal.at.identifier_at-fst-requires c).After-offset-start).inside) }
+identifier_at-fst-requires c = record { width = c.args.image.now.ready.id.1; inside = omega (arith, (there (goal.at.identifier_at-fst-requires c).After-offset-start).inside) }
 
 pub overflow_add-start-2 : goal.overflow_add-start-2
 overflow_add-start-2 c = omega (arith, (there (goal.at.overflow_add-start-2 c).After-offset-start).inside)
@@ -34,13 +33,13 @@ pub overflow_add-start-3 : goal.overflow_add-start-3
 overflow_add-start-3 c = omega (arith, (there (goal.at.overflow_add-start-3 c).After-offset-start).inside)
 
 pub identifier_at-snd-requires : goal.identifier_at-snd-requires
-identifier_at-snd-requires c = record { width = c.requires.ready.id.1; inside = omega (arith, (there (goal.at.identifier_at-snd-requires c).After-offset-start).inside) }
+identifier_at-snd-requires c = record { width = c.args.image.now.ready.id.1; inside = omega (arith, (there (goal.at.identifier_at-snd-requires c).After-offset-start).inside) }
 
 pub overflow_add-start-4 : goal.overflow_add-start-4
 overflow_add-start-4 c = omega (arith, (there (goal.at.overflow_add-start-4 c).After-offset-start).inside)
 
 pub identifier_at-var-requires : goal.identifier_at-var-requires
-identifier_at-var-requires c = record { width = c.requires.ready.id.1; inside = omega (arith, (there (goal.at.identifier_at-var-requires c).After-offset-start).inside) }
+identifier_at-var-requires c = record { width = c.args.image.now.ready.id.1; inside = omega (arith, (there (goal.at.identifier_at-var-requires c).After-offset-start).inside) }
 
 pub unwrap-op-requires : goal.unwrap-op-requires
 unwrap-op-requires c = rw (coded (goal.at.unwrap-op-requires c).After-try_from (there (goal.at.unwrap-op-requires c).After-offset-start))

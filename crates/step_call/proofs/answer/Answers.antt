@@ -2,8 +2,6 @@
 use mathlib.Core.Path.{sym, ap}
 use mathlib.Core.Bool.{Bool}
 use Rattle.step_call.specs.Stepping.{said_if}
-use Rattle.step_call.proofs.answer.Reads as reads
-use Rattle.step_call.proofs.answer.Lts as lts
 use Rattle.step_call.proofs.answer.Goals as goal
 
 pub returns-then-ran : goal.returns-then-ran

@@ -1,6 +1,6 @@
 -- `is_forged` meets its contract. Assumes nothing.
 use mathlib.Core.Path.{◌≡◌}
-use mathlib.Core.Bool.{true, false}
+use mathlib.Core.Bool.{true}
 use borrow.Author.Rules.{rules}
 use Rattle.step_call.proofs.ForgedLaws.{ended_honest, stopped_honest, source_honest, linear_forged}
 use Rattle.step_call.proofs.is_forged.Goals as goal
@@ -16,5 +16,5 @@ returns-then-header c =
 
 pub returns : goal.returns
 returns c =
-    let linear : c.args.stepper.linear ≡ true = search rules in
+    let linear : c.args.stepper.now.linear ≡ true = search rules in
     linear_forged linear c.if-header.false c.if-header-2.false c.stops.ensures

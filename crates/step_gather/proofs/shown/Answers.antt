@@ -15,16 +15,14 @@ pub returns-then-at-heap : goal.returns-then-at-heap
 returns-then-at-heap c =
     let a = c.args in
     let s = a.store.now in
-    let q : c.read-cell.result ≡ get_or (slots_at s 64 a.heap) c.place-at.result no_slot = c.read-cell.ensures ∙ sym (slot_of s 64 a.heap c.place-at.result c.if-at-heap.true) in
-    let e : c.read-cell.result.payload ≡ (get_or (slots_at s 64 a.heap) a.t.payload no_slot).payload =
-    ap (λ (t : Slot). t.payload) q ∙ ap (λ (i : ℕ). (get_or (slots_at s 64 a.heap) i no_slot).payload) c.place-at.ensures in
-    shown-cell (slots_at s 64 a.heap) a.t c.read-cell.result.payload c.if-sort-eq1.true e
+    let q : c.read-cell.result ≡ get_or (slots_at s 64 a.heap) a.t.payload no_slot = c.read-cell.ensures ∙ sym (slot_of s 64 a.heap a.t.payload c.if-at-heap.true) in
+    shown-cell (slots_at s 64 a.heap) a.t c.read-cell.result.payload c.if-sort-eq1.true (ap (λ (t : Slot). t.payload) q)
 
 pub returns-then-sort-eq1 : goal.returns-then-sort-eq1
 returns-then-sort-eq1 c =
     let a = c.args in
     let s = a.store.now in
-    let h : length (slots_at s 64 a.heap) ≤ a.t.payload = omega (arith, slots-count s 64 a.heap, c.place-at.ensures, c.if-at-heap.false) in
+    let h : length (slots_at s 64 a.heap) ≤ a.t.payload = omega (arith, slots-count s 64 a.heap, c.if-at-heap.false) in
     shown-cell (slots_at s 64 a.heap) a.t 0 c.if-sort-eq1.true (ap (λ (t : Slot). t.payload) (sym (get_or-eq_default (slots_at s 64 a.heap) no_slot h)))
 
 pub returns : goal.returns

@@ -3,8 +3,8 @@ use Rattle.step_order.proofs.StopLaws.{reads-stored, others-go}
 use borrow.Author.Rules.{rules}
 use Rattle.step_order.proofs.stops_entering.Goals as goal
 
-pub returns-in-3 : goal.returns-in-3
-returns-in-3 c = c.call.ensures c.args.store.now
+pub returns-in-Call : goal.returns-in-Call
+returns-in-Call c = c.call.ensures c.args.store.now
 
 pub returns-in_default : goal.returns-in_default
-returns-in_default c = record { is = λ P l p o e g. others-go p (reads-stored o e g) c.requires.0 c.in_default.in_default-own.rest }
+returns-in_default c = record { is = λ P l p o e g. others-go p (reads-stored o e g) c.args.kind c.requires.0 c.in_default.not-Call c.in_default.not-Switch c.in_default.not-Invoke }

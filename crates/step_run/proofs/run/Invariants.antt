@@ -8,5 +8,5 @@ use Rattle.step_run.proofs.run.Given as goal
 
 abbrev pub invariant-loop-made : goal.invariant-loop-made
 invariant-loop-made l =
-    Going (lawful_in l.stepper.linear) l.stepper l.image l.steps l.initial.store l.initial.events l.initial.here l.made l.store l.events l.here l.at
+    Going (lawful_in l.stepper.linear) l.stepper l.stepper.image.bytes.now l.steps l.initial.store l.initial.events l.initial.here l.made l.store l.events l.here l.at
     × (SureIn l.stepper l.sure l.store l.here × ((length l.store ≡ length l.initial.store) × ((length l.events ≡ length l.initial.events) × (length l.scratch ≡ length l.initial.scratch))))

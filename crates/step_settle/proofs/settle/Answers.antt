@@ -29,5 +29,5 @@ returns c =
           (settles-same (λ P l p o s. sym (w.stops.ensures.is P l p o (sym (views o).ended ∙ clear _ w.if-not-header.true) s) ∙ w.if-stops.false))
       | else-not-header-via-then-not-header+else-stepper w ↦
           settles_as w.if-stepper.false (settles-same (λ P l p o s. source-never-stops P (project P l)))
-      | else-not-header-via-else-not-header w ↦ settles-same (λ P l p o s. ended-goes a.stepper.linear o (set _ w.if-not-header.false))
+      | else-not-header-via-else-not-header w ↦ settles-same (λ P l p o s. ended-goes a.stepper.now.linear o (set _ w.if-not-header.false))
     ]

@@ -14,7 +14,6 @@ use Rattle.step_rows.specs.Rows.{ids_in}
 use Rattle.step_rows.proofs.RowLaws.{ids-length}
 use Rattle.step_gather.specs.Gathering.{renamed}
 use Rattle.step_start.proofs.BeginLaws.{copied-slots, begun-bytes}
-use borrow.Author.Rules.{rules}
 use Rattle.step_start.proofs.begin.Goals as goal
 
 pub rename-requires : goal.rename-requires

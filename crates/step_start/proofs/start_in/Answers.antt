@@ -1,6 +1,6 @@
 -- `start_in` meets its contract. Assumes nothing.
-use Prim.Native.Nat.{ℕ, ◌+◌, ◌*◌, ◌^◌, ◌<◌}
-use mathlib.Core.Path.{◌≡◌, sym, ap, ◌∙◌}
+use Prim.Native.Nat.{◌+◌, ◌*◌, ◌^◌, ◌<◌}
+use mathlib.Core.Path.{◌≡◌, sym, ◌∙◌}
 use mathlib.Core.Bool.{true}
 use native.Mathlib.Omega.{arith}
 use lib.ListN.{length}
@@ -10,7 +10,6 @@ use Rattle.step_values.proofs.ValueLaws.{are-given}
 use Rattle.step_settle.proofs.Reading.{reads-holds, reads-inside}
 use Rattle.step_start.specs.Starting.{first_header_lem}
 use Rattle.step_start.proofs.StartedLaws.{not_given, no_room, begun-reads, room-starts}
-use borrow.Author.Rules.{rules}
 use Rattle.step_start.proofs.start_in.Goals as goal
 use Rattle.step_start.proofs.start_in.Goals.{After-first_header-header, Start, Else-not-are_given}
 
@@ -25,7 +24,7 @@ values_length : (c : Else-not-are_given) → length c.args.values.now ≡ 16 * c
 values_length c = (are-given c.list_row-row.result.len c.args.values.now (given c)).2
 
 header_is : (c : After-first_header-header) → c.first_header-header.result ≡ first_header_lem (c.args.i + 1) c.list_row-row.result.len
-header_is c = c.first_header-header.ensures ∙ ap (λ (k : ℕ). first_header_lem k c.list_row-row.result.len) c.narrow.ensures
+header_is c = c.first_header-header.ensures
 
 pub overflow_mul-len : goal.overflow_mul-len
 overflow_mul-len c = omega (arith, values_length (goal.at.overflow_mul-len c).Else-not-are_given, c.well_formed)
@@ -46,10 +45,10 @@ begin-requires c =
 
 pub flag-requires : goal.flag-requires
 flag-requires c =
-    let h = c.requires.0 in
+    let h = c.requires in
     let o = begun-reads h.defined c.list_row-row.ensures h.accepted.readable c.args.values.now (given (goal.at.flag-requires c).Else-not-are_given) c.args.store.now c.if-store-len.false (short (goal.at.flag-requires c).Start) (header_is (goal.at.flag-requires c).After-first_header-header)
     c.begin.ensures in
-    (c.list_row-row.ensures.inside, (h.record'.ready, (reads-inside o h.record'.ready h.accepted.is, (reads-holds o, c.requires.1))))
+    (c.list_row-row.ensures.inside, (reads-inside o c.args.stepper.now.image.ready h.accepted.is, reads-holds o))
 
 pub returns : goal.returns
 returns c = record {
@@ -62,5 +61,5 @@ pub returns-then-not-are_given : goal.returns-then-not-are_given
 returns-then-not-are_given c = record {
   starts = λ P n p o d.
       let a = c.args in
-      not_given d c.list_row-row.ensures (machine_in a.stepper) a.values.now (sym c.are_given.ensures ∙ c.if-not-are_given.true);
+      not_given d c.list_row-row.ensures (machine_in a.stepper.now) a.values.now (sym c.are_given.ensures ∙ c.if-not-are_given.true);
 }

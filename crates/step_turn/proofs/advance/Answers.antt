@@ -18,12 +18,12 @@ pub parts_of-follows-requires : goal.parts_of-follows-requires
 parts_of-follows-requires c =
     let p = c.requires in
     let v = p.1.0.living in
-    (p.0.ready, reads-inside v.reads p.0.ready v.program)
+    reads-inside v.reads c.args.stepper.now.image.ready v.program
 
 pub statement-requires : goal.statement-requires
 statement-requires c =
     let p = c.requires in
-    (record { record' = c.parts_of-follows.ensures.at; holds = reads-holds p.1.0.living.reads; place = p.0.place; scratch' = p.0.room }, p.0.ends')
+    record { record' = c.parts_of-follows.ensures.at; holds = reads-holds p.1.0.living.reads; place = p.0.place; scratch' = p.0.room }
 
 pub returns-in_err-step : goal.returns-in_err-step
 returns-in_err-step c =
@@ -33,9 +33,9 @@ returns-in_err-step c =
 pub settle-requires : goal.settle-requires
 settle-requires c =
     let p = c.requires in
-    let h = asked-holds c.if-header.false c.if-header-2.false c.statement.ensures c.in_ok-step.was p.0.ready p.1.0 in
+    let h = asked-holds c.if-header.false c.if-header-2.false c.statement.ensures c.in_ok-step.was c.args.stepper.now.image.ready p.1.0 in
     let f = asked_sure c.if-header.false c.if-header-2.false c.statement.ensures c.in_ok-step.was p.1.0 p.1.1 in
-    (p.0.ready, (h.0, (h.1, (p.0.ends', f))))
+    (h.0, (h.1, f))
 
 pub returns : goal.returns
 returns c = asked-step c.if-header.false c.if-header-2.false c.statement.ensures c.in_ok-step.was c.settle.ensures

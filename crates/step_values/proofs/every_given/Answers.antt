@@ -1,5 +1,5 @@
 use native.Mathlib.Omega.{arith}
-use Rattle.step_values.proofs.ValueLaws.{Tested, tested_none, tested-next, tested-no, tested-all}
+use Rattle.step_values.proofs.ValueLaws.{tested_none, tested-next, tested-no, tested-all}
 use Rattle.step_values.proofs.every_given.Goals as goal
 
 pub loop-i-init : goal.loop-i-init

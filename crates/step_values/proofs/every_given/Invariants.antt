@@ -1,5 +1,4 @@
-use native.Mathlib.Omega.{arith}
-use Rattle.step_values.proofs.ValueLaws.{Tested, tested_none, tested-next, tested-no, tested-all}
+use Rattle.step_values.proofs.ValueLaws.{Tested}
 use Rattle.step_values.proofs.every_given.Given as goal
 
 abbrev pub invariant-loop-i : goal.invariant-loop-i

@@ -1,27 +1,30 @@
-use mathlib.Core.Path.{sym, ap, ◌∙◌, refl}
-use Rattle.image_read_nodes.specs.Nodes.{record_at}
-use Rattle.annotate.specs.Annotating.{annotated_kind}
-use Rattle.annotate.proofs.AnnotateLaws.{has-kind, place-yes, place-no, limited_annotated, settled, misplaced}
+use mathlib.Core.Path.{◌≡◌, refl, ◌∙◌}
+use Rattle.scope_spec.specs.Calls.{has_annotation_lem}
+use Rattle.image_read_nodes.specs.Opened.{record_of}
+use Rattle.annotate.proofs.AnnotateLaws.{has-by, place-yes, place-no, limited_annotated, settled, misplaced}
 use Rattle.annotate.proofs.annotate.annotate_record.Goals as goal
-use Rattle.annotate.proofs.annotate.annotate_record.Goals.{then-frame-i-via-then-frame-i, then-frame-i-via-else-frame-i+then-not-has_annotation}
+use Rattle.annotate.proofs.annotate.annotate_record.Goals.{After-has_annotation, then-opened-i-via-then-opened-i, then-opened-i-via-else-opened-i+then-not-has_annotation}
 
-pub returns-then-frame-i : goal.returns-then-frame-i
-returns-then-frame-i c =
-    let a = c.args in
-    elim c.then-frame-i.branch [
-      | then-frame-i-via-then-frame-i w ↦ misplaced c.requires a.i (place-no c.requires a.i w.if-frame-i.true)
-      | then-frame-i-via-else-frame-i+then-not-has_annotation w ↦
-          misplaced c.requires a.i (place-yes c.requires a.i w.if-frame-i.false ∙ (has-kind (record_at a.frame a.image.now a.i) ∙ (ap annotated_kind w.parts_of.ensures.at.kind ∙ (sym w.has_annotation.ensures ∙ w.if-not-has_annotation.true))))
+pub returns-then-opened-i : goal.returns-then-opened-i
+returns-then-opened-i c =
+    let i = c.args.i in
+    let ready = c.args.opened.now.image.ready in
+    elim c.then-opened-i.branch [
+      | then-opened-i-via-then-opened-i w ↦ misplaced c.requires i (place-no c.requires i ready w.if-opened-i.true)
+      | then-opened-i-via-else-opened-i+then-not-has_annotation w ↦
+          misplaced c.requires i (place-yes c.requires i ready w.if-opened-i.false ∙ (has-by w.parts_of.ensures.at w.has_annotation.ensures ∙ w.if-not-has_annotation.true))
     ]
+
+-- the record has an annotation, if its kind has
+has : (c : After-has_annotation) → has_annotation_lem (record_of c.args.opened.now.image c.args.i) ≡ c.has_annotation.result
+has c = has-by c.parts_of.ensures.at c.has_annotation.ensures
 
 pub put_annotation-written-requires : goal.put_annotation-written-requires
 put_annotation-written-requires c =
-    let a = c.args in
-    let y = has-kind (record_at a.frame a.image.now a.i) ∙ (ap annotated_kind c.parts_of.ensures.at.kind ∙ (sym c.has_annotation.ensures ∙ c.if-not-has_annotation.false)) in
-    (limited_annotated c.requires a.i c.if-frame-i.false y, refl)
+    let y = has (goal.at.put_annotation-written-requires c).After-has_annotation ∙ c.if-not-has_annotation.false in
+    (limited_annotated c.requires c.args.i c.args.opened.now.image.ready c.if-opened-i.false y, refl)
 
 pub returns : goal.returns
 returns c =
-    let a = c.args in
-    let y = has-kind (record_at a.frame a.image.now a.i) ∙ (ap annotated_kind c.parts_of.ensures.at.kind ∙ (sym c.has_annotation.ensures ∙ c.if-not-has_annotation.false)) in
-    settled c.requires a.i (place-yes c.requires a.i c.if-frame-i.false ∙ y) c.put_annotation-written.ensures c.settle.ensures
+    let y = has (goal.at.returns c).After-has_annotation ∙ c.if-not-has_annotation.false in
+    settled c.requires c.args.i (place-yes c.requires c.args.i c.args.opened.now.image.ready c.if-opened-i.false ∙ y) c.put_annotation-written.ensures c.settle.ensures

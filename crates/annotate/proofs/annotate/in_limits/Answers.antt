@@ -8,14 +8,14 @@ use Rattle.annotate.proofs.annotate.in_limits.Goals as goal
 pub walk_definitions-requires : goal.walk_definitions-requires
 walk_definitions-requires c =
     let h = c.requires in
-    (h.0, walk_stand h.1 c.args.frame.count (sym c.within_limits.ensures ∙ c.if-within_limits.true))
+    walk_stand h c.args.opened.now.image.frame.count (sym c.within_limits.ensures ∙ c.if-within_limits.true)
 
 pub returns-then-within_limits : goal.returns-then-within_limits
 returns-then-within_limits c =
     let a = c.args in
     let h = c.requires in
     ap (λ (v : Verdict). v.room) c.walk_definitions.ensures.0
-    ∙ sym (answer-room h.1 a.max_id a.frame.count (records-length a.frame a.image.now h.0)
+    ∙ sym (answer-room h a.opened.now.max_id a.opened.now.image.frame.count (records-length a.opened.now.image.frame a.opened.now.image.bytes.now c.args.opened.now.image.ready)
     ∙ rw (← c.within_limits.ensures, c.if-within_limits.true))
 
 pub returns-else-within_limits : goal.returns-else-within_limits
@@ -23,5 +23,5 @@ returns-else-within_limits c =
     let a = c.args in
     let h = c.requires in
     c.if-within_limits.false
-    ∙ sym (answer-room h.1 a.max_id a.frame.count (records-length a.frame a.image.now h.0)
+    ∙ sym (answer-room h a.opened.now.max_id a.opened.now.image.frame.count (records-length a.opened.now.image.frame a.opened.now.image.bytes.now c.args.opened.now.image.ready)
     ∙ rw (← c.within_limits.ensures, c.if-within_limits.false))

@@ -9,12 +9,15 @@ use Rattle.model.specs.FreeVars.{annotations}
 use Rattle.image_spec.specs.Shape.{flatten_clauses, max_depth}
 use Rattle.image_directory.specs.Slots.{records_in}
 use Rattle.image_places_spec.specs.Places.{stmt_at, clauses_at}
+use Rattle.image_kinds.specs.Codes.{code_of}
+use Rattle.image_kinds.specs.declared.kinds.Kind.TheVariants.{Switch, Create}
+use Rattle.image_kinds.proofs.KindNames.{same_code}
 use Rattle.scope_spec.specs.Marking.{mark_clauses}
 use Rattle.annotate.proofs.AnnotateLaws.{in_count, clauses-same, clauses-stand, clauses-marked, next-stands, clauses-size, next-marked, switched, created, followed, behind, set-short, put_one, put_two}
 use Rattle.annotate.proofs.annotate.put_annotation.Goals as goal
 
 pub parts_of-f-requires : goal.parts_of-f-requires
-parts_of-f-requires c = let h = c.requires.0 in (h.source.ready, in_count h)
+parts_of-f-requires c = in_count c.requires.0 c.args.image.now.ready
 
 pub put_clauses-requires : goal.put_clauses-requires
 put_clauses-requires c =
@@ -22,13 +25,13 @@ put_clauses-requires c =
     let k = clauses-stand h.0 _ c.parts_of-f.ensures.clauses in
     (h.0.source, (k.0, (k.1, (search rules, omega arith))))
 
-pub returns-then-f-eq-SWITCH : goal.returns-then-f-eq-SWITCH
-returns-then-f-eq-SWITCH c =
+pub returns-in-Switch : goal.returns-in-Switch
+returns-in-Switch c =
     let a = c.args in
     let h = c.requires in
     let f = c.parts_of-f.ensures in
-    put_one a.frame.id (annotations (stmt_at max_depth (records_in a.frame a.image.now) a.i)) _ _ c.put_clauses.ensures.puts (clauses-marked h.0 _ f.clauses _ h.1)
-    (switched h.0 (f.at.kind ∙ c.if-f-eq-SWITCH.true))
+    put_one a.image.now.frame.id (annotations (stmt_at max_depth (records_in a.image.now.frame a.image.now.bytes.now) a.i)) _ _ c.put_clauses.ensures.puts (clauses-marked h.0 _ f.clauses a.image.now.ready _ h.1)
+    (switched h.0 (f.at.kind ∙ ap code_of c.in-Switch.is))
 
 pub put_clauses-c-requires : goal.put_clauses-c-requires
 put_clauses-c-requires c =
@@ -43,36 +46,36 @@ put_statement-requires c =
     let f = c.parts_of-f.ensures in
     let n = c.parts_of-f.result.clauses in
     let w = c.put_clauses-c.ensures in
-    let b = created h.0 (f.at.kind ∙ c.if-f-eq-CREATE.true) in
+    let b = created h.0 (f.at.kind ∙ ap code_of c.in-Create.is) in
     let k = next-stands h.0 b.has _ (w.next ∙ ap (λ (z : Clauses). a.i + 1 + length (flatten_clauses z)) (clauses-same h.0 n f.clauses)) in
-    let e = clauses-size h.0 n f.clauses (length a.row.now) h.1 in
-    (h.0.source, (k.0, (k.1, (search rules, omega (arith, w.puts.ends, set-short a.frame.id (mark_clauses (clauses_at 127 n (records_in a.frame a.image.now) (a.i + 1)) [] (replicate (length a.row.now) 0)) (length a.row.now) h.0.narrow e, h.1)))))
+    let e = clauses-size h.0 n f.clauses a.image.now.ready (length a.row.now) h.1 in
+    (h.0.source, (k.0, (k.1, (search rules, omega (arith, w.puts.ends, set-short a.image.now.frame.id (mark_clauses (clauses_at 127 n (records_in a.image.now.frame a.image.now.bytes.now) (a.i + 1)) [] (replicate (length a.row.now) 0)) (length a.row.now) h.0.narrow e, h.1)))))
 
-pub returns-then-f-eq-CREATE : goal.returns-then-f-eq-CREATE
-returns-then-f-eq-CREATE c =
+pub returns-in-Create : goal.returns-in-Create
+returns-in-Create c =
     let a = c.args in
     let h = c.requires in
     let f = c.parts_of-f.ensures in
     let n = c.parts_of-f.result.clauses in
     let w = c.put_clauses-c.ensures in
-    let b = created h.0 (f.at.kind ∙ c.if-f-eq-CREATE.true) in
+    let b = created h.0 (f.at.kind ∙ ap code_of c.in-Create.is) in
     let k = length c.put_clauses-c.new.row in
     let e : k ≡ 65536 = search rules in
-    put_two a.frame.id (annotations (stmt_at max_depth (records_in a.frame a.image.now) a.i)) _ _ _ _ w.puts c.put_statement.ensures.puts (clauses-marked h.0 n f.clauses (length a.row.now) h.1)
-    (next-marked h.0 b.has _ (w.next ∙ ap (λ (z : Clauses). a.i + 1 + length (flatten_clauses z)) (clauses-same h.0 n f.clauses)) k e) b.sets
+    put_two a.image.now.frame.id (annotations (stmt_at max_depth (records_in a.image.now.frame a.image.now.bytes.now) a.i)) _ _ _ _ w.puts c.put_statement.ensures.puts (clauses-marked h.0 n f.clauses a.image.now.ready (length a.row.now) h.1)
+    (next-marked h.0 b.has _ (w.next ∙ ap (λ (z : Clauses). a.i + 1 + length (flatten_clauses z)) (clauses-same h.0 n f.clauses)) a.image.now.ready k e) b.sets
 
-pub put_statement-requires-2 : goal.put_statement-requires-2
-put_statement-requires-2 c =
+pub put_statement-requires-in_default : goal.put_statement-requires-in_default
+put_statement-requires-in_default c =
     let h = c.requires in
     let f = c.parts_of-f.ensures in
-    let b = followed h.0 (λ e. c.if-f-eq-SWITCH.false (sym f.at.kind ∙ e)) (λ e. c.if-f-eq-CREATE.false (sym f.at.kind ∙ e)) in
+    let b = followed h.0 (λ e. c.in_default.not-Switch (same_code _ Switch (sym f.at.kind ∙ e))) (λ e. c.in_default.not-Create (same_code _ Create (sym f.at.kind ∙ e))) in
     let k = next-stands h.0 b.has _ (behind h.0 b) in
     (h.0.source, (k.0, (k.1, (search rules, omega arith))))
 
-pub returns : goal.returns
-returns c =
+pub returns-in_default : goal.returns-in_default
+returns-in_default c =
     let a = c.args in
     let h = c.requires in
     let f = c.parts_of-f.ensures in
-    let b = followed h.0 (λ e. c.if-f-eq-SWITCH.false (sym f.at.kind ∙ e)) (λ e. c.if-f-eq-CREATE.false (sym f.at.kind ∙ e)) in
-    put_one a.frame.id (annotations (stmt_at max_depth (records_in a.frame a.image.now) a.i)) _ _ c.put_statement-2.ensures.puts (next-marked h.0 b.has _ (behind h.0 b) _ h.1) b.sets
+    let b = followed h.0 (λ e. c.in_default.not-Switch (same_code _ Switch (sym f.at.kind ∙ e))) (λ e. c.in_default.not-Create (same_code _ Create (sym f.at.kind ∙ e))) in
+    put_one a.image.now.frame.id (annotations (stmt_at max_depth (records_in a.image.now.frame a.image.now.bytes.now) a.i)) _ _ c.put_statement-in_default.ensures.puts (next-marked h.0 b.has _ (behind h.0 b) a.image.now.ready _ h.1) b.sets

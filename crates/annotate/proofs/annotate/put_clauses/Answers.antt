@@ -1,10 +1,8 @@
 use mathlib.Core.Path.{sym, ap, ◌∙◌, subst}
-use mathlib.Core.List.{List, []}
+use mathlib.Core.List.{List}
 use Prim.Native.Nat.{ℕ}
-use borrow.Author.Rules.{rules}
 use native.Mathlib.Omega.{arith}
-use lib.ListN.{length, replicate}
-use Rattle.syntax.specs.Arrays.{set_of}
+use lib.ListN.{length}
 use Rattle.syntax.specs.declared.names.VarId.{VarId}
 use Rattle.image_directory.specs.Slots.{records_in}
 use Rattle.image_places_spec.specs.Places.{clauses_at}
@@ -20,7 +18,7 @@ clauses-next-requires c =
     let a = c.args in
     let h = c.requires in
     let e = c.empty.ensures in
-    (h.0, (h.1.0, (record { count = e.count ∙ ap length (sym e.list); small = omega (arith, e.count) }, subst (λ (z : List VarId). RoomForClauses z (clauses_at 127 a.n (records_in a.frame a.image.now) a.i)) (sym e.list) h.1.1.0)))
+    (h.0, (h.1.0, (record { count = e.count ∙ ap length (sym e.list); small = omega (arith, e.count) }, subst (λ (z : List VarId). RoomForClauses z (clauses_at 127 a.n (records_in a.image.now.frame a.image.now.bytes.now) a.i)) (sym e.list) h.1.1.0)))
 
 pub returns : goal.returns
 returns c =
@@ -30,6 +28,6 @@ returns c =
     let k = c.clear.ensures in
     record {
       next = m.next_is;
-      puts = subst (λ (z : List ℕ). Puts a.out.now c.put_set-end.new.out a.at c.put_set-end.result (set_bytes a.frame.id (marked_from 0 z)))
-          (row-after (mark_clauses (clauses_at 127 a.n (records_in a.frame a.image.now) a.i)) m.row_is e k) c.put_set-end.ensures;
+      puts = subst (λ (z : List ℕ). Puts a.out.now c.put_set-end.new.out a.at c.put_set-end.result (set_bytes a.image.now.frame.id (marked_from 0 z)))
+          (row-after (mark_clauses (clauses_at 127 a.n (records_in a.image.now.frame a.image.now.bytes.now) a.i)) m.row_is e k) c.put_set-end.ensures;
     }

@@ -1,4 +1,5 @@
-use mathlib.Core.Path.{refl, ap, ◌∙◌}
+use Prim.Native.Nat.{◌+◌, ◌-◌}
+use mathlib.Core.Path.{◌≡◌, refl, ap, ◌∙◌}
 use mathlib.Core.List.{List}
 use native.Mathlib.Omega.{arith}
 use borrow.Author.Rules.{rules}
@@ -18,66 +19,70 @@ use Rattle.annotate_uses.proofs.CountLaws.{uses-few}
 use Rattle.annotate.proofs.MarkSteps.{clauses-room, bodies-room, marked-stmt, clause-room, clause-marked, marked-clauses, body-marked, marked-bodies}
 use Rattle.annotate.proofs.walk.+bodies_clauses_statement.Goals as goal
 
-pub bodies-loop-left-init : goal.bodies-loop-left-init
-bodies-loop-left-init t c =
+pub bodies-loop-init : goal.bodies-loop-init
+bodies-loop-init t c =
     let h = c.requires in
-    (refl, record { rest = _; stand = h.1.0; size = refl; holds = record { room = h.1.1.1; same = refl } })
+    let e : c.args.n - 0 ≡ c.args.n = omega arith in
+    rw e (refl, record { rest = _; stand = h.1.0; size = refl; holds = record { room = h.1.1.1; same = refl } })
 
 pub bodies-statement-here-requires : goal.bodies-statement-here-requires
 bodies-statement-here-requires t c =
     let h = c.requires in
-    let x = body-next c.loop-left.invariant.1 c.loop-left-test.true in
+    let x = body-next c.loop.invariant.1 (omega (arith, c.loop-test.true)) in
     (omega arith, (h.0, (x.body, (h.1.1.0, x.holds.room.0))))
 
-pub bodies-loop-left-preserved : goal.bodies-loop-left-preserved
-bodies-loop-left-preserved t c = (search rules, body-marked (body-next c.loop-left.invariant.1 c.loop-left-test.true) _ _ c.statement-here.ensures)
+pub bodies-loop-preserved : goal.bodies-loop-preserved
+bodies-loop-preserved t c =
+    let e : c.args.n - (c.loop.counter + 1) ≡ c.args.n - c.loop.counter - 1 = omega arith in
+    rw e (search rules, body-marked (body-next c.loop.invariant.1 (omega (arith, c.loop-test.true))) _ _ c.statement-here.ensures)
 
 pub bodies-returns : goal.bodies-returns
-bodies-returns t c = marked-bodies c.loop-left.invariant.1 (omega (arith, c.loop-left-test.false))
+bodies-returns t c = marked-bodies c.loop.invariant.1 (omega (arith, c.loop-test.false))
 
-pub clauses-loop-left-init : goal.clauses-loop-left-init
-clauses-loop-left-init t c =
+pub clauses-loop-init : goal.clauses-loop-init
+clauses-loop-init t c =
     let h = c.requires in
-    (refl, record { rest = _; stand = h.1.0; size = refl; holds = record { room = h.1.1.1; same = refl } })
+    let e : c.args.n - 0 ≡ c.args.n = omega arith in
+    rw e (refl, record { rest = _; stand = h.1.0; size = refl; holds = record { room = h.1.1.1; same = refl } })
 
 pub clauses-bind-inner-requires : goal.clauses-bind-inner-requires
 clauses-bind-inner-requires t c =
-    let a = c.args in
+    let m = c.args.image.now in
     let h = c.requires in
-    let x = clause-next c.loop-left.invariant.1 c.loop-left-test.true in
-    (record { ready = h.0.ready; inside = omega (arith, x.inside, records-length a.frame a.image.now h.0.ready); kind = clause-kind x }, (h.1.1.0, clause-bound x (set_of a.bound) x.holds.room))
+    let x = clause-next c.loop.invariant.1 (omega (arith, c.loop-test.true)) in
+    (record { inside = omega (arith, x.inside, records-length m.frame m.bytes.now m.ready); kind = clause-kind x }, (h.1.1.0, clause-bound x (set_of c.args.bound) x.holds.room))
 
 pub clauses-overflow_add-here : goal.clauses-overflow_add-here
 clauses-overflow_add-here t c =
-    let a = c.args in
-    let h = c.requires in
-    let x = clause-next c.loop-left.invariant.1 c.loop-left-test.true in
-    omega (arith, x.inside, records-length a.frame a.image.now h.0.ready, h.0.ready.few)
+    let m = c.args.image.now in
+    let x = clause-next c.loop.invariant.1 (omega (arith, c.loop-test.true)) in
+    omega (arith, x.inside, records-length m.frame m.bytes.now m.ready, m.ready.few)
 
 pub clauses-statement-here-requires : goal.clauses-statement-here-requires
 clauses-statement-here-requires t c =
-    let h = c.requires in
-    let x = clause-next c.loop-left.invariant.1 c.loop-left-test.true in
-    (omega arith, (h.0, (x.body, (c.bind-inner.ensures.scope, clause-room x _ c.bind-inner.ensures))))
+    let x = clause-next c.loop.invariant.1 (omega (arith, c.loop-test.true)) in
+    (omega arith, (c.requires.0, (x.body, (c.bind-inner.ensures.scope, clause-room x _ c.bind-inner.ensures))))
 
-pub clauses-loop-left-preserved : goal.clauses-loop-left-preserved
-clauses-loop-left-preserved t c = (search rules, clause-marked (clause-next c.loop-left.invariant.1 c.loop-left-test.true) _ _ _ c.bind-inner.ensures c.statement-here.ensures)
+pub clauses-loop-preserved : goal.clauses-loop-preserved
+clauses-loop-preserved t c =
+    let e : c.args.n - (c.loop.counter + 1) ≡ c.args.n - c.loop.counter - 1 = omega arith in
+    rw e (search rules, clause-marked (clause-next c.loop.invariant.1 (omega (arith, c.loop-test.true))) _ _ _ c.bind-inner.ensures c.statement-here.ensures)
 
 pub clauses-returns : goal.clauses-returns
-clauses-returns t c = marked-clauses c.loop-left.invariant.1 (omega (arith, c.loop-left-test.false))
+clauses-returns t c = marked-clauses c.loop.invariant.1 (omega (arith, c.loop-test.false))
 
 pub statement-parts_of-f-requires : goal.statement-parts_of-f-requires
 statement-parts_of-f-requires t c =
     let a = c.args in
     let h = c.requires in
-    let rs = records_in a.frame a.image.now in
-    (h.0.ready, omega (arith, head-inside a.depth rs a.i h.1.0, records-length a.frame a.image.now h.0.ready))
+    let rs = records_in a.image.now.frame a.image.now.bytes.now in
+    omega (arith, head-inside a.depth rs a.i h.1.0, records-length a.image.now.frame a.image.now.bytes.now a.image.now.ready)
 
 pub statement-uses-used-requires : goal.statement-uses-used-requires
 statement-uses-used-requires t c =
     let a = c.args in
     let h = c.requires in
-    let rs = records_in a.frame a.image.now in
+    let rs = records_in a.image.now.frame a.image.now.bytes.now in
     let f = c.parts_of-f.ensures in
     (f.at, record_at_lem small_record_lem rs a.i h.0.small (head-inside a.depth rs a.i h.1.0))
 
@@ -85,23 +90,19 @@ pub statement-mark_all-requires : goal.statement-mark_all-requires
 statement-mark_all-requires t c =
     let a = c.args in
     let h = c.requires in
-    let rs = records_in a.frame a.image.now in
+    let rs = records_in a.image.now.frame a.image.now.bytes.now in
     let f = c.parts_of-f.ensures in
     let m = record_at_lem small_record_lem rs a.i h.0.small (head-inside a.depth rs a.i h.1.0) in
-    (omega (arith, h.1.1.0.small), omega (arith, c.uses-used.ensures.count, uses-few (record_at a.frame a.image.now a.i) m))
+    (omega (arith, h.1.1.0.small), omega (arith, c.uses-used.ensures.count, uses-few (record_at a.image.now.frame a.image.now.bytes.now a.i) m))
 
 pub statement-overflow_sub-depth : goal.statement-overflow_sub-depth
-statement-overflow_sub-depth t c =
-    let a = c.args in
-    let h = c.requires in
-    let rs = records_in a.frame a.image.now in
-    omega (arith, (stmt-parts h.1.0).positive)
+statement-overflow_sub-depth t c = omega (arith, (stmt-parts c.requires.1.0).positive)
 
 pub statement-clauses-next-requires : goal.statement-clauses-next-requires
 statement-clauses-next-requires t c =
     let a = c.args in
     let h = c.requires in
-    let rs = records_in a.frame a.image.now in
+    let rs = records_in a.image.now.frame a.image.now.bytes.now in
     let f = c.parts_of-f.ensures in
     let m = above_at a.depth rs a.i h.1.0 _ f.clauses in
     (omega (arith, (stmt-parts h.1.0).positive), (h.0, (m.clauses, (h.1.1.0, clauses-room m h.1.1.1))))
@@ -110,22 +111,18 @@ pub statement-bind-inner-requires : goal.statement-bind-inner-requires
 statement-bind-inner-requires t c =
     let a = c.args in
     let h = c.requires in
-    let rs = records_in a.frame a.image.now in
+    let rs = records_in a.image.now.frame a.image.now.bytes.now in
     let f = c.parts_of-f.ensures in
     (f.at, (h.1.1.0, binders-room a.depth rs a.i (set_of a.bound) h.1.0 h.1.1.1))
 
 pub statement-overflow_sub-depth-2 : goal.statement-overflow_sub-depth-2
-statement-overflow_sub-depth-2 t c =
-    let a = c.args in
-    let h = c.requires in
-    let rs = records_in a.frame a.image.now in
-    omega (arith, (stmt-parts h.1.0).positive)
+statement-overflow_sub-depth-2 t c = omega (arith, (stmt-parts c.requires.1.0).positive)
 
 pub statement-bodies-requires : goal.statement-bodies-requires
 statement-bodies-requires t c =
     let a = c.args in
     let h = c.requires in
-    let rs = records_in a.frame a.image.now in
+    let rs = records_in a.image.now.frame a.image.now.bytes.now in
     let f = c.parts_of-f.ensures in
     let b = below_at a.depth rs a.i h.1.0 _ _ _ f.clauses f.bodies c.clauses-next.ensures.next_is in
     let x = c.bind-inner.ensures in
@@ -135,7 +132,7 @@ pub statement-returns : goal.statement-returns
 statement-returns t c =
     let a = c.args in
     let h = c.requires in
-    let rs = records_in a.frame a.image.now in
+    let rs = records_in a.image.now.frame a.image.now.bytes.now in
     let f = c.parts_of-f.ensures in
     let b = below_at a.depth rs a.i h.1.0 _ _ _ f.clauses f.bodies c.clauses-next.ensures.next_is in
     let m = c.mark_all.ensures ∙ ap (λ (xs : List VarId). mark_all_lem (set_of a.bound) xs a.row.now) c.uses-used.ensures.list in

@@ -1,4 +1,4 @@
-use Rattle.std.proofs.Common.{◌≡◌, ◌+◌, ◌*◌, length}
+use Rattle.std.proofs.Common.{◌≡◌, ◌+◌, ◌-◌, ◌*◌, length}
 use Rattle.syntax.specs.Arrays.{set_of}
 use Rattle.image_spec.specs.Parse.{each}
 use Rattle.image_spec.specs.Shape.{flatten, flatten_clauses}
@@ -18,16 +18,10 @@ decreases-clauses l = 2 * l.depth + 1
 abbrev pub decreases-statement : goal.decreases-statement
 decreases-statement l = 2 * l.depth
 
-abbrev pub invariant-bodies-loop-left : goal.invariant-bodies-loop-left
-invariant-bodies-loop-left l =
-    (length l.row ≡ length l.initial.row) × BodiesLeft l.depth (records_in l.frame l.image) (l.i + length (each flatten (bodies_at l.depth l.n (records_in l.frame l.image) l.i))) l.left l.here (MarksBodies (set_of l.bound) (mark_bodies (bodies_at l.depth l.n (records_in l.frame l.image) l.i) (set_of l.bound) l.initial.row) l.row)
+abbrev pub invariant-bodies-loop : goal.invariant-bodies-loop
+invariant-bodies-loop l =
+    (length l.row ≡ length l.initial.row) × BodiesLeft l.depth (records_in l.image.frame l.image.bytes.now) (l.i + length (each flatten (bodies_at l.depth l.n (records_in l.image.frame l.image.bytes.now) l.i))) (l.n - l.counter) l.here (MarksBodies (set_of l.bound) (mark_bodies (bodies_at l.depth l.n (records_in l.image.frame l.image.bytes.now) l.i) (set_of l.bound) l.initial.row) l.row)
 
-abbrev pub decreases-bodies-loop-left : goal.decreases-bodies-loop-left
-decreases-bodies-loop-left l = l.left
-
-abbrev pub invariant-clauses-loop-left : goal.invariant-clauses-loop-left
-invariant-clauses-loop-left l =
-    (length l.row ≡ length l.initial.row) × ClausesLeft l.depth (records_in l.frame l.image) (l.i + length (flatten_clauses (clauses_at l.depth l.n (records_in l.frame l.image) l.i))) l.left l.here (MarksClauses (set_of l.bound) (mark_clauses (clauses_at l.depth l.n (records_in l.frame l.image) l.i) (set_of l.bound) l.initial.row) l.row)
-
-abbrev pub decreases-clauses-loop-left : goal.decreases-clauses-loop-left
-decreases-clauses-loop-left l = l.left
+abbrev pub invariant-clauses-loop : goal.invariant-clauses-loop
+invariant-clauses-loop l =
+    (length l.row ≡ length l.initial.row) × ClausesLeft l.depth (records_in l.image.frame l.image.bytes.now) (l.i + length (flatten_clauses (clauses_at l.depth l.n (records_in l.image.frame l.image.bytes.now) l.i))) (l.n - l.counter) l.here (MarksClauses (set_of l.bound) (mark_clauses (clauses_at l.depth l.n (records_in l.image.frame l.image.bytes.now) l.i) (set_of l.bound) l.initial.row) l.row)

@@ -1,5 +1,4 @@
 use native.Mathlib.Omega.{arith}
-use borrow.Author.Rules.{rules}
 use Rattle.image_spec.proofs.FieldLaws.{field-length}
 use Rattle.image_write_parts.proofs.Putting.{puts_then}
 use Rattle.image_write_directory.proofs.directory.put_header.Goals as goal

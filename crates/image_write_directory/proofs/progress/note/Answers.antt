@@ -1,16 +1,17 @@
 use Prim.Native.Nat.{◌-◌}
-use mathlib.Core.Path.{refl}
-use borrow.Author.Rules.{rules}
-use Rattle.image_write_parts.proofs.Putting.{puts-byte}
-use Rattle.image_write_directory.proofs.EmitLaws.{noted-past}
+use mathlib.Core.Path.{◌≡◌, refl, sym, ◌∙◌}
+use lib.ListN.{set}
+use Rattle.image_write_parts.proofs.Putting.{set_past}
 use Rattle.image_write_directory.proofs.progress.note.Goals as goal
-
-pub returns-then-count-lengths : goal.returns-then-count-lengths
-returns-then-count-lengths c =
-    let a = c.args in
-    record { at = refl; max_id = refl; puts = puts-byte a.lengths.now a.so_far.count (a.next - a.so_far.at) }
+use Rattle.image_write_directory.proofs.progress.note.Goals.{then-count-lengths, else-count-lengths}
 
 pub returns : goal.returns
 returns c =
     let a = c.args in
-    record { at = refl; max_id = refl; puts = noted-past a.lengths.now a.so_far.count (a.next - a.so_far.at) c.if-count-lengths.false }
+    let size = a.next - a.so_far.at in
+    let stored : c.if-count-lengths.lengths ≡ set a.lengths.now a.so_far.count size =
+    elim c.if-count-lengths.branch [
+      | then-count-lengths w ↦ w.lengths-is
+      | else-count-lengths w ↦ w.lengths-is ∙ sym (set_past a.lengths.now a.so_far.count size w.if-count-lengths.false)
+    ] in
+    record { at = refl; max_id = refl; puts = record { holds = stored; ends = refl } }

@@ -1,7 +1,6 @@
 -- `put_pair` meets its contract. Assumes nothing.
 use mathlib.Core.Path.{ap}
 use native.Mathlib.Omega.{arith}
-use borrow.Author.Rules.{rules}
 use Rattle.image_spec.specs.Fields.{binding_bytes}
 use Rattle.image_spec.proofs.FieldLaws.{binding-length}
 use Rattle.image_write_parts.proofs.Putting.{puts_as, puts_then}

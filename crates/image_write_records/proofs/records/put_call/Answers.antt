@@ -5,7 +5,6 @@ use Rattle.image_spec.specs.Fields.{identifier_bytes}
 use Rattle.image_spec.specs.Records.{record_bytes}
 use Rattle.image_spec.proofs.FieldLaws.{identifier-length}
 use Rattle.image_write_parts.proofs.Putting.{puts_then}
-use borrow.Author.Rules.{rules}
 use Rattle.image_write_records.proofs.records.put_call.Goals as goal
 
 pub put_byte-requires : goal.put_byte-requires

@@ -6,7 +6,6 @@ use Rattle.image_spec.specs.Fields.{identifier_bytes, type_bytes, list_bytes}
 use Rattle.image_spec.specs.Records.{record_bytes}
 use Rattle.image_write_parts.proofs.Putting.{puts_then}
 use Rattle.image_write_records.proofs.Joining.{typed-length, list_length, then_others}
-use borrow.Author.Rules.{rules}
 use Rattle.image_write_records.proofs.records.put_create.Goals as goal
 
 pub put_byte-after-requires : goal.put_byte-after-requires

@@ -1,6 +1,5 @@
 -- `put_exit` meets its contract. Assumes nothing.
 use Rattle.image_spec.specs.Records.{record_bytes}
-use borrow.Author.Rules.{rules}
 use Rattle.image_write_records.proofs.records.put_exit.Goals as goal
 
 pub returns : goal.returns

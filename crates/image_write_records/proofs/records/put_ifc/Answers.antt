@@ -6,7 +6,6 @@ use Rattle.image_spec.specs.Records.{record_bytes}
 use Rattle.image_spec.proofs.FieldLaws.{identifier-length}
 use Rattle.image_write_parts.proofs.Codes.{sort-number}
 use Rattle.image_write_parts.proofs.Putting.{puts_then}
-use borrow.Author.Rules.{rules}
 use Rattle.image_write_records.proofs.records.put_ifc.Goals as goal
 
 pub put_marked-requires : goal.put_marked-requires

@@ -5,7 +5,6 @@ use Rattle.image_spec.specs.Records.{record_bytes}
 use Rattle.image_spec.proofs.FieldLaws.{identifier-length}
 use Rattle.image_write_parts.proofs.Putting.{puts_then}
 use Rattle.image_write_records.proofs.Joining.{typed-length, then_others}
-use borrow.Author.Rules.{rules}
 use Rattle.image_write_records.proofs.records.put_let.Goals as goal
 
 pub put_identifier-after-requires : goal.put_identifier-after-requires

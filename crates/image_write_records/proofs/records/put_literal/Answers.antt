@@ -5,7 +5,6 @@ use Rattle.image_spec.specs.Fields.{integer_bytes}
 use Rattle.image_spec.specs.Records.{record_bytes}
 use Rattle.image_integers.proofs.Signs.{back}
 use Rattle.image_write_parts.proofs.Putting.{puts_as, puts_then}
-use borrow.Author.Rules.{rules}
 use Rattle.image_write_records.proofs.records.put_literal.Goals as goal
 
 pub returns : goal.returns

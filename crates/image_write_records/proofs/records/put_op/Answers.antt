@@ -6,7 +6,6 @@ use Rattle.image_spec.specs.Records.{record_bytes}
 use Rattle.image_spec.proofs.FieldLaws.{identifier-length}
 use Rattle.image_write_parts.proofs.Codes.{operator-number}
 use Rattle.image_write_parts.proofs.Putting.{puts_then}
-use borrow.Author.Rules.{rules}
 use Rattle.image_write_records.proofs.records.put_op.Goals as goal
 
 pub put_byte-after-requires : goal.put_byte-after-requires

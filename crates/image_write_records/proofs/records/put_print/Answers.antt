@@ -5,7 +5,6 @@ use mathlib.Core.List.{◌∷◌, []}
 use Rattle.image_spec.specs.Fields.{newline_code_lem}
 use Rattle.image_spec.specs.Records.{record_bytes}
 use Rattle.image_write_parts.proofs.Putting.{puts_as, puts_then}
-use borrow.Author.Rules.{rules}
 use Rattle.image_write_records.proofs.records.put_print.Goals as goal
 
 pub returns : goal.returns

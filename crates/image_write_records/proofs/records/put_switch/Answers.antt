@@ -3,7 +3,6 @@ use native.Mathlib.Omega.{arith}
 use Rattle.image_spec.specs.Fields.{identifier_bytes, type_bytes}
 use Rattle.image_spec.specs.Records.{record_bytes}
 use Rattle.image_write_records.proofs.Joining.{typed-length, then_others}
-use borrow.Author.Rules.{rules}
 use Rattle.image_write_records.proofs.records.put_switch.Goals as goal
 
 pub put_byte-requires : goal.put_byte-requires

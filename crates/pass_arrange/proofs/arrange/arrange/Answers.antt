@@ -3,16 +3,15 @@
 -- ── which binding stands at i ──
 use Prim.Native.Nat.{◌+◌, ◌-◌, ◌≤◌, ◌<◌}
 use mathlib.Core.Path.{◌≡◌, refl, sym, ap, ◌∙◌}
-use mathlib.Core.Bool.{not}
+use mathlib.Core.Bool.{Bool, true, false, not, beq}
+use lib.Dec.{ltb}
 use native.Mathlib.Omega.{arith}
-use borrow.Author.Rules.{rules}
 use Rattle.syntax.specs.Context.{Context, empty_binding}
 use Rattle.syntax.specs.Flat.{binding_of}
 use Rattle.syntax.specs.Arrays.{context_of}
-use Rattle.syntax_substitution.specs.Pairs.{pairs_in}
-use Rattle.syntax_substitution.proofs.Pairing.{context-at, Zipped}
-use Rattle.image_write_parts.proofs.Writing.{Written, written_none}
-use Rattle.image_write_records.proofs.Writing.{stored_bytes}
+use Rattle.syntax_substitution.specs.Pairs.{pair_of}
+use Rattle.syntax_substitution.proofs.Pairing.{context-at}
+use Rattle.image_write_parts.proofs.Writing.{written_none}
 use Rattle.image_write_parts.proofs.Putting.{puts-same}
 use Rattle.pass_work_spec.specs.Work.{bindings}
 use Rattle.pass_context.specs.Holding.{work_of}
@@ -22,7 +21,7 @@ use Rattle.pass_arrange.specs.Joined.{joined}
 use Rattle.pass_arrange.proofs.PairLaws.{wanted-count, joined_length, zipped-joined, zipped_target, zipped-kept, place-most, at_target, at-kept}
 use Rattle.pass_arrange.proofs.ArrangeLaws.{arranges_nothing, written-pair, arranges_written}
 use Rattle.pass_arrange.proofs.arrange.arrange.Goals as goal
-use Rattle.pass_arrange.proofs.arrange.arrange.Goals.{Else-i-front, Start, Then-i-front}
+use Rattle.pass_arrange.proofs.arrange.arrange.Goals.{In-loop-i, Start, then-i-front, else-i-front}
 
 -- there are at most 128 pairs
 few : (s : Start) → s.args.targets.len + s.args.kept.len ≤ 128
@@ -35,11 +34,16 @@ targets_of s = joined s.args.targets_first (context_of s.args.targets) (bindings
 abbrev wanted_of : Start → Context
 wanted_of s = joined s.args.targets_first (context_of s.args.wanted) (bindings (work_of s.args.kept))
 
-target_here : (c : Then-i-front) → (c.place-targets_at.result ≤ c.loop-i.i) × (c.loop-i.i - c.place-targets_at.result < c.args.targets.len)
-target_here c = at_target c.args.targets_first c.args.targets.len c.args.kept.len _ _ _ c.place-kept_at.ensures c.place-targets_at.ensures c.loop-i-test.true c.if-i-front.true
+-- in front is what the list of targets or of what is kept begins with: there a target stands, else what is kept
+module _ (c : In-loop-i) where
+  abbrev front : Bool
+  front = beq (ltb c.loop-i.i (c.place-kept_at.result + c.place-targets_at.result)) c.args.targets_first
 
-kept_here : (c : Else-i-front) → (c.place-kept_at.result ≤ c.loop-i.i) × (c.loop-i.i - c.place-kept_at.result < c.args.kept.len)
-kept_here c = at-kept c.args.targets_first c.args.targets.len c.args.kept.len _ _ _ c.place-kept_at.ensures c.place-targets_at.ensures c.loop-i-test.true c.if-i-front.false
+  target_here : front ≡ true → (c.place-targets_at.result ≤ c.loop-i.i) × (c.loop-i.i - c.place-targets_at.result < c.args.targets.len)
+  target_here e = at_target c.args.targets_first c.args.targets.len c.args.kept.len _ _ _ c.place-kept_at.ensures c.place-targets_at.ensures c.loop-i-test.true e
+
+  kept_here : front ≡ false → (c.place-kept_at.result ≤ c.loop-i.i) × (c.loop-i.i - c.place-kept_at.result < c.args.kept.len)
+  kept_here e = at-kept c.args.targets_first c.args.targets.len c.args.kept.len _ _ _ c.place-kept_at.ensures c.place-targets_at.ensures c.loop-i-test.true e
 
 pub returns-then-right : goal.returns-then-right
 returns-then-right c = arranges_nothing (targets_of (goal.at.returns-then-right c).Start) (wanted_of (goal.at.returns-then-right c).Start) c.if-right.true
@@ -51,42 +55,47 @@ pub loop-i-init : goal.loop-i-init
 loop-i-init c = (refl, zipped-joined c.args.targets_first (context_of c.args.targets) (context_of c.args.wanted) (bindings (work_of c.args.kept)) c.args.targets.len c.args.kept.len (sym c.requires.0.count) (wanted-count c.requires.0) (bindings-count (workable-holds c.requires.1.0)) refl (few (goal.at.loop-i-init c).Start))
 
 pub overflow_sub-at : goal.overflow_sub-at
-overflow_sub-at c = (target_here (goal.at.overflow_sub-at c).Then-i-front).0
+overflow_sub-at c = (target_here (goal.at.overflow_sub-at c).In-loop-i c.if-i-front.true).0
 
 pub bounds-targets-at : goal.bounds-targets-at
-bounds-targets-at c = omega (arith, (target_here (goal.at.bounds-targets-at c).Then-i-front).1, c.requires.0.few)
+bounds-targets-at c = omega (arith, (target_here (goal.at.bounds-targets-at c).In-loop-i c.if-i-front.true).1, c.requires.0.few)
 
 pub bounds-wanted-at : goal.bounds-wanted-at
-bounds-wanted-at c = omega (arith, (target_here (goal.at.bounds-wanted-at c).Then-i-front).1, c.requires.0.few)
+bounds-wanted-at c = omega (arith, (target_here (goal.at.bounds-wanted-at c).In-loop-i c.if-i-front.true).1, c.requires.0.few)
 
 pub bounds-all-i : goal.bounds-all-i
 bounds-all-i c = omega (arith, c.loop-i-test.true, few (goal.at.bounds-all-i c).Start)
 
-pub loop-i-preserved-then-i-front : goal.loop-i-preserved-then-i-front
-loop-i-preserved-then-i-front c =
-    let h = target_here (goal.at.loop-i-preserved-then-i-front c).Then-i-front in (
-      c.loop-i.invariant.0,
-      zipped_target c.args.targets_first (context_of c.args.targets) (context_of c.args.wanted) (bindings (work_of c.args.kept)) c.args.targets.len c.args.kept.len (sym c.requires.0.count) (wanted-count c.requires.0) (bindings-count (workable-holds c.requires.1.0))
-          empty_binding _ _ c.of.result c.of.ensures c.loop-i.invariant.1 c.loop-i-test.true c.place-targets_at.ensures h
-          (context-at c.args.targets (c.loop-i.i - c.place-targets_at.result) h.1 refl) (context-at c.args.wanted (c.loop-i.i - c.place-targets_at.result) (omega (arith, h.1, c.requires.0.same)) refl),
-    )
-
-pub overflow_sub-e : goal.overflow_sub-e
-overflow_sub-e c = (kept_here (goal.at.overflow_sub-e c).Else-i-front).0
+pub overflow_sub-i : goal.overflow_sub-i
+overflow_sub-i c = (kept_here (goal.at.overflow_sub-i c).In-loop-i c.if-i-front.false).0
 
 pub bounds-kept-i : goal.bounds-kept-i
-bounds-kept-i c = omega (arith, (kept_here (goal.at.bounds-kept-i c).Else-i-front).1, c.requires.1.0.room)
-
-pub bounds-all-i-else-i-front : goal.bounds-all-i-else-i-front
-bounds-all-i-else-i-front c = omega (arith, c.loop-i-test.true, few (goal.at.bounds-all-i-else-i-front c).Start)
+bounds-kept-i c = omega (arith, (kept_here (goal.at.bounds-kept-i c).In-loop-i c.if-i-front.false).1, c.requires.1.0.room)
 
 pub loop-i-preserved : goal.loop-i-preserved
 loop-i-preserved c =
-    let h = kept_here (goal.at.loop-i-preserved c).Else-i-front in
-    let e = ap binding_of c.flat_binding-b.ensures ∙ binding-at c.args.kept c.args.kept.len (c.loop-i.i - c.place-kept_at.result) h.1 in (
-      c.loop-i.invariant.0,
-      zipped-kept c.args.targets_first (context_of c.args.targets) (context_of c.args.wanted) (bindings (work_of c.args.kept)) c.args.targets.len c.args.kept.len (sym c.requires.0.count) (wanted-count c.requires.0) (bindings-count (workable-holds c.requires.1.0))
-          empty_binding (binding_of c.flat_binding-b.result) (binding_of c.flat_binding-b.result) c.of-else-i-front.result c.of-else-i-front.ensures c.loop-i.invariant.1 c.loop-i-test.true c.place-kept_at.ensures h e e,
+    let a = c.args in
+    let T = context_of a.targets in
+    let W = context_of a.wanted in
+    let K = bindings (work_of a.kept) in
+    let m = sym c.requires.0.count in
+    let k = bindings-count (workable-holds c.requires.1.0) in
+    let l = c.loop-i.invariant in
+    let at = (goal.at.loop-i-preserved c).In-loop-i in
+    let most = c.loop-i-test.true in (
+      l.0,
+      elim c.if-i-front.branch [
+        | then-i-front w ↦
+            let h = target_here at w.if-i-front.true in
+            let i = c.loop-i.i - c.place-targets_at.result in
+            zipped_target a.targets_first T W K a.targets.len a.kept.len m (wanted-count c.requires.0) k empty_binding _ _ c.if-i-front.all (ap pair_of w.all-is ∙ w.of.ensures) l.1 most c.place-targets_at.ensures h
+            (context-at a.targets i h.1 refl) (context-at a.wanted i (omega (arith, h.1, c.requires.0.same)) refl)
+        | else-i-front w ↦
+            let h = kept_here at w.if-i-front.false in
+            let b = binding_of w.flat_binding-b.result in
+            let e = ap binding_of w.flat_binding-b.ensures ∙ binding-at a.kept a.kept.len (c.loop-i.i - c.place-kept_at.result) h.1 in
+            zipped-kept a.targets_first T W K a.targets.len a.kept.len m (wanted-count c.requires.0) k empty_binding b b c.if-i-front.all (ap pair_of w.all-is ∙ w.of-else-i-front.ensures) l.1 most c.place-kept_at.ensures h e e
+      ],
     )
 
 pub put_substitute-here-requires : goal.put_substitute-here-requires

@@ -1,7 +1,6 @@
 -- `arrange_args` meets its contract. Assumes nothing.
 use mathlib.Core.Path.{ap}
 use native.Mathlib.Omega.{arith}
-use borrow.Author.Rules.{rules}
 use Rattle.syntax.specs.Arrays.{context_of}
 use Rattle.pass_work_spec.specs.Work.{bindings}
 use Rattle.pass_arrange.proofs.PairLaws.{behind_none}

@@ -2,7 +2,6 @@
 use mathlib.Core.Path.{ap}
 use mathlib.Core.List.{[], ◌∷◌, ◌++◌}
 use native.Mathlib.Omega.{arith}
-use borrow.Author.Rules.{rules}
 use Rattle.syntax.specs.Context.{Context}
 use Rattle.syntax.specs.Arrays.{context_of}
 use Rattle.pass_work_spec.specs.Work.{bindings}

@@ -1,7 +1,6 @@
 -- `arrange_kept` meets its contract. Assumes nothing.
 use mathlib.Core.Path.{refl}
 use native.Mathlib.Omega.{arith}
-use borrow.Author.Rules.{rules}
 use Rattle.pass_work_spec.specs.Work.{bindings}
 use Rattle.pass_context.specs.Holding.{work_of}
 use Rattle.pass_arrange.proofs.PairLaws.{holds-paired, behind_none}

@@ -3,7 +3,6 @@ use Prim.Native.Nat.{ℕ, ◌+◌, ◌≤◌}
 use mathlib.Core.Path.{refl}
 use mathlib.Core.Bool.{true, false}
 use native.Mathlib.Omega.{arith}
-use borrow.Author.Rules.{rules}
 use Rattle.pass_context.specs.Holding.{work_of}
 use Rattle.pass_clause.proofs.EnterLaws.{enters-named, enters}
 use Rattle.pass_clause.proofs.clause.enter.Goals as goal
@@ -28,7 +27,7 @@ named-record-requires c = enters-named c.requires.1.0 c.requires.0
 pub put_headed-next-requires : goal.put_headed-next-requires
 put_headed-next-requires c =
     let h = c.requires in
-    (omega (arith, h.1.1.1.at), (omega (arith, h.0.at.ready.id.1), omega (arith, room (goal.at.put_headed-next-requires c).After-named-record)))
+    (omega (arith, h.1.1.1.at), (omega (arith, c.args.image.now.ready.id.1), omega (arith, room (goal.at.put_headed-next-requires c).After-named-record)))
 
 pub note-progress-requires : goal.note-progress-requires
 note-progress-requires c =

@@ -1,5 +1,4 @@
 -- `Held::context` meets its contract: i bindings are stored. Assumes nothing.
-use Prim.Native.Nat.{◌-◌}
 use lib.ListN.{take}
 use Rattle.syntax.specs.Arrays.{bindings_in}
 use Rattle.pass_work_spec.specs.Work.{bindings}

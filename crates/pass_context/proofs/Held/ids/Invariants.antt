@@ -1,5 +1,4 @@
 -- `Held::ids` meets its contract: i IDs are stored. Assumes nothing.
-use Prim.Native.Nat.{◌-◌}
 use lib.ListN.{take}
 use Rattle.syntax.specs.Context.{ids}
 use Rattle.pass_work_spec.specs.Work.{bindings}

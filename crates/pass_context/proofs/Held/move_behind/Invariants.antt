@@ -1,5 +1,4 @@
 -- `Held::move_behind` meets its contract: i entries are stored. Assumes nothing.
-use Prim.Native.Nat.{◌-◌}
 use lib.ListN.{take}
 use Rattle.pass_work_spec.specs.Work.{moved_behind}
 use Rattle.pass_context.specs.Holding.{entries_in}

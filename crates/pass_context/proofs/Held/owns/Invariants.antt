@@ -1,8 +1,7 @@
 -- `Held::owns` meets its contract: i binders are stored behind the others. Assumes nothing.
 use mathlib.Core.List.{◌++◌}
 use Prim.Native.Nat.{◌+◌}
-use lib.ListN.{take}
-use Rattle.syntax.specs.Arrays.{bindings_in, context_of}
+use Rattle.syntax.specs.Arrays.{context_of}
 use Rattle.pass_work_spec.specs.Work.{owns}
 use Rattle.pass_context.specs.Holding.{entries_in, work_of}
 use Rattle.pass_context.proofs.Stores.{Built}

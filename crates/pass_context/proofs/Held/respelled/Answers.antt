@@ -11,7 +11,7 @@ use Rattle.syntax.proofs.Flats.{seen_at}
 use Rattle.pass_work_spec.specs.Work.{respell, respelled}
 use Rattle.pass_entries.specs.Entries.{entry_in, empty_entry}
 use Rattle.pass_context.specs.Holding.{entries_in, work_of}
-use Rattle.pass_context.proofs.Stores.{built-start, built-reads, built-seen}
+use Rattle.pass_context.proofs.Stores.{built-start, built-seen}
 use Rattle.pass_context.proofs.Elements.{entry_at, respelled-at, respelled-count}
 use Rattle.pass_context.proofs.HeldLaws.{stored-all}
 use Rattle.pass_context.proofs.Held.respelled.Goals as goal

@@ -1,5 +1,4 @@
 -- `Held::respelled` meets its contract: i entries are respelled in place. Assumes nothing.
-use Prim.Native.Nat.{◌-◌}
 use lib.ListN.{take}
 use Rattle.syntax.specs.Arrays.{context_of}
 use Rattle.pass_work_spec.specs.Work.{respelled}

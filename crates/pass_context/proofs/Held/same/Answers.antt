@@ -4,7 +4,7 @@ use mathlib.Core.List.{◌++◌}
 use Prim.Native.Nat.{◌+◌, ◌-◌, ◌≤◌}
 use native.Mathlib.Omega.{arith}
 use borrow.Author.Rules.{rules}
-use mathlib.Core.Bool.{Bool, true, false}
+use mathlib.Core.Bool.{true, false}
 use Rattle.syntax.specs.Context.{same_binding}
 use lib.ListN.{length, length-map, get_or, length-append, length-take}
 use Rattle.syntax.specs.Context.{empty_binding}

@@ -1,6 +1,5 @@
 -- `Held::same` meets its contract: the first i bindings are the same. Assumes nothing.
 use mathlib.Core.List.{◌++◌}
-use Prim.Native.Nat.{◌-◌}
 use lib.ListN.{take}
 use Rattle.syntax.specs.Arrays.{bindings_in, context_of}
 use Rattle.pass_work_spec.specs.Work.{bindings}

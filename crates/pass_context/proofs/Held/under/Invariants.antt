@@ -1,6 +1,5 @@
 -- `Held::under` meets its contract: i entries are stored. Assumes nothing.
 use mathlib.Core.List.{◌++◌}
-use Prim.Native.Nat.{◌-◌}
 use lib.ListN.{take}
 use Rattle.syntax.specs.Arrays.{bindings_in}
 use Rattle.pass_work_spec.specs.Work.{owns}

@@ -1,6 +1,5 @@
 -- `Held::used` meets its contract. Assumes nothing.
 use mathlib.Core.Path.{◌≡◌, sym, ap, ◌∙◌}
-use mathlib.Core.Option.{some, none}
 use Rattle.syntax.specs.Options.{option_of}
 use Rattle.pass_work_spec.specs.Work.{entry_of}
 use Rattle.pass_work_spec.proofs.Lists.{take-map}

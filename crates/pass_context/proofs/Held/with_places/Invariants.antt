@@ -1,6 +1,6 @@
 -- `Held::with_places` meets its contract: the entries from i on are left to look at. Assumes nothing.
 use mathlib.Core.Path.{◌≡◌}
-use Prim.Native.Nat.{◌≤◌, ◌-◌}
+use Prim.Native.Nat.{◌≤◌}
 use Rattle.syntax.proofs.Lists.{rest}
 use Rattle.pass_entries.specs.Masks.{with_places_lem}
 use Rattle.pass_context.specs.Holding.{entries_in, work_of}

@@ -1,17 +1,24 @@
+use mathlib.Core.Path.{◌≡◌, ap}
 use native.Mathlib.Omega.{arith}
+use Rattle.image_kinds.specs.Codes.{code_of}
+use Rattle.image_kinds.specs.declared.kinds.Kind.TheVariants.{Switch}
+use Rattle.image_kinds.proofs.KindNames.{same_code}
 use Rattle.pass_step.proofs.StepLaws.{source_as}
 use Rattle.pass_dispatch.proofs.DispatchLaws.{switch-opens_as}
 use Rattle.pass_dispatch.proofs.step.open.Goals as goal
 use Rattle.pass_dispatch.proofs.step.open.Goals.{After-open}
 
 pub open-requires : goal.open-requires
-open-requires c = let h = c.requires in (source_as 5 c.if-kind-eq5.true h.0, h.1.1.1)
+open-requires c = let h = c.requires in (source_as 5 (ap code_of c.in-Switch.is) h.0, h.1.1.1)
 
-pub returns-then-kind-eq5 : goal.returns-then-kind-eq5
-returns-then-kind-eq5 c = switch-opens_as c.if-kind-eq5.true c.requires.0 (goal.at.returns-then-kind-eq5 c).After-open.«open».ensures
+pub returns-in-Switch : goal.returns-in-Switch
+returns-in-Switch c = switch-opens_as (ap code_of c.in-Switch.is) c.requires.0 (goal.at.returns-in-Switch c).After-open.«open».ensures
 
-pub open-requires-2 : goal.open-requires-2
-open-requires-2 c = let h = c.requires in (source_as 6 (omega (arith, c.if-kind-eq5.false, h.1.0, h.1.1.0)) h.0, h.1.1.1)
+pub open-requires-in_default : goal.open-requires-in_default
+open-requires-in_default c =
+    let h = c.requires in
+    let n : code_of c.args.kind ≡ 5 → ⊥ = λ e. c.in_default.not-Switch (same_code _ Switch e) in
+    (source_as 6 (omega (arith, n, h.1.0, h.1.1.0)) h.0, h.1.1.1)
 
-pub returns : goal.returns
-returns c = c.open-2.ensures
+pub returns-in_default : goal.returns-in_default
+returns-in_default c = c.open-in_default.ensures

@@ -1,10 +1,10 @@
 -- `linearize` of a Call meets its contract. Assumes nothing.
 -- ── the places, from the first to the last ──
 use Prim.Native.Nat.{◌≤◌}
-use mathlib.Core.Path.{◌≡◌, refl, sym}
+use mathlib.Core.Path.{◌≡◌, refl, sym, ◌∙◌}
 use mathlib.Core.List.{[], ◌++◌, append-nil}
 use native.Mathlib.Omega.{arith}
-use borrow.Author.Rules.{rules}
+use borrow.Author.Tests.{ne_eqb}
 use Rattle.syntax.specs.Context.{same_context}
 use Rattle.syntax.specs.Arrays.{context_of}
 use Rattle.image_spec.specs.Records.{call}
@@ -29,7 +29,7 @@ right_is c =
     let Γ = context_of c.used_all-args.result in
     elim c.if-context-args.branch [
       | then-context-args w ↦ compared_right W Γ w.empty.ensures w.same-right.ensures w.right-is
-      | else-context-args w ↦ uncounted_right W Γ [] c.requires.1.0.count (holds-count c.used_all-args.ensures) (λ e. w.if-context-args.false (omega arith)) w.right-is
+      | else-context-args w ↦ uncounted_right W Γ [] c.requires.1.0.count (holds-count c.used_all-args.ensures) (λ e. w.if-context-args.false (omega arith)) (w.right-is ∙ ne_eqb _ _ w.if-context-args.false)
     ]
 
 pub used_all-args-requires : goal.used_all-args-requires
@@ -42,11 +42,11 @@ freshen_unless-freshened-requires c =
 pub arrange_args-q-requires : goal.arrange_args-q-requires
 arrange_args-q-requires c =
     let h = c.requires in
-    (paired-fresh _ _ _ _ (holds-count c.used_all-args.ensures) (omega (arith, few (goal.at.arrange_args-q-requires c).After-used_all-args)) c.freshen_unless-freshened.ensures, (omega (arith, h.0.at.ready.id.1), h.1.1))
+    (paired-fresh _ _ _ _ (holds-count c.used_all-args.ensures) (omega (arith, few (goal.at.arrange_args-q-requires c).After-used_all-args)) c.freshen_unless-freshened.ensures, (omega (arith, c.args.image.now.ready.id.1), h.1.1))
 
 pub put_call-next-requires : goal.put_call-next-requires
 put_call-next-requires c =
-    let h = c.requires in (omega (arith, h.1.1.at, c.arrange_args-q.ensures.near), omega (arith, h.0.at.ready.id.1))
+    let h = c.requires in (omega (arith, h.1.1.at, c.arrange_args-q.ensures.near), omega (arith, c.args.image.now.ready.id.1))
 
 pub note-noted-requires : goal.note-noted-requires
 note-noted-requires c =

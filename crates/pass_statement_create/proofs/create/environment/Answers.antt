@@ -1,6 +1,5 @@
 use mathlib.Core.Path.{subst}
 use native.Mathlib.Omega.{arith}
-use borrow.Author.Rules.{rules}
 use Rattle.pass_work_spec.specs.Work.{Work}
 use Rattle.pass_context.specs.Holding.{HoldsWork}
 use Rattle.pass_entries.specs.Masks.{kept_by_mask}

@@ -2,7 +2,6 @@
 use Prim.Native.Nat.{◌+◌, ◌≤◌}
 use mathlib.Core.Path.{◌≡◌, refl, sym, ap, ◌∙◌}
 use native.Mathlib.Omega.{arith}
-use borrow.Author.Rules.{rules}
 use lib.ListN.{length}
 use Rattle.syntax.specs.Arrays.{context_of, set_of}
 use Rattle.image_read_nodes.specs.Nodes.{record_at}
@@ -47,7 +46,7 @@ pub arrange-q-requires : goal.arrange-q-requires
 arrange-q-requires c =
     let n = c.context-next in (
       paired-fresh c.args.opened.right n.result (set_of c.ids.result) c.args.so_far.max_id (holds-count n.ensures) (omega (arith, next_few (goal.at.arrange-q-requires c).After-context-next)) c.freshen_unless-freshened.ensures,
-      (c.requires.1.1.0.workable, (omega (arith, c.requires.0.at.ready.id.1), c.requires.1.1.1)),
+      (c.requires.1.1.0.workable, (omega (arith, c.args.image.now.ready.id.1), c.requires.1.1.1)),
     )
 
 pub context-requires : goal.context-requires
@@ -57,7 +56,7 @@ pub put_create-place-requires : goal.put_create-place-requires
 put_create-place-requires c =
     let h = c.requires in
     let o = h.1.1.0.workable in
-    (omega (arith, h.1.1.1.at, c.arrange-q.ensures.near), (omega (arith, h.0.at.ready.id.1), omega (arith, held-count (workable-holds o) c.context.ensures, o.room)))
+    (omega (arith, h.1.1.1.at, c.arrange-q.ensures.near), (omega (arith, c.args.image.now.ready.id.1), omega (arith, held-count (workable-holds o) c.context.ensures, o.room)))
 
 pub note-noted-requires : goal.note-noted-requires
 note-noted-requires c =
@@ -79,6 +78,6 @@ pub returns : goal.returns
 returns c =
     let l = c.create-statement in
     let a = c.args in
-    create-steps {record' = record_at a.frame a.image.now a.i} l.result.var l.result.ty _ l.result.clauses l.ensures c.requires.1.1.0 c.filter_by_set-context_next.ensures c.context-next.ensures c.context.ensures
+    create-steps {record' = record_at a.image.now.frame a.image.now.bytes.now a.i} l.result.var l.result.ty _ l.result.clauses l.ensures c.requires.1.1.0 c.filter_by_set-context_next.ensures c.context-next.ensures c.context.ensures
     c.ids.ensures c.freshen_unless-freshened.ensures c.arrange-q.ensures c.put_create-place.ensures c.note-noted.ensures c.renamed.ensures
     c.own.ensures refl c.with_max_id.ensures

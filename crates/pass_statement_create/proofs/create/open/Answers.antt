@@ -4,7 +4,7 @@ use Prim.Native.Nat.{◌+◌, ◌*◌, ◌≤◌}
 use mathlib.Core.Path.{◌≡◌, sym, ◌∙◌}
 use mathlib.Core.List.{◌++◌}
 use native.Mathlib.Omega.{arith}
-use borrow.Author.Rules.{rules}
+use borrow.Author.Tests.{ne_eqb}
 use lib.ListN.{length-append}
 use Rattle.syntax.specs.Context.{same_context}
 use Rattle.pass_work_spec.specs.Work.{bindings}
@@ -26,8 +26,8 @@ env_few c =
     omega (arith, environment-few c.args.free_vars.clauses c.filter_by_set-context_next.result.len c.args.context c.environment-closure_environment.ensures, c.requires.1.0.room)
 
 -- .. and how many bytes its list has
-env_most : (c : After-environment-closure_environment) → c.environment-closure_environment.result.len * (6 + (c.args.frame.id + c.args.frame.id)) ≤ 1408
-env_most c = bindings-most _ c.args.frame.id (env_few c) (omega (arith, c.requires.0.at.ready.id.1))
+env_most : (c : After-environment-closure_environment) → c.environment-closure_environment.result.len * (6 + (c.args.image.now.frame.id + c.args.image.now.frame.id)) ≤ 1408
+env_most c = bindings-most _ c.args.image.now.frame.id (env_few c) (omega (arith, c.args.image.now.ready.id.1))
 
 -- the context is right, by the lengths first
 right_is : (c : Joined-context-kept) → c.if-context-kept.right ≡ same_context (bindings (work_of c.args.context)) (bindings (work_of c.filter_by_set-context_next.result) ++ bindings (work_of c.environment-closure_environment.result))
@@ -39,7 +39,7 @@ right_is c =
     let B = bindings (work_of env.result) in
     elim c.if-context-kept.branch [
       | then-context-kept w ↦ cc (w.right-is, w.same-right.ensures, w.context.ensures.list, w.context-then-context-kept.ensures.list)
-      | else-context-kept w ↦ w.right-is ∙ sym (other_length (A ++ B) a (omega (arith, length-append A B, bindings-count next.ensures, bindings-count env.ensures)) w.if-context-kept.false)
+      | else-context-kept w ↦ w.right-is ∙ ne_eqb _ _ w.if-context-kept.false ∙ sym (other_length (A ++ B) a (omega (arith, length-append A B, bindings-count next.ensures, bindings-count env.ensures)) w.if-context-kept.false)
     ]
 
 pub environment-closure_environment-requires : goal.environment-closure_environment-requires
@@ -66,12 +66,12 @@ overflow_add-own-3 c = record { fits = omega (arith, env_most (goal.at.overflow_
 
 pub overflow_add-own-4 : goal.overflow_add-own-4
 overflow_add-own-4 c =
-    record { fits = omega (arith, env_most (goal.at.overflow_add-own-4 c).After-environment-closure_environment, c.fixed.ensures, c.requires.0.at.ready.id.1) }
+    record { fits = omega (arith, env_most (goal.at.overflow_add-own-4 c).After-environment-closure_environment, c.fixed.ensures, c.args.image.now.ready.id.1) }
 
 pub reserve-progress-requires : goal.reserve-progress-requires
 reserve-progress-requires c =
     let h = c.requires in
-    (omega (arith, next_few (goal.at.reserve-progress-requires c).After-filter_by_set-context_next, env_few (goal.at.reserve-progress-requires c).After-environment-closure_environment), (omega (arith, env_most (goal.at.reserve-progress-requires c).After-environment-closure_environment, c.fixed.ensures, h.0.at.ready.id.1), (omega (arith, h.0.at.ready.id.1), h.1.1)))
+    (omega (arith, next_few (goal.at.reserve-progress-requires c).After-filter_by_set-context_next, env_few (goal.at.reserve-progress-requires c).After-environment-closure_environment), (omega (arith, env_most (goal.at.reserve-progress-requires c).After-environment-closure_environment, c.fixed.ensures, c.args.image.now.ready.id.1), (omega (arith, c.args.image.now.ready.id.1), h.1.1)))
 
 pub returns : goal.returns
 returns c =

@@ -1,5 +1,4 @@
 use mathlib.Core.Path.{refl}
-use borrow.Author.Rules.{rules}
 use Rattle.pass_work_spec.specs.Work.{respelled_unless}
 use Rattle.pass_statement_create.proofs.create.renamed.Goals as goal
 

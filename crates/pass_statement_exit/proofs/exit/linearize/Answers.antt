@@ -1,6 +1,5 @@
 -- `linearize` of an Exit meets its contract. Assumes nothing.
 use native.Mathlib.Omega.{arith}
-use borrow.Author.Rules.{rules}
 use Rattle.pass_statement_exit.proofs.ExitLaws.{exit-leaves}
 use Rattle.pass_statement_exit.proofs.exit.linearize.Goals as goal
 
@@ -11,7 +10,7 @@ pub used-var-requires : goal.used-var-requires
 used-var-requires c = omega (arith, c.requires.1.0.room)
 
 pub put_exit-next-requires : goal.put_exit-next-requires
-put_exit-next-requires c = let h = c.requires in (omega (arith, h.1.1.at), omega (arith, h.0.at.ready.id.1))
+put_exit-next-requires c = let h = c.requires in (omega (arith, h.1.1.at), omega (arith, c.args.image.now.ready.id.1))
 
 pub note-requires : goal.note-requires
 note-requires c =

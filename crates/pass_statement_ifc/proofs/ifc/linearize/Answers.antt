@@ -13,7 +13,7 @@ pub used-fst-requires : goal.used-fst-requires
 used-fst-requires c = omega (arith, c.requires.1.0.room)
 
 pub put_ifc-next-requires : goal.put_ifc-next-requires
-put_ifc-next-requires c = let h = c.requires in (omega (arith, h.1.1.at), omega (arith, h.0.at.ready.id.1))
+put_ifc-next-requires c = let h = c.requires in (omega (arith, h.1.1.at), omega (arith, c.args.image.now.ready.id.1))
 
 pub note-requires : goal.note-requires
 note-requires c =

@@ -1,10 +1,10 @@
 -- `linearize` of an Invoke meets its contract. Assumes nothing.
 -- ── the places, from the first to the last ──
 use Prim.Native.Nat.{◌≤◌}
-use mathlib.Core.Path.{◌≡◌, refl}
+use mathlib.Core.Path.{◌≡◌, refl, ◌∙◌}
 use mathlib.Core.List.{[], ◌∷◌, ◌++◌}
 use native.Mathlib.Omega.{arith}
-use borrow.Author.Rules.{rules}
+use borrow.Author.Tests.{ne_eqb}
 use Rattle.syntax.specs.Context.{same_context}
 use Rattle.syntax.specs.Arrays.{context_of}
 use Rattle.syntax.specs.declared.context.Chirality.TheVariants.{Cns}
@@ -31,7 +31,7 @@ right_is c =
     let Γ = context_of c.used_all-args.result in
     elim c.if-context-args.branch [
       | then-context-args w ↦ compared_right W Γ (holds-one w.empty.ensures w.push.ensures) w.same-right.ensures w.right-is
-      | else-context-args w ↦ uncounted_right W Γ _ c.requires.1.0.count (holds-count c.used_all-args.ensures) w.if-context-args.false w.right-is
+      | else-context-args w ↦ uncounted_right W Γ _ c.requires.1.0.count (holds-count c.used_all-args.ensures) w.if-context-args.false (w.right-is ∙ ne_eqb _ _ w.if-context-args.false)
     ]
 
 pub invoke-statement-requires : goal.invoke-statement-requires
@@ -65,11 +65,11 @@ freshen_unless-freshened-requires c =
 pub arrange_closure-q-requires : goal.arrange_closure-q-requires
 arrange_closure-q-requires c =
     let h = c.requires in
-    (paired-fresh _ _ _ _ (holds-count c.used_all-args.ensures) (omega (arith, few (goal.at.arrange_closure-q-requires c).After-used_all-args)) c.freshen_unless-freshened.ensures, (omega (arith, h.0.at.ready.id.1), h.1.1))
+    (paired-fresh _ _ _ _ (holds-count c.used_all-args.ensures) (omega (arith, few (goal.at.arrange_closure-q-requires c).After-used_all-args)) c.freshen_unless-freshened.ensures, (omega (arith, c.args.image.now.ready.id.1), h.1.1))
 
 pub put_invoke-next-requires : goal.put_invoke-next-requires
 put_invoke-next-requires c =
-    let h = c.requires in (omega (arith, h.1.1.at, c.arrange_closure-q.ensures.near), omega (arith, h.0.at.ready.id.1))
+    let h = c.requires in (omega (arith, h.1.1.at, c.arrange_closure-q.ensures.near), omega (arith, c.args.image.now.ready.id.1))
 
 pub note-noted-requires : goal.note-noted-requires
 note-noted-requires c =

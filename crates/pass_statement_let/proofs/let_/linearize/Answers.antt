@@ -4,7 +4,7 @@ use Prim.Native.Nat.{◌+◌, ◌≤◌}
 use mathlib.Core.Path.{◌≡◌, refl, sym, ◌∙◌}
 use mathlib.Core.List.{◌++◌}
 use native.Mathlib.Omega.{arith}
-use borrow.Author.Rules.{rules}
+use borrow.Author.Tests.{ne_eqb}
 use lib.ListN.{length-append}
 use Rattle.syntax.specs.Context.{same_context}
 use Rattle.syntax.specs.Arrays.{context_of, set_of}
@@ -35,7 +35,7 @@ right_is c =
     let B = context_of c.used_all-args.result in
     elim c.if-context-new_context.branch [
       | then-context-new_context w ↦ cc (w.right-is, w.same-right.ensures, w.context.ensures.list)
-      | else-context-new_context w ↦ w.right-is ∙ sym (other_length (A ++ B) c.requires.1.0 (omega (arith, length-append A B, bindings-count c.filter_by_set-new_context.ensures, holds-count c.used_all-args.ensures)) w.if-context-new_context.false)
+      | else-context-new_context w ↦ w.right-is ∙ ne_eqb _ _ w.if-context-new_context.false ∙ sym (other_length (A ++ B) c.requires.1.0 (omega (arith, length-append A B, bindings-count c.filter_by_set-new_context.ensures, holds-count c.used_all-args.ensures)) w.if-context-new_context.false)
     ]
 
 -- under fresh names they are paired with what is wanted in their places
@@ -76,12 +76,12 @@ freshen_unless-fresh-requires c = (
 pub arrange-q-requires : goal.arrange-q-requires
 arrange-q-requires c =
     let h = c.requires in
-    (paired (goal.at.arrange-q-requires c).After-freshen_unless-fresh, (held-workable c.filter_by_set-new_context.ensures (omega (arith, room (goal.at.arrange-q-requires c).After-filter_by_set-new_context)), (omega (arith, h.0.at.ready.id.1), h.1.1)))
+    (paired (goal.at.arrange-q-requires c).After-freshen_unless-fresh, (held-workable c.filter_by_set-new_context.ensures (omega (arith, room (goal.at.arrange-q-requires c).After-filter_by_set-new_context)), (omega (arith, c.args.image.now.ready.id.1), h.1.1)))
 
 pub put_let-next-requires : goal.put_let-next-requires
 put_let-next-requires c =
     let h = c.requires in
-    (omega (arith, h.1.1.at, c.arrange-q.ensures.near), (omega (arith, h.0.at.ready.id.1), (paired (goal.at.put_let-next-requires c).After-freshen_unless-fresh).few))
+    (omega (arith, h.1.1.at, c.arrange-q.ensures.near), (omega (arith, c.args.image.now.ready.id.1), (paired (goal.at.put_let-next-requires c).After-freshen_unless-fresh).few))
 
 pub note-noted-requires : goal.note-noted-requires
 note-noted-requires c =
@@ -96,4 +96,4 @@ returns c =
     let s = c.let_record-statement in
     let l = s.result in
     let e = c.freshen_unless-fresh in
-    let_steps {record' = record_at a.frame a.image.now a.i} l.var l.ty l.tag (context_of l.args) (work_of a.context) a.in_scope e.result s.ensures.is c.filter_by_set-new_context.ensures c.used_all-args.ensures c.ids.ensures (right_is (goal.at.returns c).Joined-context-new_context) e.ensures c.arrange-q.ensures c.put_let-next.ensures c.note-noted.ensures c.own.ensures refl c.with_max_id.ensures
+    let_steps {record' = record_at a.image.now.frame a.image.now.bytes.now a.i} l.var l.ty l.tag (context_of l.args) (work_of a.context) a.in_scope e.result s.ensures.is c.filter_by_set-new_context.ensures c.used_all-args.ensures c.ids.ensures (right_is (goal.at.returns c).Joined-context-new_context) e.ensures c.arrange-q.ensures c.put_let-next.ensures c.note-noted.ensures c.own.ensures refl c.with_max_id.ensures

@@ -32,12 +32,12 @@ filter_by_set-new_context-requires c = omega (arith, c.requires.1.0.room)
 pub arrange_kept-q-requires : goal.arrange_kept-q-requires
 arrange_kept-q-requires c =
     let h = c.requires in
-    (held-workable c.filter_by_set-new_context.ensures (omega (arith, room (goal.at.arrange_kept-q-requires c).After-filter_by_set-new_context)), (omega (arith, h.0.at.ready.id.1), h.1.1))
+    (held-workable c.filter_by_set-new_context.ensures (omega (arith, room (goal.at.arrange_kept-q-requires c).After-filter_by_set-new_context)), (omega (arith, c.args.image.now.ready.id.1), h.1.1))
 
 pub put_literal-next-requires : goal.put_literal-next-requires
 put_literal-next-requires c =
     let h = c.requires in
-    (omega (arith, h.1.1.at, c.arrange_kept-q.ensures.near), omega (arith, h.0.at.ready.id.1))
+    (omega (arith, h.1.1.at, c.arrange_kept-q.ensures.near), omega (arith, c.args.image.now.ready.id.1))
 
 pub note-progress-requires : goal.note-progress-requires
 note-progress-requires c =
@@ -50,4 +50,4 @@ pub returns : goal.returns
 returns c =
     let l = c.literal-statement.result in
     literal-steps l.lit l.var c.literal-statement.ensures c.filter_by_set-new_context.ensures (kept-right (in_mask c.args.free_vars_next) c.args.context c.requires.1.0.count c.filter_by_set-new_context.ensures) c.arrange_kept-q.ensures
-    (puts_as (ap (λ (x : ℤ). record_bytes c.args.frame.id (literal x l.var)) (exact (goal.at.returns c).After-literal-statement)) c.put_literal-next.ensures) c.note-progress.ensures c.own.ensures refl
+    (puts_as (ap (λ (x : ℤ). record_bytes c.args.image.now.frame.id (literal x l.var)) (exact (goal.at.returns c).After-literal-statement)) c.put_literal-next.ensures) c.note-progress.ensures c.own.ensures refl

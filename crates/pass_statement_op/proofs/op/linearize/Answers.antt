@@ -2,7 +2,6 @@
 use Prim.Native.Nat.{◌+◌, ◌≤◌}
 use mathlib.Core.Path.{refl}
 use native.Mathlib.Omega.{arith}
-use borrow.Author.Rules.{rules}
 use Rattle.pass_entries.specs.Masks.{in_mask}
 use Rattle.pass_step.proofs.StepLaws.{kept-room, held-workable}
 use Rattle.pass_step.proofs.RightLaws.{kept-right}
@@ -27,7 +26,7 @@ filter_by_set-new_context-requires c = omega (arith, c.requires.1.1.0.room)
 pub arrange_kept-q-requires : goal.arrange_kept-q-requires
 arrange_kept-q-requires c =
     let h = c.requires in
-    (held-workable c.filter_by_set-new_context.ensures (omega (arith, room (goal.at.arrange_kept-q-requires c).After-filter_by_set-new_context)), (omega (arith, h.0.at.ready.id.1), h.1.1.1))
+    (held-workable c.filter_by_set-new_context.ensures (omega (arith, room (goal.at.arrange_kept-q-requires c).After-filter_by_set-new_context)), (omega (arith, c.args.image.now.ready.id.1), h.1.1.1))
 
 pub used-fst-requires : goal.used-fst-requires
 used-fst-requires c = omega (arith, c.requires.1.1.0.room)
@@ -38,7 +37,7 @@ used-snd-requires c = omega (arith, c.requires.1.1.0.room)
 pub put_op-next-requires : goal.put_op-next-requires
 put_op-next-requires c =
     let h = c.requires in
-    (omega (arith, h.1.1.1.at, c.arrange_kept-q.ensures.near), omega (arith, h.0.at.ready.id.1))
+    (omega (arith, h.1.1.1.at, c.arrange_kept-q.ensures.near), omega (arith, c.args.image.now.ready.id.1))
 
 pub note-progress-requires : goal.note-progress-requires
 note-progress-requires c =

@@ -2,7 +2,6 @@
 use Prim.Native.Nat.{◌≤◌}
 use mathlib.Core.Path.{refl, ◌∙◌}
 use native.Mathlib.Omega.{arith}
-use borrow.Author.Rules.{rules}
 use Rattle.pass_entries.specs.Masks.{in_mask}
 use Rattle.pass_context.specs.Holding.{work_of}
 use Rattle.pass_step.proofs.StepLaws.{kept-room, held-workable}
@@ -28,7 +27,7 @@ filter_by_set-new_context-requires c = omega (arith, c.requires.1.1.0.room)
 pub arrange_kept-q-requires : goal.arrange_kept-q-requires
 arrange_kept-q-requires c =
     let h = c.requires in
-    (held-workable c.filter_by_set-new_context.ensures (few (goal.at.arrange_kept-q-requires c).After-filter_by_set-new_context), (omega (arith, h.0.at.ready.id.1), h.1.1.1))
+    (held-workable c.filter_by_set-new_context.ensures (few (goal.at.arrange_kept-q-requires c).After-filter_by_set-new_context), (omega (arith, c.args.image.now.ready.id.1), h.1.1.1))
 
 pub used-var-requires : goal.used-var-requires
 used-var-requires c = omega (arith, c.requires.1.1.0.room)
@@ -36,7 +35,7 @@ used-var-requires c = omega (arith, c.requires.1.1.0.room)
 pub put_print-next-requires : goal.put_print-next-requires
 put_print-next-requires c =
     let h = c.requires in
-    (omega (arith, h.1.1.1.at, c.arrange_kept-q.ensures.near), omega (arith, h.0.at.ready.id.1))
+    (omega (arith, h.1.1.1.at, c.arrange_kept-q.ensures.near), omega (arith, c.args.image.now.ready.id.1))
 
 pub note-progress-requires : goal.note-progress-requires
 note-progress-requires c =

@@ -1,6 +1,5 @@
 -- `linearize` of a Switch meets its contract. Assumes nothing.
 use native.Mathlib.Omega.{arith}
-use borrow.Author.Rules.{rules}
 use Rattle.pass_step.proofs.OpenLaws.{workable-holds, ids-few}
 use Rattle.pass_statement_switch.proofs.SwitchLaws.{switch_leaves}
 use Rattle.pass_statement_switch.proofs.switch.linearize.Goals as goal
@@ -12,11 +11,11 @@ fresh_var-fresh-requires c =
     (omega (arith, ids-few (workable-holds o) c.ids.ensures, o.room), h.1.max_id)
 
 pub arrange_one-q-requires : goal.arrange_one-q-requires
-arrange_one-q-requires c = let h = c.requires in (h.1.1.0.workable, (omega (arith, h.0.at.ready.id.1), h.1.1.1))
+arrange_one-q-requires c = let h = c.requires in (h.1.1.0.workable, (omega (arith, c.args.image.now.ready.id.1), h.1.1.1))
 
 pub put_switch-next-requires : goal.put_switch-next-requires
 put_switch-next-requires c =
-    let h = c.requires in (omega (arith, h.1.1.1.at, c.arrange_one-q.ensures.near), omega (arith, h.0.at.ready.id.1))
+    let h = c.requires in (omega (arith, h.1.1.1.at, c.arrange_one-q.ensures.near), omega (arith, c.args.image.now.ready.id.1))
 
 pub note-noted-requires : goal.note-noted-requires
 note-noted-requires c =

@@ -1,9 +1,9 @@
 -- `open` of a Switch meets its contract. Assumes nothing.
-use Prim.Native.Nat.{◌+◌, ◌≤◌}
+use Prim.Native.Nat.{◌≤◌}
 use mathlib.Core.Path.{◌≡◌, sym, ◌∙◌}
 use mathlib.Core.List.{[], ◌∷◌, ◌++◌}
 use native.Mathlib.Omega.{arith}
-use borrow.Author.Rules.{rules}
+use borrow.Author.Tests.{ne_eqb}
 use lib.ListN.{length-append}
 use Rattle.syntax.specs.Context.{same_context}
 use Rattle.pass_work_spec.specs.Work.{bindings}
@@ -27,7 +27,7 @@ right_is c =
     let last = c.matched-xtor.result ∷ [] in
     elim c.if-context-new_context.branch [
       | then-context-new_context w ↦ cc (w.right-is, w.same-right.ensures, w.context.ensures.list, (holds-one w.empty.ensures w.push.ensures).list)
-      | else-context-new_context w ↦ w.right-is ∙ sym (other_length (list ++ last) a (omega (arith, length-append list last, bindings-count new.ensures)) w.if-context-new_context.false)
+      | else-context-new_context w ↦ w.right-is ∙ ne_eqb _ _ w.if-context-new_context.false ∙ sym (other_length (list ++ last) a (omega (arith, length-append list last, bindings-count new.ensures)) w.if-context-new_context.false)
     ]
 
 pub overflow_add-new_context : goal.overflow_add-new_context
@@ -43,7 +43,7 @@ overflow_add-new_context-2 c = record { fits = omega (arith, kept_few (goal.at.o
 pub reserve-progress-requires : goal.reserve-progress-requires
 reserve-progress-requires c =
     let h = c.requires in
-    (omega (arith, kept_few (goal.at.reserve-progress-requires c).After-filter_by_set-new_context), (omega (arith, c.fixed.ensures, h.0.at.ready.id.1), (omega (arith, h.0.at.ready.id.1), h.1.1)))
+    (omega (arith, kept_few (goal.at.reserve-progress-requires c).After-filter_by_set-new_context), (omega (arith, c.fixed.ensures, c.args.image.now.ready.id.1), (omega (arith, c.args.image.now.ready.id.1), h.1.1)))
 
 pub returns : goal.returns
 returns c =

@@ -1,6 +1,5 @@
 use mathlib.Core.Path.{refl}
 use native.Mathlib.Omega.{arith}
-use borrow.Author.Rules.{rules}
 use Rattle.pass_step.proofs.ReserveLaws.{pairs-most}
 use Rattle.pass_step.proofs.reserve.reserve.Goals as goal
 

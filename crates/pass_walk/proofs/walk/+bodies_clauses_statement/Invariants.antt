@@ -1,11 +1,11 @@
 -- The walk that linearizes: a statement, its clauses and its bodies call each other, and the remaining depth falls. At one depth clauses and
 -- bodies are above their statements. Assumes nothing.
-use Prim.Native.Nat.{◌+◌, ◌*◌}
+use Prim.Native.Nat.{◌+◌, ◌-◌, ◌*◌}
 use mathlib.Core.Path.{◌≡◌}
 use lib.ListN.{length}
 use Rattle.image_spec.specs.Parse.{each}
 use Rattle.image_spec.specs.Shape.{flatten, flatten_clauses}
-use Rattle.image_directory.specs.Slots.{records_in}
+use Rattle.image_directory.specs.Images.{records_of}
 use Rattle.image_places_spec.specs.Places.{clauses_at, bodies_at}
 use Rattle.image_places_spec.proofs.Steps.{ClausesLeft, BodiesLeft}
 use Rattle.pass_work_spec.specs.Work.{work_clauses}
@@ -23,26 +23,20 @@ decreases-clauses l = 2 * l.depth + 1
 abbrev pub decreases-statement : goal.decreases-statement
 decreases-statement l = 2 * l.depth
 
-abbrev pub invariant-bodies-loop-left : goal.invariant-bodies-loop-left
-invariant-bodies-loop-left l =
-    let ts = bodies_at l.depth l.n (records_in l.frame l.image) l.i in
+abbrev pub invariant-bodies-loop : goal.invariant-bodies-loop
+invariant-bodies-loop l =
+    let ts = bodies_at l.depth l.n (records_of l.image) l.i in
     let all = work_bodies ts (work_of l.context) l.in_scope l.initial.here.progress.max_id in
     (length l.out ≡ length l.initial.out)
     × ((length l.lengths ≡ length l.initial.lengths)
-    × BodiesLeft l.depth (records_in l.frame l.image) (l.i + length (each flatten ts)) l.left l.here.next
-    (BodiesWriting l.frame.id l.rows l.context l.in_scope (each flatten all.0) all.1 l.initial.out l.out l.initial.lengths l.lengths l.initial.here.progress l.here))
+    × BodiesLeft l.depth (records_of l.image) (l.i + length (each flatten ts)) (l.n - l.counter) l.here.next
+    (BodiesWriting l.image.frame.id l.rows l.context l.in_scope (each flatten all.0) all.1 l.initial.out l.out l.initial.lengths l.lengths l.initial.here.progress l.here))
 
-abbrev pub decreases-bodies-loop-left : goal.decreases-bodies-loop-left
-decreases-bodies-loop-left l = l.left
-
-abbrev pub invariant-clauses-loop-left : goal.invariant-clauses-loop-left
-invariant-clauses-loop-left l =
-    let cs = clauses_at l.depth l.n (records_in l.frame l.image) l.i in
+abbrev pub invariant-clauses-loop : goal.invariant-clauses-loop
+invariant-clauses-loop l =
+    let cs = clauses_at l.depth l.n (records_of l.image) l.i in
     let all = work_clauses cs l.before (work_of l.context) l.in_scope l.initial.here.progress.max_id in
     (length l.out ≡ length l.initial.out)
     × ((length l.lengths ≡ length l.initial.lengths)
-    × ClausesLeft l.depth (records_in l.frame l.image) (l.i + length (flatten_clauses cs)) l.left l.here.next
-    (ClausesWriting l.frame.id l.rows l.before l.context l.in_scope (flatten_clauses all.0) all.1 l.initial.out l.out l.initial.lengths l.lengths l.initial.here.progress l.here))
-
-abbrev pub decreases-clauses-loop-left : goal.decreases-clauses-loop-left
-decreases-clauses-loop-left l = l.left
+    × ClausesLeft l.depth (records_of l.image) (l.i + length (flatten_clauses cs)) (l.n - l.counter) l.here.next
+    (ClausesWriting l.image.frame.id l.rows l.before l.context l.in_scope (flatten_clauses all.0) all.1 l.initial.out l.out l.initial.lengths l.lengths l.initial.here.progress l.here))

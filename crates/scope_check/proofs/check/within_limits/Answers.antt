@@ -3,4 +3,4 @@ use Rattle.scope_check.proofs.CheckLaws.{defined-stand}
 use Rattle.scope_check.proofs.check.within_limits.Goals as goal
 
 pub all_shallow-requires : goal.all_shallow-requires
-all_shallow-requires c = (c.requires.0, defined-stand c.requires.1)
+all_shallow-requires c = defined-stand c.requires

@@ -1,26 +1,17 @@
 -- `all_shallow` meets its contract. Assumes nothing.
-use borrow.Author.Rules.{rules}
 use mathlib.Core.Path.{refl, sym, ◌∙◌}
 use native.Mathlib.Omega.{arith}
-use lib.Dec.{leb}
-use Rattle.model.specs.Sizes.{depth_defs}
-use Rattle.image_directory.specs.Slots.{records_in}
 use Rattle.image_directory.proofs.Places.{records-length}
-use Rattle.scope_check.specs.Definitions.{defs_in}
 use Rattle.scope_check.proofs.DefLaws.{recount, def-next, depth-turn, depth-no, depth-end}
 use Rattle.scope_check.proofs.definitions.all_shallow.Goals as goal
 
 pub loop-init : goal.loop-init
-loop-init c = recount {left = c.args.defs} (omega arith) record { rest = _; stand = c.requires.1; holds = record { same = refl } }
+loop-init c = recount {left = c.args.opened.now.definitions} (omega arith) record { rest = _; stand = c.requires; holds = record { same = refl } }
 
 pub overflow_add-at : goal.overflow_add-at
 overflow_add-at c =
-    let a = c.args in
-    let h = c.requires.0 in
-    omega (arith, (def-next c.loop.invariant (omega arith)).inside, records-length a.frame a.image.now h, h.few)
-
-pub statement-requires : goal.statement-requires
-statement-requires c = c.requires.0
+    let m = c.args.opened.now.image in
+    omega (arith, (def-next c.loop.invariant (omega arith)).inside, records-length m.frame m.bytes.now m.ready, m.ready.few)
 
 pub loop-preserved : goal.loop-preserved
 loop-preserved c = recount (omega arith) (depth-turn (def-next c.loop.invariant (omega arith)) _ (sym c.statement.ensures ∙ c.in-Some.is))

@@ -1,45 +1,35 @@
 -- `walk_definitions` meets its contract. Assumes nothing.
 use Prim.Native.Nat.{ℕ}
-use mathlib.Core.Path.{◌≡◌, refl, sym, ◌∙◌}
+use mathlib.Core.Path.{refl, sym, ◌∙◌}
 use native.Mathlib.Omega.{arith}
-use borrow.Author.Rules.{rules}
-use lib.ListN.{length, length-replicate}
-use lib.Seq.{sets}
-use Rattle.image_directory.specs.Slots.{records_in}
+use lib.ListN.{length-replicate}
 use Rattle.image_directory.proofs.Places.{records-length}
-use Rattle.scope_spec.specs.Walk.{clean, walk_defs}
-use Rattle.scope_spec.specs.FreeRows.{rows_defs}
-use Rattle.scope_check.specs.Definitions.{defs_in}
-use Rattle.scope_walk.specs.Masks.{SourcedDefs}
 use Rattle.scope_check.proofs.DefLaws.{recount, def-next, def-kind}
-use Rattle.scope_check.proofs.DefWalks.{WalksDefs, def-walked, walked-defs}
+use Rattle.scope_check.proofs.DefWalks.{def-walked, walked-defs}
 use Rattle.scope_check.proofs.definitions.walk_definitions.Goals as goal
 
 pub loop-init : goal.loop-init
-loop-init c = (length-replicate {A = ℕ} 64 0, (refl, recount {left = c.args.defs} (omega arith) record { rest = _; stand = c.requires.1; holds = record { same = refl; masks = λ q. record { sourced = q; rows_are = refl } } }))
+loop-init c = (length-replicate {A = ℕ} 64 0, (refl, recount {left = c.args.opened.now.definitions} (omega arith) record { rest = _; stand = c.requires; holds = record { same = refl; masks = λ q. record { sourced = q; rows_are = refl } } }))
 
 pub enter_head-e-requires : goal.enter_head-e-requires
 enter_head-e-requires c =
-    let a = c.args in
-    let h = c.requires.0 in
+    let m = c.args.opened.now.image in
     let l = c.loop.invariant in
     let x = def-next l.1.1 (omega arith) in
-    (record { ready = h; inside = omega (arith, x.inside, records-length a.frame a.image.now h); kind = def-kind x }, (refl, record { small = omega arith; room = omega (arith, l.0) }))
+    (record { inside = omega (arith, x.inside, records-length m.frame m.bytes.now m.ready); kind = def-kind x }, (refl, record { small = omega arith; room = omega (arith, l.0) }))
 
 pub overflow_add-here : goal.overflow_add-here
 overflow_add-here c =
-    let a = c.args in
-    let h = c.requires.0 in
-    omega (arith, (def-next c.loop.invariant.1.1 (omega arith)).inside, records-length a.frame a.image.now h, h.few)
+    let m = c.args.opened.now.image in
+    omega (arith, (def-next c.loop.invariant.1.1 (omega arith)).inside, records-length m.frame m.bytes.now m.ready, m.ready.few)
 
 pub statement-b-requires : goal.statement-b-requires
-statement-b-requires c = (c.requires.0, ((def-next c.loop.invariant.1.1 (omega arith)).body, c.enter_head-e.ensures.scope))
+statement-b-requires c = ((def-next c.loop.invariant.1.1 (omega arith)).body, c.enter_head-e.ensures.scope)
 
 pub put_row-requires : goal.put_row-requires
 put_row-requires c =
-    let a = c.args in
-    let h = c.requires.0 in
-    omega (arith, (def-next c.loop.invariant.1.1 (omega arith)).inside, records-length a.frame a.image.now h, h.few)
+    let m = c.args.opened.now.image in
+    omega (arith, (def-next c.loop.invariant.1.1 (omega arith)).inside, records-length m.frame m.bytes.now m.ready, m.ready.few)
 
 pub loop-preserved : goal.loop-preserved
 loop-preserved c =

@@ -4,7 +4,6 @@ use mathlib.Core.List.{[], ◌∷◌}
 use Rattle.syntax.specs.declared.names.Identifier.{Identifier}
 use Rattle.scope_places.specs.Scoping.{scoped_of}
 use Rattle.scope_places.proofs.EnterLaws.{entered-same}
-use borrow.Author.Rules.{rules}
 use Rattle.scope_nodes.proofs.nodes.enter_first.Goals as goal
 
 pub returns : goal.returns

@@ -2,7 +2,6 @@
 use mathlib.Core.Path.{ap, ◌∙◌}
 use mathlib.Core.List.{[], ◌∷◌}
 use Rattle.syntax.specs.declared.names.Identifier.{Identifier}
-use borrow.Author.Rules.{rules}
 use Rattle.scope_places.specs.Scoping.{scope_in, used_all_lem}
 use Rattle.scope_nodes.proofs.nodes.use_operand.Goals as goal
 

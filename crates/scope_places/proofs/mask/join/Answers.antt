@@ -4,7 +4,6 @@ use mathlib.Core.Path.{◌≡◌, sym, ap, ◌∙◌}
 use native.Mathlib.Omega.{arith}
 use lib.Bits.{bit_or}
 use lib.Pow.{pow_pos}
-use borrow.Author.Rules.{rules}
 use Rattle.scope_places.proofs.MaskLaws.{one_shifted}
 use Rattle.scope_places.proofs.mask.join.Goals as goal
 

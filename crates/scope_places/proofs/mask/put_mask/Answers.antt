@@ -1,6 +1,5 @@
 -- `put_mask` meets its contract. Assumes nothing.
 use mathlib.Core.Path.{sym}
-use borrow.Author.Rules.{rules}
 use Rattle.image_write_parts.proofs.Putting.{set_past}
 use Rattle.scope_places.proofs.mask.put_mask.Goals as goal
 

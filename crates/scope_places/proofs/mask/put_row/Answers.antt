@@ -4,7 +4,6 @@ use mathlib.Core.Path.{ap₂, ◌∙◌}
 use mathlib.Core.List.{List}
 use native.Mathlib.Numerals.{add-one}
 use lib.ListN.{set}
-use borrow.Author.Rules.{rules}
 use Rattle.scope_places.proofs.mask.put_row.Goals as goal
 
 pub returns : goal.returns

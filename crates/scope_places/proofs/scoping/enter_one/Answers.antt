@@ -1,15 +1,25 @@
 -- `enter_one` meets its contract. Assumes nothing.
-use mathlib.Core.Path.{ap, ◌∙◌}
-use mathlib.Core.Bool.{Bool, not, ◌&&◌}
+use mathlib.Core.Path.{◌≡◌, ap, ◌∙◌}
+use mathlib.Core.Bool.{not, ◌&&◌}
+use lib.Dec.{leb}
+use Rattle.syntax.specs.Sets.{elem}
+use Rattle.scope_places.specs.Scoping.{scope_in}
 use Rattle.scope_places.proofs.EnterLaws.{entered-room, entered-full}
-use borrow.Author.Rules.{rules}
 use Rattle.scope_places.proofs.scoping.enter_one.Goals as goal
+use Rattle.scope_places.proofs.scoping.enter_one.Goals.{then-verdict, else-verdict, then-verdict-2, else-verdict-2}
 
 pub returns-then-n-lt-MAX : goal.returns-then-n-lt-MAX
 returns-then-n-lt-MAX c =
     let a = c.args in
-    entered-room a.max_id a.id a.scope.now a.e c.requires c.if-n-lt-MAX.true
-    (c.both-binders.ensures ∙ ap (λ (b : Bool). a.e.verdict.binders && b) (c.negated.ensures ∙ ap not c.contains.ensures)) c.both-ids.ensures
+    let p : c.if-verdict.binders ≡ (a.e.verdict.binders && not (elem a.id (scope_in a.e.n a.scope.now))) = elim c.if-verdict.branch [
+      | then-verdict w ↦ rw w.if-verdict.true (w.binders-is ∙ ap not w.contains.ensures)
+      | else-verdict w ↦ rw w.if-verdict.false (w.binders-is ∙ w.if-verdict.false)
+    ] in
+    let q : c.if-verdict-2.ids ≡ (a.e.verdict.ids && leb a.id.0 a.max_id) = elim c.if-verdict-2.branch [
+      | then-verdict-2 w ↦ rw w.if-verdict-2.true w.ids-is
+      | else-verdict-2 w ↦ rw w.if-verdict-2.false (w.ids-is ∙ w.if-verdict-2.false)
+    ] in
+    entered-room a.max_id a.id a.scope.now a.e c.requires c.if-n-lt-MAX.true p q
 
 pub returns : goal.returns
 returns c =

@@ -1,5 +1,4 @@
 -- `passes` meets its contract. Assumes nothing.
-use borrow.Author.Rules.{rules}
 use Rattle.scope_records.proofs.flat.passes.Goals as goal
 
 pub returns-in-Plain : goal.returns-in-Plain

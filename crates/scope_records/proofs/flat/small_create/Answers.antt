@@ -6,13 +6,13 @@ use Rattle.scope_records.proofs.flat.small_create.Goals as goal
 pub unwrap-node-requires : goal.unwrap-node-requires
 unwrap-node-requires c =
     let a = c.args in
-    let v = seen a.frame a.image.now a.i c.requires.ready c.requires.inside in
+    let v = seen a.image.now.frame a.image.now.bytes.now a.i c.args.image.now.ready c.requires.inside in
     rw (c.look.ensures, v.list) refl
 
 pub returns-then-small_environment : goal.returns-then-small_environment
 returns-then-small_environment c =
     let a = c.args in
-    let h = looked a.frame a.image.now a.i _ c.requires.ready (sym c.look.ensures ∙ c.unwrap-node.ensures) in
+    let h = looked a.image.now.frame a.image.now.bytes.now a.i _ c.args.image.now.ready (sym c.look.ensures ∙ c.unwrap-node.ensures) in
     rw (← c.small_environment.ensures, c.if-small_environment.true, h.count) refl
 
 pub returns-else-small_environment : goal.returns-else-small_environment

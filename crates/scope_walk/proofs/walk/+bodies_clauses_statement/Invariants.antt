@@ -1,9 +1,9 @@
-use Rattle.std.proofs.Common.{◌≡◌, ◌+◌, ◌*◌, length}
+use Rattle.std.proofs.Common.{◌≡◌, ◌+◌, ◌-◌, ◌*◌, length}
 use Rattle.std.proofs.lemmas.List.Edits.{sets}
 use Rattle.model.specs.FreeVars.{free_vars_clauses}
 use Rattle.image_spec.specs.Parse.{each, All}
 use Rattle.image_spec.specs.Shape.{flatten, flatten_clauses}
-use Rattle.image_directory.specs.Slots.{records_in}
+use Rattle.image_directory.specs.Images.{records_of}
 use Rattle.image_places_spec.specs.Places.{clauses_at, bodies_at}
 use Rattle.image_places_spec.proofs.Steps.{ClausesLeft, BodiesLeft}
 use Rattle.scope_spec.specs.Walk.{walk_clauses, walk_bodies}
@@ -22,26 +22,20 @@ decreases-clauses l = 2 * l.depth + 1
 abbrev pub decreases-statement : goal.decreases-statement
 decreases-statement l = 2 * l.depth
 
-abbrev pub invariant-bodies-loop-left : goal.invariant-bodies-loop-left
-invariant-bodies-loop-left l =
+abbrev pub invariant-bodies-loop : goal.invariant-bodies-loop
+invariant-bodies-loop l =
     let Δ = scope_in l.n l.initial.scope in
-    let ts = bodies_at l.depth l.count (records_in l.frame l.image) l.i in
+    let ts = bodies_at l.depth l.count (records_of l.image) l.i in
     Kept l.n l.initial.scope l.scope
     × ((length l.rows ≡ length l.initial.rows)
-    × BodiesLeft l.depth (records_in l.frame l.image) (l.i + length (each flatten ts)) l.left l.here.next
+    × BodiesLeft l.depth (records_of l.image) (l.i + length (each flatten ts)) (l.count - l.counter) l.here.next
     (WalksBodies (All (Sourced Δ) ts) l.max_id Δ (walk_bodies ts l.max_id Δ l.initial.here.verdict) (mask_of (free_bodies ts) Δ) (sets l.initial.rows (2 * l.i) (rows_bodies ts Δ)) l.rows l.here))
 
-abbrev pub decreases-bodies-loop-left : goal.decreases-bodies-loop-left
-decreases-bodies-loop-left l = l.left
-
-abbrev pub invariant-clauses-loop-left : goal.invariant-clauses-loop-left
-invariant-clauses-loop-left l =
+abbrev pub invariant-clauses-loop : goal.invariant-clauses-loop
+invariant-clauses-loop l =
     let Δ = scope_in l.n l.initial.scope in
-    let cs = clauses_at l.depth l.count (records_in l.frame l.image) l.i in
+    let cs = clauses_at l.depth l.count (records_of l.image) l.i in
     Kept l.n l.initial.scope l.scope
     × ((length l.rows ≡ length l.initial.rows)
-    × ClausesLeft l.depth (records_in l.frame l.image) (l.i + length (flatten_clauses cs)) l.left l.here.next
+    × ClausesLeft l.depth (records_of l.image) (l.i + length (flatten_clauses cs)) (l.count - l.counter) l.here.next
     (WalksClauses (SourcedClauses Δ cs) l.max_id Δ (walk_clauses cs l.max_id Δ l.initial.here.verdict) (mask_of (free_vars_clauses cs) Δ) (sets l.initial.rows (2 * l.i) (rows_clauses cs Δ)) l.rows l.here))
-
-abbrev pub decreases-clauses-loop-left : goal.decreases-clauses-loop-left
-decreases-clauses-loop-left l = l.left

@@ -15,65 +15,66 @@ use Rattle.step_rule.specs.Rules.{ProgramOf, Stored}
 use Rattle.step_cells.proofs.CellLaws.{OfCreate}
 use Rattle.step_order.specs.Stopping.{TagOf, work_at}
 use Rattle.step_order.proofs.PartLaws.{held-inside, held-keys}
+use borrow.Author.Tests.{ne_eqb}
 use Rattle.step_order.proofs.EnterLaws.{Enters, missing, fewer, as_many}
 use Rattle.step_order.proofs.StopLaws.{reads-stored, fewer-values, last-create, invoke-goes, invoke-enters}
 use borrow.Author.Rules.{rules}
 use Rattle.step_order.proofs.entering.invoke.Goals as goal
-use Rattle.step_order.proofs.entering.invoke.Goals.{After-clause_of, After-less}
+use Rattle.step_order.proofs.entering.invoke.Goals.{After-clause_of, After-saturating_sub-values}
 
 -- the last value is a Create's cell
 the_create : (c : After-clause_of) {M : Machine} {P : Prog} {l : Located} →
     let a = c.args in
     Stored M P a.store.now a.header l → OfCreate P a.store.now a.header l (last_value_lem l.environment) c.last_cell-cell.result
-the_create c o = last-create o c.last_cell-cell.ensures c.if-sort-ne4.false
+the_create c o = last-create o c.last_cell-cell.ensures c.if-cell-ne4.false
 
 -- the machine enters what the search answers, by the tag that was read
 enters : (c : After-clause_of) {M : Machine} {P : Prog} {l : Located} →
     let a = c.args in
-    ProgramOf P a.stepper a.image.now → (o : Stored M P a.store.now a.header l)
-    → Enters a.stepper.frame a.image.now c.clause_of.result (values (before_last 1 l.environment)) (λ new. new ++ (the_create c o).entries) (is_stop (work_at P l))
+    ProgramOf P a.stepper.now a.stepper.now.image.bytes.now → (o : Stored M P a.store.now a.header l)
+    → Enters a.stepper.now.image.frame a.stepper.now.image.bytes.now c.clause_of.result (values (before_last 1 l.environment)) (λ new. new ++ (the_create c o).entries) (is_stop (work_at P l))
 enters c p o =
-    invoke-enters p o c.last_cell-cell.ensures c.requires.0 (subst (λ (i : ℕ). TagOf (record_at c.args.stepper.frame c.args.image.now i) c.tag.result) c.long.ensures c.tag.ensures) (the_create c o) c.long-2.ensures c.wide.ensures c.clause_of.ensures
+    invoke-enters p o c.last_cell-cell.ensures c.requires.0 c.args.stepper.now.image.ready (subst (λ (i : ℕ). TagOf (record_at c.args.stepper.now.image.frame c.args.stepper.now.image.bytes.now i) c.tag.result) c.long.ensures c.tag.ensures) (the_create c o) c.long-2.ensures c.from.ensures c.clause_of.ensures
 
 -- how many values there are for its parameters
-counted : (c : After-less) {M : Machine} {P : Prog} {l : Located} →
+counted : (c : After-saturating_sub-values) {M : Machine} {P : Prog} {l : Located} →
     let a = c.args in
-    Stored M P a.store.now a.header l → length (values (before_last 1 l.environment)) ≡ c.less.result
-counted c o = fewer-values o ∙ sym (c.less.ensures ∙ ap (λ (n : ℕ). n - 1) c.place.ensures)
+    Stored M P a.store.now a.header l → length (values (before_last 1 l.environment)) ≡ c.saturating_sub-values.result
+counted c o = fewer-values o ∙ sym c.saturating_sub-values.ensures
 
-pub returns-then-sort-ne4 : goal.returns-then-sort-ne4
-returns-then-sort-ne4 c = record {
+pub returns-then-cell-ne4 : goal.returns-then-cell-ne4
+returns-then-cell-ne4 c = record {
   is = λ P l p o e g.
       let w = reads-stored o e g in
-      invoke-goes p w c.last_cell-cell.ensures c.requires.0 c.if-sort-ne4.true;
+      invoke-goes p w c.last_cell-cell.ensures c.requires.0 c.if-cell-ne4.true;
 }
 
 pub tag-requires : goal.tag-requires
-tag-requires c = subst (λ (i : ℕ). At c.args.stepper.frame c.args.image.now i 7) (sym c.long.ensures) c.requires.0
+tag-requires c = subst (λ (i : ℕ). At c.args.stepper.now.image.frame c.args.stepper.now.image.bytes.now i 7) (sym c.long.ensures) c.requires.0
 
 pub list_row-parameters-requires : goal.list_row-parameters-requires
 list_row-parameters-requires c = (c.clause_of.ensures.at _ c.in-Some.is, refl)
 
-pub returns-then-count-less : goal.returns-then-count-less
-returns-then-count-less c = record {
+pub returns-else-parameters-values : goal.returns-else-parameters-values
+returns-else-parameters-values c = record {
   is = λ P l p o e g.
       let w = reads-stored o e g in
-      fewer (enters (goal.at.returns-then-count-less c).After-clause_of p w) c.in-Some.is c.list_row-parameters.ensures (λ m. c.if-count-less.true (m ∙ counted (goal.at.returns-then-count-less c).After-less w));
+      ne_eqb _ _ c.if-parameters-values.false ∙ fewer (enters (goal.at.returns-else-parameters-values c).After-clause_of p w) c.in-Some.is c.list_row-parameters.ensures (λ m. c.if-parameters-values.false (m ∙ counted (goal.at.returns-else-parameters-values c).After-saturating_sub-values w));
 }
 
 pub repeats-requires : goal.repeats-requires
 repeats-requires c =
-    (c.list_row-parameters.ensures.inside, (held-inside c.args.store.now c.args.header c.requires.1.0 c.last_cell-cell.ensures c.slot_row-held.ensures, λ t. absurd (false≢true t)))
+    (c.list_row-parameters.ensures.inside, (held-inside c.args.store.now c.args.header c.requires.1 c.last_cell-cell.ensures c.slot_row-held.ensures, λ t. absurd (false≢true t)))
 
-pub returns-else-count-less : goal.returns-else-count-less
-returns-else-count-less c = record {
+pub returns-then-parameters-values : goal.returns-then-parameters-values
+returns-then-parameters-values c = record {
   is = λ P l p o e g.
       let a = c.args in
       let w = reads-stored o e g in
-      let xs = ids_in a.image.now c.list_row-parameters.result in
+      let xs = ids_in a.stepper.now.image.bytes.now c.list_row-parameters.result in
       let ys = ids_in a.store.now c.slot_row-held.result in
-      let m = the_create (goal.at.returns-else-count-less c).After-clause_of w in
-      as_many (enters (goal.at.returns-else-count-less c).After-clause_of p w) c.in-Some.is c.list_row-parameters.ensures (c.if-count-less.false ∙ sym (counted (goal.at.returns-else-count-less c).After-less w)) (xs ++ ys)
+      let m = the_create (goal.at.returns-then-parameters-values c).After-clause_of w in
+      as_many (enters (goal.at.returns-then-parameters-values c).After-clause_of p w) c.in-Some.is c.list_row-parameters.ensures (c.if-parameters-values.true ∙ sym (counted (goal.at.returns-then-parameters-values c).After-saturating_sub-values w)) (xs ++ ys)
       (λ new q. map-append _ new m.entries ∙ ap₂ {C = List VarId} (λ (a b : List VarId). a ++ b) q (sym (held-keys w m c.slot_row-held.ensures))) c.repeats.ensures;
 }
 

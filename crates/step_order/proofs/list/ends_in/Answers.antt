@@ -11,11 +11,11 @@ use Rattle.step_order.proofs.list.ends_in.Goals as goal
 
 pub same-requires : goal.same-requires
 same-requires c =
-    let i = inside-behind c.args.store.now c.args.row c.less-others.result c.requires.1 (omega (arith, c.less-others.ensures)) in
+    let i = inside-behind c.args.store.now c.args.row c.saturating_sub-others.result c.requires.1 (omega (arith, c.saturating_sub-others.ensures)) in
     (subst (Inside c.args.store.now) (sym c.behind-last.ensures) i, c.requires.0)
 
 pub returns : goal.returns
 returns c =
     let a = c.args in
-    let e = c.behind-last.ensures ∙ ap (behind_of a.row) c.less-others.ensures in
+    let e = c.behind-last.ensures ∙ ap (behind_of a.row) c.saturating_sub-others.ensures in
     c.same.ensures ∙ (ap (λ (r : Row). same_ids (ids_in a.store.now r) (ids_in a.image.now a.listed)) e ∙ ends-behind a.store.now a.row a.image.now a.listed)

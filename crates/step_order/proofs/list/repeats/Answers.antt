@@ -1,32 +1,39 @@
 -- `repeats` meets its contract. Assumes nothing.
 use mathlib.Core.Path.{◌≡◌, sym, ap, ◌∙◌}
 use mathlib.Core.Bool.{not, ◌&&◌}
-use mathlib.Core.List.{List, ◌++◌}
 use Rattle.syntax.specs.Sets.{distinct}
-use Rattle.syntax.specs.declared.names.VarId.{VarId}
 use Rattle.step_rows.specs.Rows.{ids_in}
 use Rattle.step_rows.specs.Apart.{apart}
 use Rattle.step_rows.proofs.DistinctLaws.{distinct_append}
-use Rattle.step_order.proofs.ListLaws.{and_both, and_not}
-use borrow.Author.Rules.{rules}
+use Rattle.step_order.proofs.ListLaws.{and_both, and_not, not_two, not_last}
 use Rattle.step_order.proofs.list.repeats.Goals as goal
-use Rattle.step_order.proofs.list.repeats.Goals.{After-disjoint}
+use Rattle.step_order.proofs.list.repeats.Goals.{Joined-not-is_distinct, then-not-is_distinct, else-not-is_distinct}
 
--- where the IDs of each row are distinct, none of one must be in the other
-asked : (c : After-disjoint) → not c.disjoint.result ≡ not (distinct ((ids_in c.args.bytes.now c.args.row) ++ (ids_in c.args.others.now c.args.other_row)))
-asked c =
-    ap not (and_both c.is_distinct.ensures c.if-is_distinct.true (and_both c.distinct.ensures c.if-distinct.true c.disjoint.ensures) ∙ sym (distinct_append ((ids_in c.args.bytes.now c.args.row)) ((ids_in c.args.others.now c.args.other_row))))
+-- is an ID twice in one of the rows?
+twice : (c : Joined-not-is_distinct) →
+    let a = c.args in
+    c.if-not-is_distinct.value ≡ not (distinct (ids_in a.bytes.now a.row) && distinct (ids_in a.others.now a.other_row))
+twice c =
+    let a = c.args in
+    elim c.if-not-is_distinct.branch [
+      | then-not-is_distinct w ↦
+          let f = w.if-not-is_distinct.true in
+          w.value-is ∙ ap not (f ∙ and_not c.is_distinct.ensures (distinct (ids_in a.others.now a.other_row)) f)
+      | else-not-is_distinct w ↦ w.value-is ∙ ap not (and_both c.is_distinct.ensures w.if-not-is_distinct.false w.distinct.ensures)
+    ]
 
-pub returns-then-disjoint : goal.returns-then-disjoint
-returns-then-disjoint c = ap not (sym c.if-disjoint.true) ∙ asked (goal.at.returns-then-disjoint c).After-disjoint
+pub returns-then-not-distinct : goal.returns-then-not-distinct
+returns-then-not-distinct c =
+    let a = c.args in
+    let xs = ids_in a.bytes.now a.row in
+    let ys = ids_in a.others.now a.other_row in
+    let t = twice (goal.at.returns-then-not-distinct c).Joined-not-is_distinct in
+    t ∙ (not_two (distinct xs) (distinct ys) (apart xs ys) (sym t ∙ c.if-not-distinct.true) ∙ ap not (sym (distinct_append xs ys)))
 
-pub returns-then-distinct : goal.returns-then-distinct
-returns-then-distinct c = ap not (sym c.if-disjoint.false) ∙ asked (goal.at.returns-then-distinct c).After-disjoint
-
-pub returns-then-is_distinct : goal.returns-then-is_distinct
-returns-then-is_distinct c =
-    ap not (and_both c.is_distinct.ensures c.if-is_distinct.true (and_not c.distinct.ensures (apart ((ids_in c.args.bytes.now c.args.row)) ((ids_in c.args.others.now c.args.other_row))) c.if-distinct.false) ∙ sym (distinct_append ((ids_in c.args.bytes.now c.args.row)) ((ids_in c.args.others.now c.args.other_row))))
-
-pub returns : goal.returns
-returns c =
-    ap not (and_not c.is_distinct.ensures (distinct ((ids_in c.args.others.now c.args.other_row)) && apart ((ids_in c.args.bytes.now c.args.row)) ((ids_in c.args.others.now c.args.other_row))) c.if-is_distinct.false ∙ sym (distinct_append ((ids_in c.args.bytes.now c.args.row)) ((ids_in c.args.others.now c.args.other_row))))
+pub returns-else-not-distinct : goal.returns-else-not-distinct
+returns-else-not-distinct c =
+    let a = c.args in
+    let xs = ids_in a.bytes.now a.row in
+    let ys = ids_in a.others.now a.other_row in
+    let t = twice (goal.at.returns-else-not-distinct c).Joined-not-is_distinct in
+    ap not c.disjoint.ensures ∙ (not_last (distinct xs) (distinct ys) (apart xs ys) (sym t ∙ c.if-not-distinct.false) ∙ ap not (sym (distinct_append xs ys)))

@@ -7,11 +7,11 @@ use Rattle.step_order.proofs.PartLaws.{no_place}
 use borrow.Author.Rules.{rules}
 use Rattle.step_order.proofs.parts.clause_of.Goals as goal
 
-pub returns-then-count-i : goal.returns-then-count-i
-returns-then-count-i c = record { at = no_place 11; finds = λ h. absurd (omega (arith, h, c.if-count-i.true)) }
+pub returns-then-stepper-i : goal.returns-then-stepper-i
+returns-then-stepper-i c = record { at = no_place 11; finds = λ h. absurd (omega (arith, h, c.if-stepper-i.true)) }
 
 pub returns : goal.returns
 returns c =
     let f = c.find_clause.ensures in
     let a = c.args in
-    record { at = f.at; finds = λ h. subst (λ (n : ℕ). FindsClause a.frame a.image.now n (a.i + 1) a.tag c.find_clause.result) c.parts_of-follows.ensures.clauses f }
+    record { at = f.at; finds = λ h. subst (λ (n : ℕ). FindsClause a.stepper.now.image.frame a.stepper.now.image.bytes.now n (a.i + 1) a.tag c.find_clause.result) c.parts_of-follows.ensures.clauses f }

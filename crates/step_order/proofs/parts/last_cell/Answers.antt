@@ -6,4 +6,4 @@ use borrow.Author.Rules.{rules}
 use Rattle.step_order.proofs.parts.last_cell.Goals as goal
 
 pub returns : goal.returns
-returns c = let a = c.args in c.cell_of.ensures ∙ ap (cell_in' (heap_in a.store.now a.header)) c.last_value-value.ensures
+returns c = let a = c.args in c.cell_of.ensures ∙ ap (cell_in' (heap_in a.store.now a.header)) c.last_value.ensures

@@ -8,10 +8,10 @@ pub identifier-requires : goal.identifier-requires
 identifier-requires c =
     let a = c.args in
     let h = c.requires in
-    (h.ready, (h.inside, identifier-room a.frame a.image.now a.i _ (tag-there a.frame a.image.now a.i h)))
+    (h.inside, identifier-room a.image.now.frame a.image.now.bytes.now a.i _ (tag-there a.image.now.frame a.image.now.bytes.now a.i h a.image.now.ready))
 
 pub returns : goal.returns
 returns c =
     let a = c.args in
     let h = c.requires in
-    tag_is a.frame a.image.now a.i h (c.identifier.ensures.is _ (tag-there a.frame a.image.now a.i h))
+    tag_is a.image.now.frame a.image.now.bytes.now a.i h (c.identifier.ensures.is _ (tag-there a.image.now.frame a.image.now.bytes.now a.i h a.image.now.ready))

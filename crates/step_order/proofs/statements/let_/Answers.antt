@@ -9,4 +9,4 @@ use Rattle.step_order.proofs.statements.let_.Goals as goal
 pub returns : goal.returns
 returns c =
     let a = c.args in
-    c.replaces.ensures ∙ sym (let_is (record_at a.frame a.image.now a.i) (ids_in a.store.now a.row) c.requires.0.kind c.list_row-args.ensures.ids c.first-var.ensures)
+    c.replaces.ensures ∙ sym (let_is (record_at a.image.now.frame a.image.now.bytes.now a.i) (ids_in a.store.now a.row) c.requires.0.kind c.list_row-args.ensures.ids c.first-var.ensures)

@@ -9,4 +9,4 @@ use Rattle.step_order.proofs.statements.literal.Goals as goal
 pub returns : goal.returns
 returns c =
     let a = c.args in
-    c.adds.ensures ∙ sym (literal_is (record_at a.frame a.image.now a.i) (ids_in a.store.now a.row) c.requires.0.kind c.first-var.ensures)
+    c.adds.ensures ∙ sym (literal_is (record_at a.image.now.frame a.image.now.bytes.now a.i) (ids_in a.store.now a.row) c.requires.0.kind c.first-var.ensures)

@@ -11,25 +11,33 @@ use Rattle.step_order.proofs.ListLaws.{and_both, and_not}
 use Rattle.step_order.proofs.OrderlyLaws.{op_is}
 use borrow.Author.Rules.{rules}
 use Rattle.step_order.proofs.statements.op.Goals as goal
-use Rattle.step_order.proofs.statements.op.Goals.{After-op-statement}
+use Rattle.step_order.proofs.statements.op.Goals.{After-op-statement, Joined-has, then-has, else-has}
 
 -- what is asked of the statement
 is : (c : After-op-statement) →
     let a = c.args in
     let o = c.op-statement.result in
-    orderly (record_at a.frame a.image.now a.i) ((ids_in c.args.store.now c.args.row)) ≡ (elem o.fst.id ((ids_in c.args.store.now c.args.row)) && (elem o.snd.id ((ids_in c.args.store.now c.args.row)) && added ((ids_in c.args.store.now c.args.row)) o.var.id))
-is c = let a = c.args in op_is (record_at a.frame a.image.now a.i) ((ids_in c.args.store.now c.args.row)) c.op-statement.ensures
+    let l = ids_in a.store.now a.row in
+    orderly (record_at a.image.now.frame a.image.now.bytes.now a.i) l ≡ ((elem o.fst.id l && elem o.snd.id l) && added l o.var.id)
+is c = let a = c.args in op_is (record_at a.image.now.frame a.image.now.bytes.now a.i) (ids_in a.store.now a.row) c.op-statement.ensures
+
+-- the operands are there
+present : (c : Joined-has) →
+    let a = c.args in
+    let o = c.op-statement.result in
+    c.if-has.value ≡ (elem o.fst.id (ids_in a.store.now a.row) && elem o.snd.id (ids_in a.store.now a.row))
+present c = elim c.if-has.branch [
+  | then-has w ↦ w.value-is ∙ and_both c.has.ensures w.if-has.true w.has-then-has.ensures
+  | else-has w ↦
+      let a = c.args in
+      w.value-is ∙ (w.if-has.false ∙ and_not c.has.ensures (elem c.op-statement.result.snd.id (ids_in a.store.now a.row)) w.if-has.false)
+]
 
 pub returns-then-has-2 : goal.returns-then-has-2
 returns-then-has-2 c =
-    and_both c.has.ensures c.if-has.true (and_both c.has-then-has.ensures c.if-has-2.true c.adds.ensures) ∙ sym (is (goal.at.returns-then-has-2 c).After-op-statement)
+    and_both (present (goal.at.returns-then-has-2 c).Joined-has) c.if-has-2.true c.adds.ensures ∙ sym (is (goal.at.returns-then-has-2 c).After-op-statement)
 
-pub returns-then-has : goal.returns-then-has
-returns-then-has c =
-    let b = added ((ids_in c.args.store.now c.args.row)) c.op-statement.result.var.id in
-    and_both c.has.ensures c.if-has.true (and_not c.has-then-has.ensures b c.if-has-2.false) ∙ sym (is (goal.at.returns-then-has c).After-op-statement)
-
-pub returns : goal.returns
-returns c =
-    let b = elem c.op-statement.result.snd.id ((ids_in c.args.store.now c.args.row)) && added ((ids_in c.args.store.now c.args.row)) c.op-statement.result.var.id in
-    and_not c.has.ensures b c.if-has.false ∙ sym (is (goal.at.returns c).After-op-statement)
+pub returns-else-has-2 : goal.returns-else-has-2
+returns-else-has-2 c =
+    let b = added (ids_in c.args.store.now c.args.row) c.op-statement.result.var.id in
+    c.if-has-2.false ∙ (and_not (present (goal.at.returns-else-has-2 c).Joined-has) b c.if-has-2.false ∙ sym (is (goal.at.returns-else-has-2 c).After-op-statement))

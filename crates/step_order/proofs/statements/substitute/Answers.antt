@@ -16,19 +16,19 @@ use Rattle.step_order.proofs.statements.substitute.Goals.{After-distinct}
 -- what was asked of the targets
 asked : (c : After-distinct) →
     let a = c.args in
-    c.distinct.result ≡ distinct (targets (pairs_of (record_at a.frame a.image.now a.i)))
+    c.distinct.result ≡ distinct (targets (pairs_of (record_at a.image.now.frame a.image.now.bytes.now a.i)))
 asked c = c.distinct.ensures ∙ ap distinct c.target_row-targets.ensures.ids
 
 pub returns-then-distinct : goal.returns-then-distinct
 returns-then-distinct c =
     let a = c.args in
     let l = ids_in a.store.now a.row in
-    and_both (asked (goal.at.returns-then-distinct c).After-distinct) c.if-distinct.true (c.all_present.ensures ∙ ap (λ (xs : List VarId). present xs l) c.source_row-sources.ensures.ids)
-    ∙ sym (substitute_is (record_at a.frame a.image.now a.i) l c.requires.0.kind)
+    and_both (asked (goal.at.returns-then-distinct c).After-distinct) c.if-distinct.true (c.all_present.ensures ∙ ap (λ (xs : List VarId). present xs l) c.source_row.ensures.ids)
+    ∙ sym (substitute_is (record_at a.image.now.frame a.image.now.bytes.now a.i) l c.requires.0.kind)
 
-pub returns : goal.returns
-returns c =
+pub returns-else-distinct : goal.returns-else-distinct
+returns-else-distinct c =
     let a = c.args in
     let l = ids_in a.store.now a.row in
-    let r = record_at a.frame a.image.now a.i in
-    and_not (asked (goal.at.returns c).After-distinct) (present (sources (pairs_of r)) l) c.if-distinct.false ∙ sym (substitute_is r l c.requires.0.kind)
+    let r = record_at a.image.now.frame a.image.now.bytes.now a.i in
+    c.if-distinct.false ∙ and_not (asked (goal.at.returns-else-distinct c).After-distinct) (present (sources (pairs_of r)) l) c.if-distinct.false ∙ sym (substitute_is r l c.requires.0.kind)

@@ -10,17 +10,17 @@ use Rattle.step_places.proofs.ends.fill_ends.Goals as goal
 use Rattle.step_places.proofs.ends.fill_ends.Goals.{At-loop-i}
 
 -- i is at most the number of records, which is small
-few : (c : At-loop-i) → (c.loop-i.i ≤ c.args.frame.count) × (c.loop-i.i ≤ 4000)
+few : (c : At-loop-i) → (c.loop-i.i ≤ c.args.image.now.frame.count) × (c.loop-i.i ≤ 4000)
 few c =
-    let n = records-length c.args.frame c.args.image.now c.requires.0 in
-    (omega (arith, n, c.loop-i.invariant.within), omega (arith, n, c.loop-i.invariant.within, c.requires.0.few))
+    let n = records-length c.args.image.now.frame c.args.image.now.bytes.now c.args.image.now.ready in
+    (omega (arith, n, c.loop-i.invariant.within), omega (arith, n, c.loop-i.invariant.within, c.args.image.now.ready.few))
 
 pub loop-i-init : goal.loop-i-init
 loop-i-init c =
-    filled_none _ (records-length c.args.frame c.args.image.now c.requires.0) c.requires.1
+    filled_none _ (records-length c.args.image.now.frame c.args.image.now.bytes.now c.args.image.now.ready) c.requires
 
 pub parts_of-follows-requires : goal.parts_of-follows-requires
-parts_of-follows-requires c = (c.requires.0, omega (arith, (few (goal.at.parts_of-follows-requires c).At-loop-i).0, c.loop-i-test.true))
+parts_of-follows-requires c = omega (arith, (few (goal.at.parts_of-follows-requires c).At-loop-i).0, c.loop-i-test.true)
 
 pub overflow_add-i : goal.overflow_add-i
 overflow_add-i c = omega (arith, (few (goal.at.overflow_add-i c).At-loop-i).1)

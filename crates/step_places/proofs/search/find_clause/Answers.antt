@@ -5,7 +5,7 @@ use Rattle.step_places.proofs.SearchLaws.{clause-found}
 use Rattle.step_places.proofs.search.find_clause.Goals as goal
 
 pub find-requires : goal.find-requires
-find-requires c = let h = c.requires in (h.0, (h.1, inr refl))
+find-requires c = inr refl
 
 pub returns : goal.returns
 returns c = clause-found c.find.ensures

@@ -1,8 +1,11 @@
 -- `find_definition` meets its contract. Assumes nothing.
 use borrow.Author.Rules.{rules}
-use mathlib.Core.Path.{sym, ◌∙◌}
+use mathlib.Core.Path.{sym, ap, ◌∙◌}
 use native.Mathlib.Omega.{arith}
 use Rattle.std.specs.Prelude.{None}
+use Rattle.image_kinds.specs.Codes.{code_of}
+use Rattle.image_kinds.specs.declared.kinds.Kind.TheVariants.{Definition}
+use Rattle.image_kinds.proofs.KindNames.{same_code}
 use Rattle.image_read_nodes.specs.Nodes.{At}
 use Rattle.step_places.specs.Searches.{FindsDefinition}
 use Rattle.step_places.proofs.SearchLaws.{definition-past, definition-found, definition-missing}
@@ -10,20 +13,21 @@ use Rattle.step_places.proofs.search.find_definition.Goals as goal
 use Rattle.step_places.proofs.search.find_definition.Goals.{After-hop-here}
 
 -- there is no definition where the hops end
-missing : (c : After-hop-here) → (At c.args.frame c.args.image.now c.hop-here.result 1 → ⊥)
-    → FindsDefinition c.args.frame c.args.image.now c.args.definitions c.args.n None
-missing c f = definition-missing c.requires.0 c.requires.1 c.if-definitions-n.false c.hop-here.ensures f
+missing : (c : After-hop-here) → (At c.args.stepper.now.image.frame c.args.stepper.now.image.bytes.now c.hop-here.result 1 → ⊥)
+    → FindsDefinition c.args.stepper.now.image.frame c.args.stepper.now.image.bytes.now c.args.stepper.now.definitions c.args.n None
+missing c f = definition-missing c.args.stepper.now.image.ready c.args.stepper.now.right c.if-stepper-n.false c.hop-here.ensures f
 
-pub returns-then-definitions-n : goal.returns-then-definitions-n
-returns-then-definitions-n c = definition-past c.if-definitions-n.true
+pub returns-then-stepper-n : goal.returns-then-stepper-n
+returns-then-stepper-n c = definition-past c.if-stepper-n.true
 
-pub returns-then-frame-here : goal.returns-then-frame-here
-returns-then-frame-here c = missing (goal.at.returns-then-frame-here c).After-hop-here (λ a. omega (arith, a.inside, c.if-frame-here.true))
+pub returns-then-stepper-here : goal.returns-then-stepper-here
+returns-then-stepper-here c = missing (goal.at.returns-then-stepper-here c).After-hop-here (λ a. omega (arith, a.inside, c.if-stepper-here.true))
 
-pub returns-then-parts_of-eq-DEFINITION : goal.returns-then-parts_of-eq-DEFINITION
-returns-then-parts_of-eq-DEFINITION c =
+pub returns-in-Definition : goal.returns-in-Definition
+returns-in-Definition c =
     let a = c.parts_of.ensures.at in
-    definition-found c.requires.0 c.requires.1 c.if-definitions-n.false c.hop-here.ensures (record { ready = a.ready; inside = a.inside; kind = a.kind ∙ c.if-parts_of-eq-DEFINITION.true })
+    definition-found c.args.stepper.now.image.ready c.args.stepper.now.right c.if-stepper-n.false c.hop-here.ensures (record { inside = a.inside; kind = a.kind ∙ ap code_of c.in-Definition.is })
 
-pub returns : goal.returns
-returns c = missing (goal.at.returns c).After-hop-here (λ a. c.if-parts_of-eq-DEFINITION.false (sym c.parts_of.ensures.at.kind ∙ a.kind))
+pub returns-in_default : goal.returns-in_default
+returns-in_default c =
+    missing (goal.at.returns-in_default c).After-hop-here (λ a. c.in_default.not-Definition (same_code _ Definition (sym c.parts_of.ensures.at.kind ∙ a.kind)))

@@ -5,7 +5,7 @@ use Rattle.step_places.proofs.SearchLaws.{label-found}
 use Rattle.step_places.proofs.search.find_label.Goals as goal
 
 pub find-requires : goal.find-requires
-find-requires c = let h = c.requires in (h.0, (h.1, inl refl))
+find-requires c = inl refl
 
 pub returns : goal.returns
 returns c = label-found c.find.ensures

@@ -10,21 +10,21 @@ use Rattle.step_rows.proofs.records.environment_row.Goals.{After-tail_at-at}
 -- what stands where the tail begins
 there : (c : After-tail_at-at) →
     let a = c.args in
-    Environs a.frame.id a.image.now c.tail_at-at.result (environment_of (record_at a.frame a.image.now a.i))
-there c = environment-there c.args.frame c.args.image.now c.args.i c.tail_at-at.ensures c.requires
+    Environs a.image.now.frame.id a.image.now.bytes.now c.tail_at-at.result (environment_of (record_at a.image.now.frame a.image.now.bytes.now a.i))
+there c = environment-there c.args.image.now.frame c.args.image.now.bytes.now c.args.i c.tail_at-at.ensures c.args.image.now.ready c.requires
 
 pub bounds-image-at : goal.bounds-image-at
-bounds-image-at c = environment-inside c.args.frame.id (there (goal.at.bounds-image-at c).After-tail_at-at)
+bounds-image-at c = environment-inside c.args.image.now.frame.id (there (goal.at.bounds-image-at c).After-tail_at-at)
 
 pub returns-then-image-at-eq0 : goal.returns-then-image-at-eq0
-returns-then-image-at-eq0 c = absent-row c.args.frame.id (there (goal.at.returns-then-image-at-eq0 c).After-tail_at-at) c.if-image-at-eq0.true
+returns-then-image-at-eq0 c = absent-row c.args.image.now.frame.id (there (goal.at.returns-then-image-at-eq0 c).After-tail_at-at) c.if-image-at-eq0.true
 
 pub overflow_add-at : goal.overflow_add-at
-overflow_add-at c = omega (arith, environment-inside c.args.frame.id (there (goal.at.overflow_add-at c).After-tail_at-at))
+overflow_add-at c = omega (arith, environment-inside c.args.image.now.frame.id (there (goal.at.overflow_add-at c).After-tail_at-at))
 
 pub counted_row-requires : goal.counted_row-requires
-counted_row-requires c = listed-room c.args.frame.id (there (goal.at.counted_row-requires c).After-tail_at-at) c.if-image-at-eq0.false
+counted_row-requires c = listed-room c.args.image.now.frame.id (there (goal.at.counted_row-requires c).After-tail_at-at) c.if-image-at-eq0.false
 
 pub returns : goal.returns
 returns c =
-    listed-row c.args.frame.id (there (goal.at.returns c).After-tail_at-at) c.if-image-at-eq0.false c.requires.ready.id.1 c.counted_row.ensures
+    listed-row c.args.image.now.frame.id (there (goal.at.returns c).After-tail_at-at) c.if-image-at-eq0.false c.args.image.now.ready.id.1 c.counted_row.ensures

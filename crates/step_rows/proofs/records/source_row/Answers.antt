@@ -6,9 +6,9 @@ use Rattle.step_rows.proofs.records.source_row.Goals as goal
 
 pub counted_row-requires : goal.counted_row-requires
 counted_row-requires c =
-    counted-inside (source-written c.args.frame.id) (pairs-there c.args.frame c.args.image.now c.args.i c.tail_at-at.ensures c.requires)
+    counted-inside (source-written c.args.image.now.frame.id) (pairs-there c.args.image.now.frame c.args.image.now.bytes.now c.args.i c.tail_at-at.ensures c.args.image.now.ready c.requires)
 
 pub returns : goal.returns
 returns c =
-    let h = pairs-there c.args.frame c.args.image.now c.args.i c.tail_at-at.ensures c.requires in
-    counted-row (source-written c.args.frame.id) h c.requires.ready.id.1 (omega arith) c.counted_row.ensures
+    let h = pairs-there c.args.image.now.frame c.args.image.now.bytes.now c.args.i c.tail_at-at.ensures c.args.image.now.ready c.requires in
+    counted-row (source-written c.args.image.now.frame.id) h c.args.image.now.ready.id.1 (omega arith) c.counted_row.ensures

@@ -20,9 +20,9 @@ use Rattle.step_statement_call.proofs.call.linear.Goals.{In_ok-called, Start}
 
 -- the machine's step
 calls : (c : Start)
-    → (P : Prog) (l : Located) (p : ProgramOf P c.args.stepper c.args.image.now) (o : Stored linear_machine P c.args.store.now c.args.header l)
-    → Calls linear_machine P l (the_call p o c.requires.0.record').label.name (values l.environment) c.args.header.entries
-calls c P l p o = let t = the_call p o c.requires.0.record' in all-entries o t.label t.args t.is refl
+    → (P : Prog) (l : Located) (p : ProgramOf P c.args.stepper.now c.args.stepper.now.image.bytes.now) (o : Stored linear_machine P c.args.store.now c.args.header l)
+    → Calls linear_machine P l (the_call p o c.requires.record').label.name (values l.environment) c.args.header.entries
+calls c P l p o = let t = the_call p o c.requires.record' in all-entries o t.label t.args t.is refl
 
 -- the definition is found
 found : (c : In_ok-called) → c.definition_of.result ≡ Some c.in_ok-called.called
@@ -34,19 +34,19 @@ returns-in_err-called c =
     let e : c.from_residual.result ≡ Err NoStep = search rules in
     rw e record {
       makes = λ P l p o.
-          absent-makes o p (calls (goal.at.returns-in_err-called c).Start P l p o) (label-read (the_call p o c.requires.0.record') c.label_of-label.ensures) c.definition_of.ensures n;
+          absent-makes o p (calls (goal.at.returns-in_err-called c).Start P l p o) (label-read (the_call p o c.requires.record') c.label_of-label.ensures) c.definition_of.ensures n;
     }
 
 pub returns-then-row-entries : goal.returns-then-row-entries
 returns-then-row-entries c = record {
   makes = λ P l p o.
-      uneven_makes o p (calls (goal.at.returns-then-row-entries c).Start P l p o) (label-read (the_call p o c.requires.0.record') c.label_of-label.ensures) c.definition_of.ensures
+      uneven_makes o p (calls (goal.at.returns-then-row-entries c).Start P l p o) (label-read (the_call p o c.requires.record') c.label_of-label.ensures) c.definition_of.ensures
       (found (goal.at.returns-then-row-entries c).In_ok-called) c.if-row-entries.true;
 }
 
 pub jump-requires : goal.jump-requires
 jump-requires c =
-    let g = c.requires.0 in
+    let g = c.requires in
     let f = fitting (found (goal.at.jump-requires c).In_ok-called) c.definition_of.ensures.reads in
     let stand : all_slots (slots_at c.fetch.new.scratch 0 c.in_ok-called.called.row.len) ≡ true =
     ap (λ (n : ℕ). all_slots (slots_at c.fetch.new.scratch 0 n)) c.if-row-entries.false ∙ (ap all_slots c.fetch.ensures ∙ g.holds.entries) in
@@ -57,6 +57,6 @@ returns c = record {
   makes = λ P l p o.
       let n = c.if-row-entries.false in
       let v = entries-laid o (ap (slots_at c.fetch.new.scratch 0) n ∙ c.fetch.ensures) in
-      call-makes o p (calls (goal.at.returns c).Start P l p o) (label-read (the_call p o c.requires.0.record') c.label_of-label.ensures) c.definition_of.ensures
+      call-makes o p (calls (goal.at.returns c).Start P l p o) (label-read (the_call p o c.requires.record') c.label_of-label.ensures) c.definition_of.ensures
       (found (goal.at.returns c).In_ok-called) n v c.jump.ensures;
 }

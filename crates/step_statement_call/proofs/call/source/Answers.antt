@@ -24,17 +24,17 @@ use Rattle.step_statement_call.proofs.call.source.Goals as goal
 use Rattle.step_statement_call.proofs.call.source.Goals.{After-list_row-args, Else-not-gather, In_ok-called}
 
 few : (c : After-list_row-args) → c.list_row-args.result.len ≤ 128
-few c = list-short c.requires.0.record' refl c.list_row-args.ensures
+few c = list-short c.args.stepper.now.image.ready c.requires.record' refl c.list_row-args.ensures
 
 -- the machine's step, where all args are there
 all : (c : Else-not-gather)
-    → (P : Prog) (l : Located) (p : ProgramOf P c.args.stepper c.args.image.now) (o : Stored source_machine P c.args.store.now c.args.header l)
-    → AllFound P l (the_call p o c.requires.0.record').label.name (slots_at c.gather.new.out 0 c.list_row-args.result.len) c.list_row-args.result.len
+    → (P : Prog) (l : Located) (p : ProgramOf P c.args.stepper.now c.args.stepper.now.image.bytes.now) (o : Stored source_machine P c.args.store.now c.args.header l)
+    → AllFound P l (the_call p o c.requires.record').label.name (slots_at c.gather.new.out 0 c.list_row-args.result.len) c.list_row-args.result.len
 all c P l p o =
-    let t = the_call p o c.requires.0.record' in
-    let n : c.list_row-args.result.len ≤ 128 = list-short c.requires.0.record' refl c.list_row-args.ensures in
+    let t = the_call p o c.requires.record' in
+    let n : c.list_row-args.result.len ≤ 128 = list-short c.args.stepper.now.image.ready c.requires.record' refl c.list_row-args.ensures in
     let are = c.list_row-args.ensures.ids ∙ ap (λ (r : Record). ids (list_of r)) t.holds in
-    all_found o t.label t.args t.is are c.gather.ensures (ids-length c.args.image.now c.list_row-args.result) c.if-not-gather.false (omega (arith, n, c.requires.0.scratch'))
+    all_found o t.label t.args t.is are c.gather.ensures (ids-length c.args.stepper.now.image.bytes.now c.list_row-args.result) c.if-not-gather.false (omega (arith, n, c.requires.scratch'))
 
 -- the definition is found
 found : (c : In_ok-called) → c.definition_of.result ≡ Some c.in_ok-called.called
@@ -42,13 +42,13 @@ found c = search rules
 
 pub gather-requires : goal.gather-requires
 gather-requires c =
-    let g = c.requires.0 in
+    let g = c.requires in
     (c.list_row-args.ensures.inside, (omega (arith, g.holds.inside), (g.holds.entries, omega (arith, few (goal.at.gather-requires c).After-list_row-args, g.scratch'))))
 
 pub returns-then-not-gather : goal.returns-then-not-gather
 returns-then-not-gather c = record {
   makes = λ P l p o.
-      let t = the_call p o c.requires.0.record' in
+      let t = the_call p o c.requires.record' in
       missing-makes o t.label t.args t.is (c.list_row-args.ensures.ids ∙ ap (λ (r : Record). ids (list_of r)) t.holds) c.gather.ensures c.if-not-gather.true;
 }
 
@@ -58,21 +58,21 @@ returns-in_err-called c =
     let e : c.from_residual.result ≡ Err NoStep = search rules in
     rw e record {
       makes = λ P l p o.
-          absent-makes o p (all (goal.at.returns-in_err-called c).Else-not-gather P l p o).calls (label-read (the_call p o c.requires.0.record') c.label_of-label.ensures) c.definition_of.ensures n;
+          absent-makes o p (all (goal.at.returns-in_err-called c).Else-not-gather P l p o).calls (label-read (the_call p o c.requires.record') c.label_of-label.ensures) c.definition_of.ensures n;
     }
 
 pub returns-then-row-args : goal.returns-then-row-args
 returns-then-row-args c = record {
   makes = λ P l p o.
-      uneven_makes o p (all (goal.at.returns-then-row-args c).Else-not-gather P l p o).calls (label-read (the_call p o c.requires.0.record') c.label_of-label.ensures) c.definition_of.ensures
+      uneven_makes o p (all (goal.at.returns-then-row-args c).Else-not-gather P l p o).calls (label-read (the_call p o c.requires.record') c.label_of-label.ensures) c.definition_of.ensures
       (found (goal.at.returns-then-row-args c).In_ok-called) c.if-row-args.true;
 }
 
 pub jump-requires : goal.jump-requires
 jump-requires c =
-    let g = c.requires.0 in
+    let g = c.requires in
     let f = fitting (found (goal.at.jump-requires c).In_ok-called) c.definition_of.ensures.reads in
-    let k = ids-length c.args.image.now c.list_row-args.result in
+    let k = ids-length c.args.stepper.now.image.bytes.now c.list_row-args.result in
     let stand : all_slots (slots_at c.gather.new.out 0 c.in_ok-called.called.row.len) ≡ true =
     ap (λ (i : ℕ). all_slots (slots_at c.gather.new.out 0 i)) (c.if-row-args.false ∙ sym k)
     ∙ gathered-slots c.gather.ensures (slots-ok _ _ _ g.holds.entries) c.if-not-gather.false (omega (arith, k, few (goal.at.jump-requires c).After-list_row-args, g.scratch')) in
@@ -84,5 +84,5 @@ returns c = record {
       let f = all (goal.at.returns c).Else-not-gather P l p o in
       let n = c.if-row-args.false in
       let v = subst (λ (i : ℕ). Laid l f.found (slots_at c.gather.new.out 0 i)) (sym n) f.laid in
-      call-makes o p f.calls (label-read (the_call p o c.requires.0.record') c.label_of-label.ensures) c.definition_of.ensures (found (goal.at.returns c).In_ok-called) n v c.jump.ensures;
+      call-makes o p f.calls (label-read (the_call p o c.requires.record') c.label_of-label.ensures) c.definition_of.ensures (found (goal.at.returns c).In_ok-called) n v c.jump.ensures;
 }

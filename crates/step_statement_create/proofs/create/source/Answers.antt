@@ -6,6 +6,6 @@ use Rattle.step_statement_create.proofs.create.source.Goals as goal
 pub returns : goal.returns
 returns c = record {
   makes = λ P l p o.
-      source-makes o p c.requires.0 c.requires.1.1.1 c.read_parts-create.ensures c.after-next.ensures c.event.ensures
+      source-makes o p c.requires.0 c.args.stepper.now.right c.read_parts-create.ensures c.after-next.ensures c.event.ensures
       refl refl c.cell_slot-cell.ensures c.var_slot-var.ensures c.finish_holding.ensures;
 }

@@ -5,12 +5,12 @@ pub returns-then-value-eq5 : goal.returns-then-value-eq5
 returns-then-value-eq5 c = record {
   makes = λ P l p o.
       let a = c.args in
-      exit-halts a.stepper.linear p o c.exit-statement.ensures c.slot_of-value.ensures a.events.now a.at c.if-value-eq5.true;
+      exit-halts a.stepper.now.linear p o c.exit-statement.ensures c.slot_of-value.ensures a.events.now a.at c.if-value-eq5.true;
 }
 
 pub returns : goal.returns
 returns c = record {
   makes = λ P l p o.
       let a = c.args in
-      exit-makes a.stepper.linear p o c.exit-statement.ensures c.slot_of-value.ensures a.events.now a.at c.if-value-eq5.false c.payload_of.ensures c.stay.ensures;
+      exit-makes a.stepper.now.linear p o c.exit-statement.ensures c.slot_of-value.ensures a.events.now a.at c.if-value-eq5.false c.payload_of.ensures c.stay.ensures;
 }

@@ -1,8 +1,7 @@
 use Rattle.std.specs.Prelude.{Some, None, Err}
-use Prim.Native.Nat.{◌+◌}
-use mathlib.Core.Path.{◌≡◌, sym, ap, ap₂, ◌∙◌, subst}
+use mathlib.Core.Path.{◌≡◌, sym, ap, ap₂, ◌∙◌}
 use mathlib.Core.Bool.{Bool}
-use mathlib.Core.Option.{Option, some}
+use mathlib.Core.Option.{some}
 use lib.IntN.{ℤ}
 use mir.Syntax.{w64}
 use mir.Val.{of_z, to_z}
@@ -10,7 +9,6 @@ use borrow.Author.Rules.{rules}
 use Rattle.syntax.specs.Options.{option_of}
 use Rattle.model.specs.Integers.{holds}
 use Rattle.step_write.specs.declared.Stop.TheVariants.{NoStep}
-use Rattle.step_places.specs.Ends.{Hopped}
 use Rattle.step_lookup.proofs.LookupLaws.{first-missing, second-missing, both-there}
 use Rattle.step_statement_ifc.proofs.IfCLaws.{shown, ifc-halts, then_makes, else_makes}
 use Rattle.step_statement_ifc.proofs.ifc.ifc.Goals as goal
@@ -34,7 +32,7 @@ returns-in_err-a c =
     let n : c.integer_of.result ≡ None = search rules in
     let e : c.from_residual.result ≡ Err NoStep = search rules in
     let m = ap option_of (sym n) ∙ c.integer_of.ensures in
-    rw e (record { makes = λ P l p o. ifc-halts a.stepper.linear p o c.ifc-statement.ensures a.events.now a.at (first-missing _ _ _ m) })
+    rw e (record { makes = λ P l p o. ifc-halts a.stepper.now.linear p o c.ifc-statement.ensures a.events.now a.at (first-missing _ _ _ m) })
 
 pub returns-in_err-b : goal.returns-in_err-b
 returns-in_err-b c =
@@ -42,17 +40,16 @@ returns-in_err-b c =
     let n : c.second.result ≡ None = search rules in
     let e : c.from_residual-in_err-b.result ≡ Err NoStep = search rules in
     let m = ap option_of (sym n) ∙ c.second.ensures in
-    rw e (record { makes = λ P l p o. ifc-halts a.stepper.linear p o c.ifc-statement.ensures a.events.now a.at (second-missing _ _ _ m) })
+    rw e (record { makes = λ P l p o. ifc-halts a.stepper.now.linear p o c.ifc-statement.ensures a.events.now a.at (second-missing _ _ _ m) })
 
 pub returns-then-holds : goal.returns-then-holds
 returns-then-holds c =
     let a = c.args in
     let m = sym (ap some c.if-holds.true) ∙ choice_is (goal.at.returns-then-holds c).After-holds in
-    record { makes = λ P l p o. then_makes a.stepper.linear p o c.ifc-statement.ensures a.events.now a.at m c.enter.ensures }
+    record { makes = λ P l p o. then_makes a.stepper.now.linear p o c.ifc-statement.ensures a.events.now a.at m c.enter.ensures }
 
 pub returns : goal.returns
 returns c =
     let a = c.args in
     let m = sym (ap some c.if-holds.false) ∙ choice_is (goal.at.returns c).After-holds in
-    let j = subst (Hopped a.ends.now 1 (a.header.position + 1)) (sym c.narrow-place.ensures) c.behind.ensures in
-    record { makes = λ P l p o. else_makes a.stepper.linear p o c.ifc-statement.ensures a.events.now a.at m c.requires.1 j c.enter-2.ensures }
+    record { makes = λ P l p o. else_makes a.stepper.now.linear p o c.ifc-statement.ensures a.events.now a.at m a.stepper.now.right c.behind-place.ensures c.enter-2.ensures }

@@ -1,13 +1,13 @@
 -- `entrance_of` meets its contract. Assumes nothing.
 use Rattle.step_statement_invoke.specs.Invoking.{no-closure, no_record, no-clause, other-count, a-clause}
 use Rattle.step_statement_invoke.proofs.invoke.entrance_of.Goals as goal
-use Rattle.step_statement_invoke.proofs.invoke.entrance_of.Goals.{then-cell-ne4-via-then-cell-ne4, then-cell-ne4-via-else-cell-ne4+then-frame-cell}
+use Rattle.step_statement_invoke.proofs.invoke.entrance_of.Goals.{then-cell-ne4-via-then-cell-ne4, then-cell-ne4-via-else-cell-ne4+then-stepper-cell}
 
 pub returns-then-cell-ne4 : goal.returns-then-cell-ne4
 returns-then-cell-ne4 c =
     elim c.then-cell-ne4.branch [
       | then-cell-ne4-via-then-cell-ne4 w ↦ no-closure w.if-cell-ne4.true
-      | then-cell-ne4-via-else-cell-ne4+then-frame-cell w ↦ no_record w.if-cell-ne4.false w.if-frame-cell.true
+      | then-cell-ne4-via-else-cell-ne4+then-stepper-cell w ↦ no_record w.if-cell-ne4.false w.if-stepper-cell.true
     ]
 
 pub returns-in_err-clause : goal.returns-in_err-clause

@@ -18,12 +18,12 @@ use Rattle.step_statement_invoke.proofs.invoke.linear_enter.Goals.{In_ok-clause}
 found : (c : In_ok-clause) → c.entrance_of.result ≡ Some c.in_ok-clause.clause
 found c = search rules
 
-entered : (c : In_ok-clause) → let a = c.args in Entered a.stepper.frame a.image.now c.cell_of-cell.result a.tag a.k c.in_ok-clause.clause
+entered : (c : In_ok-clause) → let a = c.args in Entered a.stepper.now.image.frame a.stepper.now.image.bytes.now c.cell_of-cell.result a.tag a.k c.in_ok-clause.clause
 entered c = entered_by c.entrance_of.ensures (found c)
 
 -- the first k entries are slots
 slots : (c : In_ok-clause) → let a = c.args in all_slots (slots_at a.store.now (64 + 16 * a.header.heap) a.k) ≡ true
-slots c = let a = c.args in first-slots a.store.now (64 + 16 * a.header.heap) a.header.entries a.k c.requires.1.1 c.requires.0.holds.entries
+slots c = let a = c.args in first-slots a.store.now (64 + 16 * a.header.heap) a.header.entries a.k c.requires.1 c.requires.0.holds.entries
 
 pub returns-then-value-eq2 : goal.returns-then-value-eq2
 returns-then-value-eq2 c =
@@ -41,7 +41,7 @@ pub fetch-requires : goal.fetch-requires
 fetch-requires c =
     let p = c.requires in
     let w = (goal.at.fetch-requires c).In_ok-clause in
-    (omega (arith, p.0.holds.inside, p.1.1), (slots w, omega (arith, entered-few (entered w), p.0.scratch')))
+    (omega (arith, p.0.holds.inside, p.1), (slots w, omega (arith, entered-few (entered w), p.0.scratch')))
 
 pub enter_clause-requires : goal.enter_clause-requires
 enter_clause-requires c =

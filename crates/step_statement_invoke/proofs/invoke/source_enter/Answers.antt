@@ -14,7 +14,7 @@ use Rattle.step_statement_invoke.proofs.invoke.source_enter.Goals.{In_ok-clause}
 found : (c : In_ok-clause) → c.entrance_of.result ≡ Some c.in_ok-clause.clause
 found c = search rules
 
-entered : (c : In_ok-clause) → let a = c.args in Entered a.stepper.frame a.image.now c.cell_of-cell.result a.tag a.k c.in_ok-clause.clause
+entered : (c : In_ok-clause) → let a = c.args in Entered a.stepper.now.image.frame a.stepper.now.image.bytes.now c.cell_of-cell.result a.tag a.k c.in_ok-clause.clause
 entered c = entered_by c.entrance_of.ensures (found c)
 
 pub returns-then-value-eq2 : goal.returns-then-value-eq2
@@ -32,7 +32,7 @@ returns-in_err-clause c =
 pub enter_clause-requires : goal.enter_clause-requires
 enter_clause-requires c =
     let g = c.requires.0 in
-    can_enter (entered (goal.at.enter_clause-requires c).In_ok-clause) c.args.value g.holds c.cell_of-cell.ensures g.place g.scratch' c.requires.1.1.1
+    can_enter (entered (goal.at.enter_clause-requires c).In_ok-clause) c.args.value g.holds c.cell_of-cell.ensures g.place g.scratch' c.requires.1.1
 
 pub returns : goal.returns
 returns c =

@@ -13,7 +13,7 @@ returns-then-header-k c = record {
 pub add_behind-requires : goal.add_behind-requires
 add_behind-requires c = (
   c.requires.holds,
-  (next_small c.requires.record', (c.requires.place, (c.if-header-k.false, omega (arith, c.read_parts-parts.ensures.few, c.requires.scratch', c.pack_last.auto)))),
+  (next_small c.args.stepper.now.image.ready c.requires.record', (c.requires.place, (c.if-header-k.false, omega (arith, c.read_parts-parts.ensures.few, c.requires.scratch', c.pack_last.auto)))),
 )
 
 pub returns : goal.returns

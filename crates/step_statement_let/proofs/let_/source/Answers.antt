@@ -12,7 +12,7 @@ returns-then-not-pack_found c = record {
 
 pub add_before-requires : goal.add_before-requires
 add_before-requires c =
-    (c.requires.holds, (next_small c.requires.record', (c.requires.place, omega (arith, c.read_parts-parts.ensures.few, c.requires.scratch', c.pack_found.auto))))
+    (c.requires.holds, (next_small c.args.stepper.now.image.ready c.requires.record', (c.requires.place, omega (arith, c.read_parts-parts.ensures.few, c.requires.scratch', c.pack_found.auto))))
 
 pub returns : goal.returns
 returns c = record {

@@ -10,5 +10,5 @@ returns c = record {
   makes = λ P l p o.
       let lit = c.literal-statement.result.lit in
       let z : to_z w64 (of_z w64 lit) ≡ lit = search rules in
-      literal-makes c.args.stepper.linear p o c.literal-statement.ensures (c.bits.ensures ∙ ap (of_z w64) z) c.bind.ensures;
+      literal-makes c.args.stepper.now.linear p o c.literal-statement.ensures (c.bits.ensures ∙ ap (of_z w64) z) c.bind.ensures;
 }

@@ -1,6 +1,5 @@
 use Rattle.std.specs.Prelude.{Some, None, Err}
 use mathlib.Core.Path.{◌≡◌, sym, ap, ap₂, ◌∙◌}
-use mathlib.Core.Option.{Option}
 use mir.Syntax.{w64}
 use mir.Val.{of_z, to_z}
 use borrow.Author.Rules.{rules}
@@ -29,7 +28,7 @@ returns-in_err-a c =
     let n : c.integer_of.result ≡ None = search rules in
     let e : c.from_residual.result ≡ Err NoStep = search rules in
     let m = ap option_of (sym n) ∙ c.integer_of.ensures in
-    rw e (record { makes = λ P l p o. op-halts a.stepper.linear p o c.op-statement.ensures a.events.now a.at (first-missing (eval_op c.op-statement.result.op) _ _ m) })
+    rw e (record { makes = λ P l p o. op-halts a.stepper.now.linear p o c.op-statement.ensures a.events.now a.at (first-missing (eval_op c.op-statement.result.op) _ _ m) })
 
 pub returns-in_err-b : goal.returns-in_err-b
 returns-in_err-b c =
@@ -37,7 +36,7 @@ returns-in_err-b c =
     let n : c.integer_of-2.result ≡ None = search rules in
     let e : c.from_residual-in_err-b.result ≡ Err NoStep = search rules in
     let m = ap option_of (sym n) ∙ c.integer_of-2.ensures in
-    rw e (record { makes = λ P l p o. op-halts a.stepper.linear p o c.op-statement.ensures a.events.now a.at (second-missing (eval_op c.op-statement.result.op) _ _ m) })
+    rw e (record { makes = λ P l p o. op-halts a.stepper.now.linear p o c.op-statement.ensures a.events.now a.at (second-missing (eval_op c.op-statement.result.op) _ _ m) })
 
 pub returns-in_err-z : goal.returns-in_err-z
 returns-in_err-z c =
@@ -45,7 +44,7 @@ returns-in_err-z c =
     let n : c.evaluate.result ≡ None = search rules in
     let e : c.from_residual-in_err-z.result ≡ Err NoStep = search rules in
     let m = ap option_of (sym n) ∙ result_is (goal.at.returns-in_err-z c).After-evaluate in
-    rw e (record { makes = λ P l p o. op-halts a.stepper.linear p o c.op-statement.ensures a.events.now a.at m })
+    rw e (record { makes = λ P l p o. op-halts a.stepper.now.linear p o c.op-statement.ensures a.events.now a.at m })
 
 pub returns : goal.returns
 returns c =
@@ -53,4 +52,4 @@ returns c =
     let x : c.evaluate.result ≡ Some c.in_ok-z.z = search rules in
     let z : to_z w64 (of_z w64 c.in_ok-z.z) ≡ c.in_ok-z.z = search rules in
     let m = ap option_of (sym x) ∙ result_is (goal.at.returns c).After-evaluate in
-    record { makes = λ P l p o. op-makes a.stepper.linear p o c.op-statement.ensures a.events.now a.at c.in_ok-z.z m (c.bits.ensures ∙ ap (of_z w64) z) c.bind.ensures }
+    record { makes = λ P l p o. op-makes a.stepper.now.linear p o c.op-statement.ensures a.events.now a.at c.in_ok-z.z m (c.bits.ensures ∙ ap (of_z w64) z) c.bind.ensures }

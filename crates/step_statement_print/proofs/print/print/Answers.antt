@@ -15,7 +15,7 @@ returns-in_err-z c =
     let n : c.integer_of.result ≡ None = search rules in
     let e : c.from_residual.result ≡ Err NoStep = search rules in
     let m = ap option_of (sym n) ∙ c.integer_of.ensures in
-    rw e (record { makes = λ P l p o. print-halts a.stepper.linear p o c.print-statement.ensures a.events.now a.at m })
+    rw e (record { makes = λ P l p o. print-halts a.stepper.now.linear p o c.print-statement.ensures a.events.now a.at m })
 
 pub returns : goal.returns
 returns c =
@@ -24,4 +24,4 @@ returns c =
     let z : to_z w64 (of_z w64 c.in_ok-z.z) ≡ c.in_ok-z.z = search rules in
     let d : c.from.result ≡ newline_code_lem c.print-statement.result.newline = search rules in
     let m = ap option_of (sym x) ∙ c.integer_of.ensures in
-    record { makes = λ P l p o. print-makes a.stepper.linear p o c.print-statement.ensures a.events.now a.at c.in_ok-z.z m d (c.bits.ensures ∙ ap (of_z w64) z) c.stay.ensures }
+    record { makes = λ P l p o. print-makes a.stepper.now.linear p o c.print-statement.ensures a.events.now a.at c.in_ok-z.z m d (c.bits.ensures ∙ ap (of_z w64) z) c.stay.ensures }

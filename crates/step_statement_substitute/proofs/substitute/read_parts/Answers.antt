@@ -10,9 +10,9 @@ use Rattle.step_statement_substitute.proofs.substitute.read_parts.Goals as goal
 pub returns : goal.returns
 returns c =
     let a = c.args in
-    let ps = pairs_of (record_at a.frame a.image.now a.position) in
+    let ps = pairs_of (record_at a.image.now.frame a.image.now.bytes.now a.position) in
     record {
       targets' = c.target_row-targets.ensures;
       sources' = c.source_row-sources.ensures;
-      few = omega (arith, row-length c.target_row-targets.ensures, length-map ps (λ p. p.0.var.id), pairs-short a.frame a.image.now a.position c.requires);
+      few = omega (arith, row-length c.target_row-targets.ensures, length-map ps (λ p. p.0.var.id), pairs-short a.image.now.frame a.image.now.bytes.now a.position a.image.now.ready c.requires);
     }

@@ -6,5 +6,5 @@ use Rattle.step_statement_switch.proofs.switch.source.Goals as goal
 pub returns : goal.returns
 returns c = record {
   makes = λ P l p o.
-      source-makes p o c.requires.0.record' refl c.first-var.ensures c.slot_of-value.ensures refl c.switch.ensures;
+      source-makes p o c.requires.record' refl c.first-var.ensures c.slot_of-value.ensures refl c.switch.ensures;
 }

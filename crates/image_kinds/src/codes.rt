@@ -1,0 +1,33 @@
+// The kind that a byte stands for. (`as u8` gives the byte of a kind.)
+ghost use Rattle.image_kinds.specs.Codes.{Decodes};
+
+use crate::kinds::Kind;
+
+// A byte that stands for no kind.
+#[derive(Clone, Copy, PartialEq, Eq)]
+pub struct NoKind(pub u8);
+
+impl TryFrom<u8> for Kind {
+    type Error = NoKind;
+
+    ghost try_from_gives = { Decodes };
+
+    fn try_from(code: u8) -> Result<Self, NoKind> {
+        match code {
+            1 => Ok(Kind::Definition),
+            2 => Ok(Kind::Substitute),
+            3 => Ok(Kind::Call),
+            4 => Ok(Kind::Let),
+            5 => Ok(Kind::Switch),
+            6 => Ok(Kind::Create),
+            7 => Ok(Kind::Invoke),
+            8 => Ok(Kind::Literal),
+            9 => Ok(Kind::Op),
+            10 => Ok(Kind::IfC),
+            11 => Ok(Kind::Clause),
+            12 => Ok(Kind::Print),
+            13 => Ok(Kind::Exit),
+            _ => Err(NoKind(code)),
+        }
+    }
+}

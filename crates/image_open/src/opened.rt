@@ -1,0 +1,9 @@
+// An image that has passed questions 1 to 5: how many definitions it has, and its max_id.
+use image_directory::image::Image;
+
+#[derive(Clone, Copy)]
+pub struct Opened<'a> {
+    pub image: Image<'a>,
+    pub definitions: usize,
+    pub max_id: u32,
+}

@@ -1,0 +1,2 @@
+-- Laws of the loops over a record's list.
+pub mod ListCounts
