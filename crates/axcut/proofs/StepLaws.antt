@@ -13,6 +13,7 @@ use Rattle.model.specs.Machine.{nth, Given}
 use Rattle.image_spec.specs.declared.Layout.{Layout}
 use Rattle.image_spec.specs.Layout.{layout1}
 use Rattle.image_spec.specs.Reading.{Reading, refuse, accept}
+use Rattle.step_spec.specs.declared.MachineKind.{MachineKind}
 use Rattle.step_spec.specs.Located.{Located, located_start}
 use Rattle.step_spec.specs.Store.{store_bytes}
 use Rattle.step_spec.specs.Events.{givens}
@@ -35,12 +36,12 @@ said_is (Err NoState) store events = refl
 said_is (Err (NoRoom s)) store events = refl
 said_is (Ok s) store events = refl
 
-module _ (linear : Bool) {L : Layout} (one : L ≡ layout1) (said : std.Result Shown Failure) where
-  pub told-steps : (image : List ℕ) (n : ℕ) (store events : List ℕ) {store' events' : List ℕ} {number steps length : ℕ} → result_of said store' events' ≡ step_call_lem (stepper_of linear L) image n store events
+module _ (kind : MachineKind) {L : Layout} (one : L ≡ layout1) (said : std.Result Shown Failure) where
+  pub told-steps : (image : List ℕ) (n : ℕ) (store events : List ℕ) {store' events' : List ℕ} {number steps length : ℕ} → result_of said store' events' ≡ step_call_lem (stepper_of kind L) image n store events
       → (number ≡ (result_of said [] []).number) × ((steps ≡ (result_of said [] []).steps) × (length ≡ (result_of said [] []).length))
-      → step_result number steps length store' events' ≡ step_call_lem (stepper_of linear layout1) image n store events
+      → step_result number steps length store' events' ≡ step_call_lem (stepper_of kind layout1) image n store events
   told-steps image n store events {store'} {events'} e t =
-      (λ i. step_result (t.0 i) (t.1.0 i) (t.1.1 i) store' events') ∙ (said_is said store' events' ∙ (e ∙ ap (λ (l : Layout). step_call_lem (stepper_of linear l) image n store events) one))
+      (λ i. step_result (t.0 i) (t.1.0 i) (t.1.1 i) store' events') ∙ (said_is said store' events' ∙ (e ∙ ap (λ (l : Layout). step_call_lem (stepper_of kind l) image n store events) one))
 
 -- ── starts ──
 
@@ -85,13 +86,13 @@ store_is (Err NoState) store = refl
 store_is (Err (NoRoom s)) store = refl
 store_is (Ok s) store = refl
 
-pub told-start : (linear : Bool) {L : Layout} → L ≡ layout1 → (said : std.Result Shown Failure) (image : List ℕ) (n : ℕ) (values store : List ℕ) {store' : List ℕ} {number : ℕ}
-    → result_of said store' [] ≡ start_call (stepper_of linear L) image n values store → number ≡ (result_of said [] []).number
-    → unchanged number store' [] ≡ start_call (stepper_of linear layout1) image n values store
-told-start linear {L} one said image n values store {store'} e t =
-    let q = e ∙ ap (λ (l : Layout). start_call (stepper_of linear l) image n values store) one in
+pub told-start : (kind : MachineKind) {L : Layout} → L ≡ layout1 → (said : std.Result Shown Failure) (image : List ℕ) (n : ℕ) (values store : List ℕ) {store' : List ℕ} {number : ℕ}
+    → result_of said store' [] ≡ start_call (stepper_of kind L) image n values store → number ≡ (result_of said [] []).number
+    → unchanged number store' [] ≡ start_call (stepper_of kind layout1) image n values store
+told-start kind {L} one said image n values store {store'} e t =
+    let q = e ∙ ap (λ (l : Layout). start_call (stepper_of kind l) image n values store) one in
     ap₂ {C = Result} (λ (k : ℕ) (s : List ℕ). unchanged k s []) (t ∙ (number_is said store' ∙ ap (λ (r : Result). r.number) q)) (store_is said store' ∙ ap (λ (r : Result). r.store) q)
-    ∙ starts-unchanged (stepper_of linear layout1) image n values store
+    ∙ starts-unchanged (stepper_of kind layout1) image n values store
 
 -- ── document 02, A.2, of the exported calls ──
 

@@ -18,6 +18,7 @@ use image_spec::Layout;
 use pass_program::linearize;
 use scope_check::check::check;
 use step_call::step;
+use step_spec::MachineKind;
 use step_start::start;
 
 // Questions 1 to 5.
@@ -58,7 +59,14 @@ pub fn axcut_linearize(image: &[u8], out: &mut [u8], length: &mut usize, max_id:
 pub fn axcut_source_start(image: &[u8], definition: usize, values: &[u8], store: &mut [u8]) -> u32
     ensures { unchanged result store.new [] ≡ start_call (source_stepper layout1) image.now definition values.now store.old }
 {
-    number_of(start(image, Layout::one(), false, definition, values, store))
+    number_of(start(
+        image,
+        Layout::one(),
+        MachineKind::Source,
+        definition,
+        values,
+        store,
+    ))
 }
 
 // Questions 1 to 10, 14 and 15. At most so many steps of the source machine from the state in the store; the events go to the beginning of
@@ -74,7 +82,14 @@ pub fn axcut_source_step(
     ensures { step_result result made.new length.new store.new events.new ≡ step_call_lem (source_stepper layout1) image.now steps store.old events.old }
 {
     tell_steps(
-        step(image, Layout::one(), false, steps, store, events),
+        step(
+            image,
+            Layout::one(),
+            MachineKind::Source,
+            steps,
+            store,
+            events,
+        ),
         made,
         length,
     )
@@ -84,7 +99,14 @@ pub fn axcut_source_step(
 pub fn axcut_linear_start(image: &[u8], definition: usize, values: &[u8], store: &mut [u8]) -> u32
     ensures { unchanged result store.new [] ≡ start_call (linear_stepper layout1) image.now definition values.now store.old }
 {
-    number_of(start(image, Layout::one(), true, definition, values, store))
+    number_of(start(
+        image,
+        Layout::one(),
+        MachineKind::Linear,
+        definition,
+        values,
+        store,
+    ))
 }
 
 // Questions 1 to 5, 14 and 15. As axcut_source_step, for the linear machine.
@@ -99,7 +121,14 @@ pub fn axcut_linear_step(
     ensures { step_result result made.new length.new store.new events.new ≡ step_call_lem (linear_stepper layout1) image.now steps store.old events.old }
 {
     tell_steps(
-        step(image, Layout::one(), true, steps, store, events),
+        step(
+            image,
+            Layout::one(),
+            MachineKind::Linear,
+            steps,
+            store,
+            events,
+        ),
         made,
         length,
     )

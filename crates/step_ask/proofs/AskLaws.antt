@@ -1,7 +1,6 @@
 -- The questions of a stepper: an image that was opened, and the scope check of it. Assumes nothing.
 use Prim.Native.Nat.{ℕ}
 use mathlib.Core.Path.{◌≡◌, refl, sym, ap, ◌∙◌}
-use mathlib.Core.Bool.{Bool, true, false}
 use mathlib.Core.List.{List}
 use native.Mathlib.Omega.{arith}
 use Rattle.image_spec.specs.declared.Layout.{Layout}
@@ -19,6 +18,8 @@ use Rattle.image_open.proofs.OpenedLaws.{IsOpened}
 use Rattle.scope_spec.specs.Calls.{after_reading, checking, check_of}
 use Rattle.scope_check.specs.Deciding.{program_in}
 use Rattle.scope_check.proofs.CheckLaws.{opened-answer}
+use Rattle.step_spec.specs.declared.MachineKind.{MachineKind}
+use Rattle.step_spec.specs.declared.MachineKind.TheVariants.{Source, Linear}
 use Rattle.step_spec.proofs.Stepping.{checked_is}
 use Rattle.step_rule.specs.Rules.{ImageOf}
 use Rattle.step_ask.specs.Asking.{stepper_of, Asks, closed, opened}
@@ -28,17 +29,17 @@ refused (refuse p) q e = let z : p ≡ q = cc (e) in ap refuse z
 refused (accept P) q e = let z : ◌≡◌ {A = ℕ} 0 1 = cc (e) in absurd (omega arith)
 
 -- an image that is refused when it is opened
-pub closed-asks : (L : Layout) (s : List ℕ) (b : Bool) {q : Refusal} → opened_of L s ≡ Err q → Asks L b s (Err q)
+pub closed-asks : (L : Layout) (s : List ℕ) (kind : MachineKind) {q : Refusal} → opened_of L s ≡ Err q → Asks L kind s (Err q)
 unfolding opened_of check_of
-closed-asks L s b {q} e = closed (go b)
+closed-asks L s kind {q} e = closed (go kind)
   where
     read : (r : Reading) → opened_by L s r ≡ Err q → r ≡ refuse q
     read (refuse p) e = let z : p ≡ q = cc (e) in ap refuse z
     read (accept p) e = let z : ◌≡◌ {A = ℕ} 0 1 = cc (e) in absurd (omega arith)
 
-    go : (b : Bool) → (stepper_of b L).asks s ≡ refuse q
-    go true = read (reading L s) e
-    go false = ap (λ (r : Reading). after_reading r checking) (read (reading L s) e)
+    go : (kind : MachineKind) → (stepper_of kind L).asks s ≡ refuse q
+    go Linear = read (reading L s) e
+    go Source = ap (λ (r : Reading). after_reading r checking) (read (reading L s) e)
 
 module _ {L : Layout} {s : List ℕ} {g : Frame} {D m : ℕ} (o : IsOpened L s g D m) where
   image-of : ImageOf o.program g D s
@@ -56,12 +57,12 @@ module _ {L : Layout} {s : List ℕ} {g : Frame} {D m : ℕ} (o : IsOpened L s g
       go (refuse q) p e = let z : ◌≡◌ {A = ℕ} 0 1 = cc (e) in absurd (omega arith)
       go (accept Q) p e = ap accept (sym (checked_is o.program Q p))
 
-  pub source-closed : {r : Answer} {q : Refusal} → r ≡ answer_of (checking (program_in D (records_in g s) m)) → r ≡ Err q → Asks L false s (Err q)
+  pub source-closed : {r : Answer} {q : Refusal} → r ≡ answer_of (checking (program_in D (records_in g s) m)) → r ≡ Err q → Asks L Source s (Err q)
   source-closed {r} {q} e f = closed (refused (check_of L s) q (sym (e ∙ opened-answer o) ∙ f))
 
 module _ {L : Layout} (o : Opened) (is : IsOpened L o.image.bytes.now o.image.frame o.definitions o.max_id) where
-  pub linear-asks : Asks L true o.image.bytes.now (Ok o)
+  pub linear-asks : Asks L Linear o.image.bytes.now (Ok o)
   linear-asks = opened is.program is.reads (image-of is) refl
 
-  pub source-asks : {r : Answer} {told : Accepted} → r ≡ answer_of (checking (program_in o.definitions (records_of o.image) o.max_id)) → r ≡ Ok told → Asks L false o.image.bytes.now (Ok o)
+  pub source-asks : {r : Answer} {told : Accepted} → r ≡ answer_of (checking (program_in o.definitions (records_of o.image) o.max_id)) → r ≡ Ok told → Asks L Source o.image.bytes.now (Ok o)
   source-asks e f = opened is.program (source_accepts is e f) (image-of is) refl

@@ -1,2 +1,3 @@
 -- The laws of a stepper's questions.
+pub mod KindLaws
 pub mod AskLaws

@@ -8,13 +8,14 @@ use image_open::open;
 use image_open::opened::Opened;
 use image_spec::{Layout, Refusal};
 use scope_check::check::check_image;
+use step_spec::MachineKind;
 
-pub fn ask(image: &[u8], layout: Layout, linear: bool) -> Result<Opened<'_>, Refusal>
+pub fn ask(image: &[u8], layout: Layout, machine: MachineKind) -> Result<Opened<'_>, Refusal>
     requires { Known layout }
-    ensures { Asks layout linear image.now result }
+    ensures { Asks layout machine image.now result }
 {
     let opened = open(image, layout)?;
-    if !linear {
+    if machine == MachineKind::Source {
         check_image(&opened, &mut [])?;
     }
     Ok(opened)

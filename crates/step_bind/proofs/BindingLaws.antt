@@ -2,22 +2,22 @@
 use Rattle.std.specs.Prelude.{Result}
 use Prim.Native.Nat.{ℕ, ◌+◌, ◌-◌, ◌*◌, ◌≤◌}
 use mathlib.Core.Path.{◌≡◌, refl, sym, ap, ap₂, ◌∙◌, subst}
-use mathlib.Core.Bool.{Bool, true, false, cond}
-use mathlib.Core.List.{List, [], ◌∷◌, ◌++◌, map, append-nil, map-append}
+use mathlib.Core.List.{List, [], ◌∷◌, ◌++◌, map, map-append}
 use mathlib.Core.Option.{some}
 use native.Mathlib.Omega.{arith}
 use lib.IntN.{ℤ}
-use lib.ListN.{length, take, drop, length-append, take-append-drop}
+use lib.ListN.{length, take, drop, length-append}
 use mir.Syntax.{w64}
 use mir.Val.{of_z}
 use Rattle.syntax.specs.declared.names.VarId.{VarId}
 use Rattle.model.specs.Syntax.{Stmt, Prog}
-use Rattle.model.specs.Machine.{Value, int, Entries, at, Event, shows}
+use Rattle.model.specs.Machine.{int, Entries, at, Event, shows}
 use Rattle.image_spec.specs.Parse.{each}
-use Rattle.step_slots.specs.declared.Slot.{Slot}
-use Rattle.step_slots.specs.Slots.{slot, slot_bytes}
+use Rattle.step_slots.specs.Slots.{Slot, slot, slot_bytes}
 use Rattle.step_slots.proofs.SlotBytes.{slots-taken, slots-count}
-use Rattle.step_spec.specs.Located.{Machine, source_machine, linear_machine, Kept, Located, cell_in, project, next_place_lem, located_step}
+use Rattle.step_spec.specs.declared.MachineKind.{MachineKind}
+use Rattle.step_spec.specs.declared.MachineKind.TheVariants.{Source, Linear}
+use Rattle.step_spec.specs.Located.{Machine, Kept, Located, cell_in, project, next_place_lem, located_step}
 use Rattle.step_spec.specs.Store.{place_of, entry_slot, environment_of}
 use Rattle.step_spec.specs.Events.{event_bytes, event_head}
 use Rattle.step_spec.proofs.Lists.{each-++}
@@ -26,32 +26,32 @@ use Rattle.step_header.specs.Headers.{entries_in}
 use Rattle.step_write.specs.declared.Step.{Step}
 use Rattle.step_write.specs.declared.Stop.{Stop}
 use Rattle.step_write.specs.Writing.{Finishes}
-use Rattle.step_rule.specs.Rules.{Stored, resting, Makes}
+use Rattle.step_rule.specs.Rules.{machine_for, Stored, resting, Makes}
 use Rattle.step_rule.proofs.Views.{viewed}
-use Rattle.step_rule.proofs.Leads.{Leads, leads-makes}
+use Rattle.step_rule.proofs.Leads.{leads-makes}
 use Rattle.step_rule.proofs.Ways.{lead_same}
-use Rattle.step_bind.specs.Binding.{bound, behind, place_for, Binds}
+use Rattle.step_bind.specs.Binding.{moving_lem, bound, behind, place_for, Binds}
 
-pub fewer : (b : Bool) (n : ℕ) → cond b 0 n ≤ n
-fewer true n = omega arith
-fewer false n = omega arith
+pub fewer : (b : MachineKind) (n : ℕ) → moving_lem b n ≤ n
+fewer Linear n = omega arith
+fewer Source n = omega arith
 
 -- in front or behind
-abbrev pub added : {A : Type 0} → (linear : Bool) → A → List A → List A
-added true a l = l ++ (a ∷ [])
-added false a l = a ∷ l
+abbrev pub added : {A : Type 0} → MachineKind → A → List A → List A
+added Linear a l = l ++ (a ∷ [])
+added Source a l = a ∷ l
 
-added-slots : (b : Bool) (K : List Kept) (x : VarId) (z : ℤ) (ε : Entries) → environment_of K (added b (x, int z) ε) ≡ added b (slot 0 x.0 (of_z w64 z)) (environment_of K ε)
+added-slots : (b : MachineKind) (K : List Kept) (x : VarId) (z : ℤ) (ε : Entries) → environment_of K (added b (x, int z) ε) ≡ added b (slot 0 x.0 (of_z w64 z)) (environment_of K ε)
 unfolding environment_of
-added-slots true K x z ε = map-append (entry_slot (place_of K)) ε ((x, int z) ∷ [])
-added-slots false K x z ε = refl
+added-slots Linear K x z ε = map-append (entry_slot (place_of K)) ε ((x, int z) ∷ [])
+added-slots Source K x z ε = refl
 
-added-length : (b : Bool) (t : Slot) (E : List Slot) → length (added b t E) ≡ length E + 1
-added-length true t E = length-append E (t ∷ [])
-added-length false t E = omega arith
+added-length : (b : MachineKind) (t : Slot) (E : List Slot) → length (added b t E) ≡ length E + 1
+added-length Linear t E = length-append E (t ∷ [])
+added-length Source t E = omega arith
 
 -- what was finished, with what the code computed
-pub binds_as : {b : Bool} {store events store' events' : List ℕ} {h : Header} {at' kind id payload from k : ℕ} {front : List ℕ} {m : Result Step Stop}
+pub binds_as : {b : MachineKind} {store events store' events' : List ℕ} {h : Header} {at' kind id payload from k : ℕ} {front : List ℕ} {m : Result Step Stop}
     → from ≡ place_for b h → front ≡ slot_bytes (slot 0 id payload) → k ≡ behind b h
     → Finishes store events at' (bound h) (event_head kind 0 0 0 payload) from (front ++ take (16 * k) (drop from store)) store' events' m
     → Binds b store events h at' kind id payload store' events' m
@@ -61,14 +61,14 @@ binds_as {b} {store} {events} {store'} {events'} {h} {at'} {kind} {id} {payload}
     ap₂ {C = List ℕ} (λ (x : List ℕ) (j : ℕ). x ++ take (16 * j) (drop from store)) q r in
     record { finishes = subst (λ (i : ℕ). F i (slot_bytes (slot 0 id payload) ++ take (16 * behind b h) (drop i store))) p (subst (F from) g f) }
 
-module _ (b : Bool) {P : Prog} {store : List ℕ} {h : Header} {l : Located} (o : Stored (cond b linear_machine source_machine) P store h l) where
+module _ (b : MachineKind) {P : Prog} {store : List ℕ} {h : Header} {l : Located} (o : Stored (machine_for b) P store h l) where
   abbrev M : Machine
-  M = cond b linear_machine source_machine
+  M = machine_for b
 
   -- the environment, part by part
-  parts : (c : Bool) (t : Slot) → each slot_bytes (added c t (entries_in store h))
+  parts : (c : MachineKind) (t : Slot) → each slot_bytes (added c t (entries_in store h))
       ≡ each slot_bytes (take (h.entries - behind c h) (entries_in store h)) ++ (slot_bytes t ++ take (16 * behind c h) (drop (place_for c h) store))
-  parts true t =
+  parts Linear t =
       let E = entries_in store h in
       let n : h.entries - 0 ≡ length E = omega (arith, slots-count store (64 + 16 * h.heap) h.entries) in
       let q : take (h.entries - 0) E ≡ E = ap (λ (n : ℕ). take n E) n ∙ take_all E in
@@ -77,7 +77,7 @@ module _ (b : Bool) {P : Prog} {store : List ℕ} {h : Header} {l : Located} (o 
       take_all : (xs : List Slot) → take (length xs) xs ≡ xs
       take_all [] = refl
       take_all (x ∷ xs) = ap (λ (z : List Slot). x ∷ z) (take_all xs)
-  parts false t =
+  parts Source t =
       let E = entries_in store h in
       let d : 0 ≡ h.entries - h.entries = omega arith in
       let k : 64 + 16 * h.heap ≡ 64 + 16 * (h.heap + 0) = omega arith in

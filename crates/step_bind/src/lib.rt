@@ -1,42 +1,44 @@
 // An integer under a new variable: what Literal and Op of either machine write.
 #![tactic(auto)]
 
-ghost use Rattle.std.specs.Prelude.{◌≡◌, cond, ◌+◌, ◌*◌, ◌≤◌, ◌<◌, ◌^◌, length};
-ghost use Rattle.step_header.specs.Headers.{Holds};
-ghost use Rattle.step_bind.specs.Binding.{Binds};
+ghost use Rattle.std.specs.Prelude.{◌≡◌, ◌+◌, ◌<◌, ◌^◌, ◌≤◌, length};
+ghost use Rattle.step_write.specs.Working.{Fit, Keeps};
+ghost use Rattle.step_bind.specs.Binding.{moving_lem, Binds};
 ghost use Rattle.image_kinds.specs.Codes.{code_of};
 
 use image_kinds::kinds::Kind;
 use step_header::Header;
+use step_slots::sort::Sort;
 use step_slots::{Slot, put_slot};
-use step_write::{EventHead, Step, Stop, finish};
+use step_spec::MachineKind;
+use step_write::{EventHead, Step, Stop, Work, finish};
 
 // The source machine's variables come in front of those that are there, the linear machine's behind them: how many move.
-fn moving(linear: bool, entries: usize) -> usize
-    ensures { result ≡ cond linear 0 entries }
+fn moving(machine: MachineKind, entries: usize) -> usize
+    ensures { result ≡ moving_lem machine entries }
 {
-    if linear { 0 } else { entries }
+    match machine {
+        MachineKind::Source => entries,
+        MachineKind::Linear => 0,
+    }
 }
 
 pub fn bind(
-    linear: bool,
-    store: &mut [u8],
-    events: &mut [u8],
+    machine: MachineKind,
+    work: &mut Work<'_, '_>,
     scratch: &mut [u8],
-    header: Header,
-    at: usize,
     kind: Kind,
     id: u32,
     payload: u64,
 ) -> Result<Step, Stop>
-    requires { (header.position + 1 < 2 ^ 32) × (Holds store.old header × ((at ≤ length events.old) × (16 ≤ length scratch.old))) }
-    ensures { Binds linear store.old events.old header at (code_of kind) id payload store.new events.new result }
+    requires { (work.old.header.position + 1 < 2 ^ 32) × (Fit work.old × (16 ≤ length scratch.old)) }
+    ensures { Binds machine work.old.store.now work.old.events.now work.old.header work.old.at (code_of kind) id payload work.new.store.now work.new.events.now result × Keeps work.old work.new }
 {
-    let heap = header.heap as usize;
-    let entries = header.entries as usize;
-    let kept = moving(linear, entries);
+    let heap = work.header.heap as usize;
+    let entries = work.header.entries as usize;
+    let kept = moving(machine, entries);
     let var = Slot {
-        sort: 0,
+        sort: Sort::Integer,
         id,
         payload,
     };
@@ -49,12 +51,12 @@ pub fn bind(
         payload,
     };
     let next = Header {
-        position: header.position + 1,
+        position: work.header.position + 1,
         ended: false,
         stopped: false,
-        entries: header.entries + 1,
-        ..header
+        entries: work.header.entries + 1,
+        ..work.header
     };
     let from = 64 + 16 * (heap + (entries - kept));
-    finish(store, events, at, event, next, from, kept, scratch, 1)
+    finish(work, scratch, event, next, from, kept, 1)
 }

@@ -1,6 +1,8 @@
 -- Steps on an image whose questions were answered with yes: what the store was opened as, and what is then answered. Assumes nothing.
+use Rattle.image_open.specs.declared.opened.Opened.{Opened}
+use Rattle.step_spec.specs.declared.MachineKind.{MachineKind}
 use Prim.Native.Nat.{ℕ, ◌^◌, ◌<◌}
-use mathlib.Core.Path.{◌≡◌, sym, ap, ◌∙◌}
+use mathlib.Core.Path.{◌≡◌, sym, ap, ◌∙◌, subst}
 use mathlib.Core.Bool.{Bool, true, false}
 use mathlib.Core.List.{List}
 use lib.ListN.{length}
@@ -26,7 +28,7 @@ use Rattle.step_answer_spec.specs.declared.Shown.{Shown}
 use Rattle.step_answer_spec.specs.declared.Failure.{Failure}
 use Rattle.step_answer_spec.specs.declared.Failure.TheVariants.{NoState}
 use Rattle.step_answer_spec.specs.Saying.{result_of, Accepted}
-use Rattle.step_call.specs.Stepping.{said_of, Forged}
+use Rattle.step_call.specs.Stepping.{said_of, Forged, StepsOn}
 use Rattle.step_call.proofs.OpenedState.{not_opened, opened-reads}
 use Rattle.step_call.proofs.CallLaws.{forged_step, settled_flag, from_none, from-resting, from-ran}
 
@@ -66,3 +68,9 @@ module _ {stepper : Stepper} {bytes store : List ℕ} {opened : Option Header} (
     ran-steps {n} {events} {store'} {events'} {r} w {s} k P p d =
         ap (λ (z : Result Shown Failure). result_of z store' events') k
         ∙ from-ran (machine_in stepper) P n store events (seen store h) (opened-reads p o e).read (w.runs P (seen store h) (living p d))
+
+-- the buffers as a call leaves them are those that its steps left
+pub carried : {machine : MachineKind} {o : Opened} {n : ℕ} {store events : List ℕ} (s e : List ℕ) {s' e' : List ℕ} {r : Result Shown Failure} → s' ≡ s → e' ≡ e
+    → StepsOn machine o n store events s e r → StepsOn machine o n store events s' e' r
+carried {machine} {o} {n} {store} {events} s e {s'} {e'} {r} p q w =
+    subst (λ (x : List ℕ). StepsOn machine o n store events x e' r) (sym p) (subst (λ (y : List ℕ). StepsOn machine o n store events s y r) (sym q) w)

@@ -2,6 +2,7 @@
 use Rattle.std.specs.Prelude.{ℕ, ◌≡◌, Bool, true, false, not, ◌&&◌, List, Result, Ok, Err}
 use Rattle.model.specs.Syntax.{Prog}
 use Rattle.image_open.specs.declared.opened.Opened.{Opened}
+use Rattle.step_spec.specs.declared.MachineKind.{MachineKind}
 use Rattle.step_spec.specs.Located.{Located, project, is_stop}
 use Rattle.step_spec.specs.Store.{state_from}
 use Rattle.step_spec.specs.Calls.{step_from}
@@ -28,5 +29,5 @@ pub record Forged (stepper : Stepper) (bytes store : List ℕ) (h : Header) (b :
   pub is : (P : Prog) (l : Located) → ProgramOf P stepper bytes → Reads P store h l → b ≡ (not l.has_stopped && is_stop ((machine_in stepper).step P (project P l)))
 
 -- the steps and the answer are those of the definition, whatever program the image is that of
-pub record StepsOn (linear : Bool) (o : Opened) (n : ℕ) (store events store' events' : List ℕ) (r : Result Shown Failure) : Type 0 where
-  pub steps : (P : Prog) → ImageOf P o.image.frame o.definitions o.image.bytes.now → Readable P → result_of r store' events' ≡ step_from (machine_for linear) P n (state_from P store) store events
+pub record StepsOn (machine : MachineKind) (o : Opened) (n : ℕ) (store events store' events' : List ℕ) (r : Result Shown Failure) : Type 0 where
+  pub steps : (P : Prog) → ImageOf P o.image.frame o.definitions o.image.bytes.now → Readable P → result_of r store' events' ≡ step_from (machine_for machine) P n (state_from P store) store events

@@ -4,7 +4,6 @@
 ghost use Rattle.std.specs.Prelude.{◌≡◌, ◌<◌};
 ghost use Rattle.image_open.specs.Opening.{Known};
 ghost use Rattle.step_spec.specs.Calls.{step_call_lem};
-ghost use Rattle.step_header.specs.Headers.{Holds};
 ghost use Rattle.step_order.specs.Sure.{SureIn};
 ghost use Rattle.step_ask.specs.Asking.{stepper_of};
 ghost use Rattle.step_answer_spec.specs.Saying.{result_of, Accepted};
@@ -14,7 +13,7 @@ use image_open::opened::Opened;
 use image_spec::Layout;
 use step_answer_spec::{Failure, Shown};
 use step_ask::ask;
-use step_header::Header;
+use step_header::state::State;
 use step_open::open_store;
 use step_order::list::entries_row;
 use step_order::stops;
@@ -22,24 +21,29 @@ use step_places::ends::fill_ends;
 use step_places::stepper::Stepper;
 use step_rows::distinct;
 use step_run::{Ran, run};
+use step_spec::MachineKind;
+use step_write::Work;
 
 // Does the machine stop at the state, though its flag is clear? No call leaves such a store.
-fn is_forged(stepper: &Stepper<'_>, store: &[u8], header: Header) -> bool
-    requires { (header.position < stepper.now.image.frame.count) × Holds store.now header }
-    ensures { Forged stepper.now stepper.now.image.bytes.now store.now header result }
+fn is_forged(stepper: &Stepper<'_>, state: &State<'_>) -> bool
+    requires { state.now.header.position < stepper.now.image.frame.count }
+    ensures { Forged stepper.now stepper.now.image.bytes.now state.now.store.now state.now.header result }
 {
-    if header.ended || header.stopped || !stepper.linear {
+    let header = state.header;
+    if header.ended || header.stopped || stepper.machine == MachineKind::Source {
         return false;
     }
-    stops(stepper, store, header, false)
+    stops(stepper, state, false)
 }
 
 // Are the IDs of the linear machine's list distinct? It is asked once a call: steps keep them so.
-fn is_sure(stepper: &Stepper<'_>, store: &[u8], header: Header) -> bool
-    requires { Holds store.now header }
-    ensures { SureIn stepper.now result store.now header }
+fn is_sure(stepper: &Stepper<'_>, state: &State<'_>) -> bool
+    ensures { SureIn stepper.now result state.now.store.now state.now.header }
 {
-    stepper.linear && distinct(store, entries_row(store, header))
+    match stepper.machine {
+        MachineKind::Source => false,
+        MachineKind::Linear => distinct(&entries_row(state)),
+    }
 }
 
 fn answer(ran: Ran) -> Result<Shown, Failure>
@@ -58,13 +62,13 @@ fn answer(ran: Ran) -> Result<Shown, Failure>
 // At most so many steps on an image whose questions were answered with yes.
 fn step_on(
     opened: &Opened<'_>,
-    linear: bool,
+    machine: MachineKind,
     steps: u64,
     store: &mut [u8],
     events: &mut [u8],
 ) -> Result<Shown, Failure>
     requires { Accepted opened.now.image.frame opened.now.definitions opened.now.image.bytes.now }
-    ensures { StepsOn linear opened.now steps store.old events.old store.new events.new result }
+    ensures { StepsOn machine opened.now steps store.old events.old store.new events.new result }
 {
     let header = open_store(&opened.image, store).ok_or(Failure::NoState)?;
     let mut ends = [0u32; 4000];
@@ -73,31 +77,38 @@ fn step_on(
         image: opened.image,
         ends: &ends,
         definitions: opened.definitions,
-        linear,
+        machine,
     };
-    if is_forged(&stepper, store, header) {
+    let state = State { store, header };
+    if is_forged(&stepper, &state) {
         return Ok(Shown {
             steps: 0,
             length: 0,
         });
     }
-    let sure = is_sure(&stepper, store, header);
+    let sure = is_sure(&stepper, &state);
     let mut scratch = [0u8; 2080];
-    answer(run(&stepper, store, events, &mut scratch, header, steps, sure))
+    let mut work = Work {
+        store,
+        events,
+        header,
+        at: 0,
+    };
+    answer(run(&stepper, &mut work, &mut scratch, steps, sure))
 }
 
 // At most so many steps of the source or the linear stepper.
 pub fn step(
     image: &[u8],
     layout: Layout,
-    linear: bool,
+    machine: MachineKind,
     steps: u64,
     store: &mut [u8],
     events: &mut [u8],
 ) -> Result<Shown, Failure>
     requires { Known layout }
-    ensures { result_of result store.new events.new ≡ step_call_lem (stepper_of linear layout) image.now steps store.old events.old }
+    ensures { result_of result store.new events.new ≡ step_call_lem (stepper_of machine layout) image.now steps store.old events.old }
 {
-    let opened = ask(image, layout, linear)?;
-    step_on(&opened, linear, steps, store, events)
+    let opened = ask(image, layout, machine)?;
+    step_on(&opened, machine, steps, store, events)
 }

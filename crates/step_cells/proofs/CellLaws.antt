@@ -11,8 +11,7 @@ use Rattle.model.specs.Syntax.{Prog}
 use Rattle.model.specs.Lists.{lookup}
 use Rattle.model.specs.Machine.{Value, int, cell, outside, Entries, Cells, Outcome, halts, or_halt, nth, as_xtor, matched, clo, as_closure, invoked}
 use Rattle.image_places_spec.specs.Views.{clauses_in}
-use Rattle.step_slots.specs.declared.Slot.{Slot}
-use Rattle.step_slots.specs.Slots.{slot, value_slot}
+use Rattle.step_slots.specs.Slots.{Slot, slot, value_slot}
 use Rattle.step_spec.specs.Located.{Machine, Kept, held, made, Located, stmt_in, cell_in}
 use Rattle.step_spec.specs.Store.{place_of, entry_slot, block_of, ValueFits, KeptFits}
 use Rattle.step_spec.proofs.Lists.{all-at}
@@ -22,8 +21,7 @@ use Rattle.step_header.specs.Headers.{heap_in}
 use Rattle.step_rule.specs.Rules.{Stored}
 use Rattle.step_rule.proofs.Views.{viewed}
 use Rattle.step_rule.proofs.Finds.{Sees, sees_none, sees-int, sees-cell, sees-outside}
-use Rattle.step_cells.specs.declared.Cell.{Cell}
-use Rattle.step_cells.specs.Cells.{cell_in'}
+use Rattle.step_cells.specs.Cells.{Cell, cell_in'}
 use Rattle.step_cells.proofs.HeldLaws.{no-reference}
 use Rattle.step_cells.proofs.HeapLaws.{Among, cell-number, cell_of, cell-there, Holding, holding}
 

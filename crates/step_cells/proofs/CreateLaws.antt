@@ -29,7 +29,7 @@ use Rattle.step_spec.proofs.Standing.{Stands, KeptStands}
 use Rattle.step_header.specs.declared.Header.{Header}
 use Rattle.step_rule.specs.Rules.{ImageOf, Stored}
 use Rattle.step_rule.proofs.Statements.{placed}
-use Rattle.step_cells.specs.declared.Cell.{Cell}
+use Rattle.step_cells.specs.Cells.{Cell}
 use Rattle.step_cells.proofs.CellLaws.{OfCreate}
 
 -- the statement at this place is a Create: its record can be read, and it stands there with its clauses

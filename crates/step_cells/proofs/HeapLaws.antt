@@ -10,8 +10,7 @@ use lib.ListN.{length, drop, length-append, length-drop}
 use lib.Seq.{drop-drop, drop-append-add}
 use Rattle.model.specs.Machine.{nth}
 use Rattle.image_spec.proofs.DirectoryLaws.{and_left, and_right}
-use Rattle.step_slots.specs.declared.Slot.{Slot}
-use Rattle.step_slots.specs.Slots.{slot, is_cell_lem}
+use Rattle.step_slots.specs.Slots.{Slot, slot, is_cell_lem}
 use Rattle.step_slots.specs.Views.{slot_at, slots_at, is_slot, all_slots}
 use Rattle.step_slots.proofs.SlotBytes.{slots-count}
 use Rattle.step_spec.specs.Located.{Kept}
@@ -20,8 +19,7 @@ use Rattle.step_spec.proofs.Slots.{leading-++, block_held, block_size, heap_from
 use Rattle.step_header.specs.declared.Header.{Header}
 use Rattle.step_header.specs.Headers.{heap_in, Holds}
 use Rattle.step_scan.proofs.PassLaws.{slots-drop}
-use Rattle.step_cells.specs.declared.Cell.{Cell}
-use Rattle.step_cells.specs.Cells.{no_cell_lem, cell_from, cell_in'}
+use Rattle.step_cells.specs.Cells.{Cell, no_cell_lem, cell_from, cell_in'}
 use Rattle.step_cells.proofs.HeldLaws.{all-slots-drop}
 
 -- ── the slots of the cell numbered k ──

@@ -10,7 +10,7 @@ use lib.Dec.{eqb}
 use lib.ListN.{length, drop, get_or}
 use lib.Seq.{get_or-drop}
 use Rattle.image_spec.proofs.DirectoryLaws.{and_left, and_right}
-use Rattle.step_slots.specs.declared.Slot.{Slot}
+use Rattle.step_slots.specs.Slots.{Slot}
 use Rattle.step_slots.specs.Views.{slot_at, slots_at, is_slot, all_slots}
 use Rattle.step_slots.proofs.SlotBytes.{standing}
 use Rattle.step_spec.specs.Store.{leading}
@@ -90,6 +90,12 @@ module _ (store : List ℕ) (heap place : ℕ) where
   counted-all j h c = let z : length (leading (behind j)) ≡ 0 = ap (λ (ts : List Slot). length (leading ts)) (slots-past store 64 heap j h) in omega (arith, c.left, z)
 
 -- ── the cell that a slot refers to ──
+
+-- its own slot is one
+pub own-slot : (store : List ℕ) (n p : ℕ) → p < n → all_slots (slots_at store 64 n) ≡ true → is_slot (slot_at store (64 + 16 * p)) ≡ true
+own-slot store n p h o =
+    let e = slots-drop store 64 n p ∙ slots_next store 64 n p h in
+    and_left (is_slot (slot_at store (64 + 16 * p))) (all_slots (slots_at store (64 + 16 * (p + 1)) (n - (p + 1)))) (ap all_slots (sym e) ∙ all-slots-drop p (slots_at store 64 n) o)
 
 pub no-reference : (heap : List Slot) (t : Slot) → (t.sort ≡ 1 → ⊥) → no_cell_lem ≡ cell_in' heap t
 unfolding cell_in'

@@ -4,17 +4,19 @@
 ghost use Rattle.std.specs.Prelude.{◌≡◌, true, ◌+◌, ◌*◌, ◌≤◌, ◌<◌, length, drop};
 ghost use Rattle.step_slots.specs.Views.{slots_at, all_slots};
 ghost use Rattle.step_spec.specs.Store.{leading};
-ghost use Rattle.step_header.specs.Headers.{heap_in, Holds};
-ghost use Rattle.step_cells.specs.Cells.{no_cell_lem, cell_in'};
+ghost use Rattle.step_slots.specs.Slots.{as_slot};
+ghost use Rattle.step_header.specs.States.{heap_of};
+ghost use Rattle.step_cells.specs.Cells.{found_cell, cell_in'};
 
-use step_header::Header;
+use step_header::state::State;
+use step_slots::sort::Sort;
 use step_slots::{Slot, read};
 
-// A cell: its own slot (sort 3 with a tag, or 4 with the place of a Create's record; its number), the byte where what it holds begins, and how
-// many slots that is. No cell is of sort 5.
+// A cell: its own slot (of a Let with a tag, or of a Create with the place of its record; its number), the byte where what it holds begins, and how
+// many slots that is.
 #[derive(Clone, Copy, Debug, PartialEq, Eq)]
 pub struct Cell {
-    pub sort: u8,
+    pub sort: Sort,
     pub id: u32,
     pub number: u64,
     pub from: usize,
@@ -29,42 +31,29 @@ pub fn held_count(store: &[u8], heap: usize, place: usize) -> usize
     let first = place + 1;
     for j in first..heap {
         let sort = store[64 + 16 * j];
-        if 3 <= sort {
+        if Sort::LetCell as u8 <= sort {
             return j - first;
         }
     }
     heap - first
 }
 
-fn no_cell() -> Cell
-    ensures { result ≡ no_cell_lem }
+// The cell that a value's slot refers to, if it refers to one.
+pub fn cell_of(state: &State<'_>, value: Slot) -> Option<Cell>
+    ensures { found_cell result ≡ cell_in' (heap_of state.now) (as_slot value) }
 {
-    Cell {
-        sort: 5,
-        id: 0,
-        number: 0,
-        from: 0,
-        len: 0,
-    }
-}
-
-// The cell that a value's slot refers to; one of sort 5 where it refers to none.
-pub fn cell_of(store: &[u8], header: Header, value: Slot) -> Cell
-    requires { Holds store.now header }
-    ensures { result ≡ cell_in' (heap_in store.now header) value }
-{
-    let heap = header.heap as usize;
+    let heap = state.header.heap as usize;
     let at = value.payload as usize;
-    if value.sort != 1 || heap <= at {
-        return no_cell();
+    if value.sort != Sort::Cell || heap <= at {
+        return None;
     }
-    let own = read(store, 64 + 16 * at);
-    let len = held_count(store, heap, at);
-    Cell {
+    let own = read(state.store, 64 + 16 * at)?;
+    let len = held_count(state.store, heap, at);
+    Some(Cell {
         sort: own.sort,
         id: own.id,
         number: own.payload,
         from: 64 + 16 * (at + 1),
         len,
-    }
+    })
 }

@@ -2,7 +2,7 @@
 use Rattle.std.specs.Prelude.{Err}
 use Prim.Native.Nat.{ℕ, ◌≤◌, ◌<◌}
 use mathlib.Core.Path.{◌≡◌, refl, ◌∙◌, subst}
-use mathlib.Core.List.{List, map}
+use mathlib.Core.List.{map}
 use native.Mathlib.Omega.{arith}
 use Rattle.model.specs.Syntax.{Stmt, Prog}
 use Rattle.model.specs.Machine.{halts}
@@ -14,7 +14,7 @@ use Rattle.image_kinds.specs.declared.kinds.Kind.{Kind}
 use Rattle.image_kinds.proofs.KindNames.{same_code}
 use Rattle.image_read_nodes.specs.Nodes.{record_at, At}
 use Rattle.step_spec.specs.Located.{Machine, source_machine, Located, stmt_in, cell_in}
-use Rattle.step_header.specs.declared.Header.{Header}
+use Rattle.step_write.specs.declared.Work.{Work}
 use Rattle.step_write.specs.declared.Stop.TheVariants.{NoStep}
 use Rattle.step_places.specs.declared.stepper.Stepper.{Stepper}
 use Rattle.step_rule.specs.Rules.{no_step, MakesAs}
@@ -43,18 +43,18 @@ is_of (is_ifc t e) = (omega arith, λ e. omega arith)
 is_of (is_print next) = (omega arith, λ e. omega arith)
 is_of is_exit = (omega arith, λ e. omega arith)
 
-module _ {stepper : Stepper} {bytes store events : List ℕ} {h : Header} {at k : ℕ} (a : At stepper.image.frame bytes h.position k) where
+module _ {stepper : Stepper} {w : Work} {k : ℕ} (a : At stepper.image.frame stepper.image.bytes.now w.header.position k) where
   -- no statement has a record of this kind
-  pub no-statement : {M : Machine} → (StatementKind k → ⊥) → MakesAs M stepper bytes store events h at store events (Err NoStep)
-  no-statement f = record { makes = λ P l p o. absurd (f (subst StatementKind a.kind (is_of (here p o (record_at stepper.image.frame bytes h.position) refl)))) }
+  pub no-statement : {M : Machine} → (StatementKind k → ⊥) → MakesAs M stepper w w (Err NoStep)
+  no-statement f = record { makes = λ P l p o. absurd (f (subst StatementKind a.kind (is_of (here p o (record_at stepper.image.frame stepper.image.bytes.now w.header.position) refl)))) }
 
   -- the source machine has no rule for a Substitute
-  pub no-source-rule : k < 3 → MakesAs source_machine stepper bytes store events h at store events (Err NoStep)
+  pub no-source-rule : k < 3 → MakesAs source_machine stepper w w (Err NoStep)
   unfolding source_work
   no-source-rule b = record {
     makes = λ P l p o.
-        let i = here p o (record_at stepper.image.frame bytes h.position) refl in
-        rw (halted o (source-works o (stmt_in P l.position) refl ∙ go P l (stmt_in P l.position) (record_at stepper.image.frame bytes h.position) i (omega (arith, a.kind, b)))) no_step;
+        let i = here p o (record_at stepper.image.frame stepper.image.bytes.now w.header.position) refl in
+        rw (halted o (source-works o (stmt_in P l.position) refl ∙ go P l (stmt_in P l.position) (record_at stepper.image.frame stepper.image.bytes.now w.header.position) i (omega (arith, a.kind, b)))) no_step;
   }
     where
       go : (P : Prog) (l : Located) (t : Stmt) (r : Record) → Is t r → kind_of r < 3 → source_work P t l.environment (map (cell_in P) l.cells) ≡ halts

@@ -10,8 +10,7 @@ use Rattle.std.specs.Prelude.{Result, Err}
 use Rattle.model.specs.Syntax.{Stmt, Prog}
 use Rattle.model.specs.Machine.{Entries, at, Event, shows, halts}
 use Rattle.image_spec.specs.Parse.{each}
-use Rattle.step_slots.specs.declared.Slot.{Slot}
-use Rattle.step_slots.specs.Slots.{slot_bytes}
+use Rattle.step_slots.specs.Slots.{Slot, slot_bytes}
 use Rattle.step_slots.proofs.SlotBytes.{slots-taken, slots-count}
 use Rattle.step_spec.specs.Located.{Machine, Kept, Located, cell_in, project, next_place_lem, located_step}
 use Rattle.step_spec.specs.Store.{place_of, entry_slot, environment_of}

@@ -20,14 +20,13 @@ use Rattle.image_directory.specs.Slots as image
 use Rattle.image_read_parts.specs.Parts.{list_of}
 use Rattle.image_read_nodes.specs.declared.Follows.{Follows}
 use Rattle.image_read_nodes.specs.Nodes.{record_at, Followed}
-use Rattle.step_slots.specs.declared.Slot.{Slot}
-use Rattle.step_slots.specs.Slots.{value_slot}
+use Rattle.step_slots.specs.Slots.{Slot, value_slot}
 use Rattle.step_spec.specs.Store.{entry_slot}
 use Rattle.step_places.specs.Heads.{head_record}
 use Rattle.step_places.specs.Searches.{Finds, FindsClause}
 use Rattle.step_places.proofs.NextPlaces.{found_at, none_found}
-use Rattle.step_rows.specs.declared.Row.{Row}
-use Rattle.step_rows.specs.Rows.{ids_in, Inside, RowOf}
+use Rattle.step_rows.specs.declared.row.Row.{Row}
+use Rattle.step_rows.specs.Rows.{ids_of}
 use Rattle.step_rows.proofs.RowLaws.{row-length}
 use Rattle.step_gather.specs.Gathering.{renamed}
 use Rattle.step_gather.proofs.GatheringLaws.{paired, unpaired}
@@ -59,7 +58,7 @@ module _ (frame : Frame) (bytes : List ℕ) where
   record ReadAt (p : Parameters) (found : Maybe ℕ) : Type 0 where
     j : ℕ
     is : found ≡ Some j
-    list : RowOf bytes p.row (ids (list_of (record_at frame bytes j)))
+    list : ids_of p.row ≡ ids (list_of (record_at frame bytes j))
     next : p.body ≡ j + 1
 
   parameters_some : {found : Maybe ℕ} {r : Maybe Parameters} {p : Parameters} → r ≡ Some p → ParametersOf frame bytes found r → ReadAt p found
@@ -67,14 +66,13 @@ module _ (frame : Frame) (bytes : List ℕ) where
   parameters_some {p = p} e (listed {j = j} {p = q} r k b) =
       let same : q ≡ p = cc in subst (λ (z : Parameters). ReadAt z (Some j)) same record { j = j; is = refl; list = r; next = b }
 
--- the row can be read, and is short
-pub record Fitting (bytes : List ℕ) (row : Row) : Type 0 where
-  pub inside : Inside bytes row
-  pub short : row.len ≤ 128
+-- the row is short
+pub record Fitting (row : Row) : Type 0 where
+  pub short : row.places.len ≤ 128
 
-pub fitting : {frame : Frame} {bytes : List ℕ} {found : Maybe ℕ} {r : Maybe Parameters} {p : Parameters} → r ≡ Some p → ParametersOf frame bytes found r → Fitting bytes p.row
+pub fitting : {frame : Frame} {bytes : List ℕ} {found : Maybe ℕ} {r : Maybe Parameters} {p : Parameters} → r ≡ Some p → ParametersOf frame bytes found r → Fitting p.row
 fitting e absent = let z : ◌≡◌ {A = ℕ} 0 1 = cc in absurd (omega arith)
-fitting {bytes = bytes} {p = p} e (listed {p = q} r k b) = let same : q ≡ p = cc in subst (λ (z : Parameters). Fitting bytes z.row) same record { inside = r.inside; short = k }
+fitting {p = p} e (listed {p = q} r k b) = let same : q ≡ p = cc in subst (λ (z : Parameters). Fitting z.row) same record { short = k }
 
 -- what a machine does with what it finds and these values: each parameter gets one
 abbrev pub with_values : {A : Type 0} → (A → Context) → List Value → (A → Entries → Outcome) → Option A → Outcome
@@ -99,7 +97,7 @@ module _ {A : Type 0} {context_of : A → Context} {body_of : A → Stmt} {kind 
     record There : Type 0 where
       what : A
       is : o ≡ some what
-      list : RowOf bytes p.row (ids (context_of what))
+      list : ids_of p.row ≡ ids (context_of what)
       next : p.body ≡ place
 
     there : There
@@ -109,25 +107,25 @@ module _ {A : Type 0} {context_of : A → Context} {body_of : A → Stmt} {kind 
         record {
           what = t.what;
           is = t.is;
-          list = subst (λ (Γ : Context). RowOf bytes p.row (ids Γ)) (ap list_of t.head ∙ head-list kind t.name (context_of t.what)) w.list;
+          list = w.list ∙ ap ids (ap list_of t.head ∙ head-list kind t.name (context_of t.what));
           next = w.next ∙ t.next;
         }
 
     -- another count
-    pub uneven_halts : (p.row.len ≡ length vs → ⊥) → with_values context_of vs enter o ≡ halts
+    pub uneven_halts : (p.row.places.len ≡ length vs → ⊥) → with_values context_of vs enter o ≡ halts
     uneven_halts n =
         let t = there in
-        let u : pair_up (ids (context_of t.what)) vs ≡ none = unpaired (ids (context_of t.what)) vs (λ c. n (sym (row-length t.list) ∙ c)) in
+        let u : pair_up (ids (context_of t.what)) vs ≡ none = unpaired (ids (context_of t.what)) vs (λ c. n (sym (row-length p.row t.list) ∙ c)) in
         ap (with_values context_of vs enter) t.is ∙ ap (λ (z : Option Entries). or_halt z (enter t.what)) u
 
-    pub enters_with : (of : ℕ → ℕ) → p.row.len ≡ length vs → Entered of enter (renamed (ids_in bytes p.row) (map (value_slot of 0) vs)) p.body place (with_values context_of vs enter o)
+    pub enters_with : (of : ℕ → ℕ) → p.row.places.len ≡ length vs → Entered of enter (renamed (ids_of p.row) (map (value_slot of 0) vs)) p.body place (with_values context_of vs enter o)
     enters_with of c =
         let t = there in
-        let w = paired of (ids (context_of t.what)) vs (row-length t.list ∙ c) in
+        let w = paired of (ids (context_of t.what)) vs (row-length p.row t.list ∙ c) in
         record {
           what = t.what;
           new = w.new;
           is = ap (with_values context_of vs enter) t.is ∙ ap (λ (z : Option Entries). or_halt z (enter t.what)) w.pairs;
-          slots = w.slots ∙ ap (λ (xs : List VarId). renamed xs (map (value_slot of 0) vs)) (sym t.list.ids);
+          slots = w.slots ∙ ap (λ (xs : List VarId). renamed xs (map (value_slot of 0) vs)) (sym t.list);
           next = t.next;
         }

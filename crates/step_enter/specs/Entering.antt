@@ -7,11 +7,10 @@ use Rattle.image_spec.specs.Kinds.{clauses_of}
 use Rattle.image_directory.specs.declared.Frame.{Frame}
 use Rattle.image_read_parts.specs.Parts.{list_of}
 use Rattle.image_read_nodes.specs.Nodes.{record_at}
-use Rattle.step_slots.specs.declared.Slot.{Slot}
-use Rattle.step_slots.specs.Slots.{slot_bytes}
+use Rattle.step_slots.specs.Slots.{Slot, slot_bytes}
 use Rattle.step_header.specs.declared.Header.{Header}
 use Rattle.step_places.specs.Searches.{FindsClause}
-use Rattle.step_rows.specs.Rows.{RowOf}
+use Rattle.step_rows.specs.Rows.{ids_of}
 use Rattle.step_write.specs.declared.Step.{Step}
 use Rattle.step_write.specs.declared.Stop.{Stop}
 use Rattle.step_write.specs.Writing.{Finishes}
@@ -20,7 +19,7 @@ use Rattle.step_enter.specs.declared.Parameters.{Parameters}
 -- what is read of the clause or definition that a search found: the IDs of its parameters, and the place of its body, which is behind it
 pub data ParametersOf (frame : Frame) (bytes : List ℕ) : Option ℕ → Option Parameters → Type 0 where
   absent : ParametersOf frame bytes None None
-  listed : {j : ℕ} {p : Parameters} → RowOf bytes p.row (ids (list_of (record_at frame bytes j))) → p.row.len ≤ max_count → p.body ≡ j + 1 → ParametersOf frame bytes (Some j) (Some p)
+  listed : {j : ℕ} {p : Parameters} → ids_of p.row ≡ ids (list_of (record_at frame bytes j)) → p.row.places.len ≤ max_count → p.body ≡ j + 1 → ParametersOf frame bytes (Some j) (Some p)
 
 -- the parameters of the first clause with this tag of the record at index i
 pub record ClauseOf (frame : Frame) (bytes : List ℕ) (i tag : ℕ) (r : Option Parameters) : Type 0 where

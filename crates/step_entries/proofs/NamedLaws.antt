@@ -3,17 +3,15 @@ use Prim.Native.Nat.{ℕ, suc, ◌+◌, ◌-◌, ◌*◌, ◌≤◌, ◌<◌}
 use mathlib.Core.Path.{◌≡◌, refl, sym, ap, ◌∙◌}
 use mathlib.Core.Bool.{Bool, true, false, cond}
 use mathlib.Core.List.{List, [], ◌∷◌, map}
-use mathlib.Core.Option.{Option, none, some}
+use mathlib.Core.Option.{some}
 use native.Mathlib.Omega.{arith}
 use borrow.Author.Tests.{eq-eqb, ne_eqb}
 use lib.Dec.{eqb}
 use lib.ListN.{drop}
-use Rattle.syntax.specs.Names.{same_var_id}
 use Rattle.syntax.specs.declared.names.VarId.{VarId}
 use Rattle.model.specs.Machine.{Value, int, cell, outside, Entries}
 use Rattle.model.specs.Lists.{lookup}
 use Rattle.image_spec.specs.Parse.{got, number}
-use Rattle.step_slots.specs.declared.Slot.{Slot}
 use Rattle.step_slots.specs.Slots.{value_slot}
 use Rattle.step_slots.specs.Views.{no_slot, slot_at, slots_at, is_slot, all_slots}
 use Rattle.image_spec.proofs.DirectoryLaws.{and_left, and_right}

@@ -1,9 +1,8 @@
 -- The slot with an ID, the first found; and what it says of an environment.
-use Rattle.std.specs.Prelude.{ℕ, Bool, cond, List, [], ◌∷◌, eqb}
+use Rattle.std.specs.Prelude.{ℕ, cond, List, [], ◌∷◌, eqb}
 use Rattle.std.proofs.Math.Option.{Option, none, some}
 use Rattle.model.specs.Machine.{Value}
-use Rattle.step_slots.specs.declared.Slot.{Slot}
-use Rattle.step_slots.specs.Slots.{slot, value_slot}
+use Rattle.step_slots.specs.Slots.{Slot, slot, value_slot}
 use Rattle.step_slots.specs.Views.{no_slot}
 
 -- the first with this ID

@@ -11,8 +11,7 @@ use Rattle.image_spec.proofs.DirectoryLaws.{and_left, and_right}
 use Rattle.image_write_parts.specs.Puts.{Puts}
 use Rattle.image_write_parts.proofs.Putting.{puts_as, puts-same}
 use Rattle.image_write_parts.proofs.Writing.{Written, written_none, written_next}
-use Rattle.step_slots.specs.declared.Slot.{Slot}
-use Rattle.step_slots.specs.Slots.{slot_bytes}
+use Rattle.step_slots.specs.Slots.{Slot, slot_bytes}
 use Rattle.step_slots.specs.Views.{no_slot, slot_at, slots_at, is_slot, all_slots}
 use Rattle.step_slots.proofs.SlotBytes.{slot-length, slots-count}
 

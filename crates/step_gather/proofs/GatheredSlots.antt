@@ -10,8 +10,7 @@ use lib.Seq.{sets, sets-eq, drop_at, length-take-le}
 use Rattle.syntax.specs.declared.names.VarId.{VarId}
 use Rattle.image_spec.specs.Parse.{each, All}
 use Rattle.image_spec.proofs.DirectoryLaws.{and_left, and_right}
-use Rattle.step_slots.specs.declared.Slot.{Slot}
-use Rattle.step_slots.specs.Slots.{slot_bytes, SlotOk}
+use Rattle.step_slots.specs.Slots.{Slot, slot_bytes, SlotOk}
 use Rattle.step_slots.specs.Views.{slot_at, slots_at, is_slot, all_slots}
 use Rattle.step_slots.proofs.SlotLaws.{slots-stand}
 use Rattle.step_slots.proofs.SlotBytes.{slots_length, standing}

@@ -11,8 +11,7 @@ use Rattle.model.specs.Syntax.{Prog}
 use Rattle.model.specs.Lists.{lookup, lookups, both, zip}
 use Rattle.model.specs.Machine.{Value, int, cell, outside, Entries, values, pair_up, and_first}
 use Rattle.image_spec.specs.Parse.{All}
-use Rattle.step_slots.specs.declared.Slot.{Slot}
-use Rattle.step_slots.specs.Slots.{slot, value_slot}
+use Rattle.step_slots.specs.Slots.{Slot, slot, value_slot}
 use Rattle.step_slots.specs.Views.{no_slot, is_slot}
 use Rattle.step_spec.specs.Located.{Machine, Located}
 use Rattle.step_spec.specs.Store.{place_of, entry_slot, environment_of, ValueFits, EntryFits}

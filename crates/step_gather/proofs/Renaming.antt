@@ -10,13 +10,12 @@ use Rattle.syntax.specs.declared.names.VarId.{VarId}
 use Rattle.image_spec.specs.Parse.{field, each}
 use Rattle.image_write_parts.specs.Puts.{Puts}
 use Rattle.image_write_parts.proofs.Putting.{sets_append, sets_before}
-use Rattle.step_slots.specs.declared.Slot.{Slot}
-use Rattle.step_slots.specs.Slots.{slot_bytes}
+use Rattle.step_slots.specs.Slots.{Slot, slot_bytes}
 use Rattle.step_slots.specs.Views.{no_slot, slot_at, slots_at, all_slots}
 use Rattle.step_slots.proofs.SlotLaws.{past}
 use Rattle.step_slots.proofs.SlotBytes.{Standing, standing, slots-count}
 use Rattle.step_entries.specs.Named.{under}
-use Rattle.step_rows.specs.Rows.{identified, number_at, ids_from}
+use Rattle.step_rows.specs.Placing.{identified, number_at, ids_from}
 use Rattle.step_write.proofs.Regions.{sets_same}
 use Rattle.step_gather.specs.Gathering.{renamed}
 use Rattle.step_gather.proofs.Filling.{Filled, filled_next, filled_kept, slot_of, slot_among}

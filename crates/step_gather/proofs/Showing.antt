@@ -5,8 +5,7 @@ use mathlib.Core.Bool.{Bool, cond}
 use mathlib.Core.List.{List}
 use borrow.Author.Tests.{eq-eqb, ne_eqb}
 use lib.ListN.{get_or}
-use Rattle.step_slots.specs.declared.Slot.{Slot}
-use Rattle.step_slots.specs.Slots.{slot}
+use Rattle.step_slots.specs.Slots.{Slot, slot}
 use Rattle.step_slots.specs.Views.{no_slot}
 use Rattle.step_gather.specs.Gathering.{shown_as}
 

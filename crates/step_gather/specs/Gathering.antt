@@ -4,8 +4,7 @@ use Rattle.std.proofs.lemmas.List.Edits.{sets}
 use Rattle.syntax.specs.declared.names.VarId.{VarId}
 use Rattle.model.specs.Lists.{every}
 use Rattle.image_spec.specs.Parse.{each}
-use Rattle.step_slots.specs.declared.Slot.{Slot}
-use Rattle.step_slots.specs.Slots.{slot, slot_bytes}
+use Rattle.step_slots.specs.Slots.{Slot, slot, slot_bytes}
 use Rattle.step_slots.specs.Views.{no_slot, is_slot}
 use Rattle.step_entries.specs.Named.{named, under}
 

@@ -5,53 +5,40 @@ ghost use Rattle.std.specs.Prelude.{◌≡◌, true, map, ◌+◌, ◌*◌, ◌�
 ghost use Rattle.std.proofs.lemmas.List.Edits.{sets};
 ghost use Rattle.image_spec.specs.Parse.{each};
 ghost use Rattle.image_write_parts.specs.Puts.{Puts};
-ghost use Rattle.step_slots.specs.Slots.{slot_bytes};
-ghost use Rattle.step_slots.specs.Views.{slots_at, all_slots};
+ghost use Rattle.step_slots.specs.Slots.{slot_bytes, as_slot};
+ghost use Rattle.step_slots.specs.Views.{slot_at, slots_at, all_slots};
 ghost use Rattle.step_entries.specs.Named.{under};
-ghost use Rattle.step_rows.specs.Rows.{ids_in, Inside};
+ghost use Rattle.step_rows.specs.Rows.{ids_of};
 ghost use Rattle.step_gather.specs.Gathering.{Gathers, renamed, shown_as};
 
 use step_entries::find;
-use step_rows::{Row, id_of};
-use step_slots::{Slot, put_four, put_slot, read};
+use step_rows::id_of;
+use step_rows::places::Places;
+use step_rows::row::Row;
+use step_slots::sort::Sort;
+use step_slots::{Slot, put_four, put_parts, put_slot, read};
 
 // The values of the row's variables, found among the n slots of store from at, each in a slot without its ID; no, as soon as one is absent.
-pub fn gather(
-    image: &[u8],
-    row: Row,
-    store: &[u8],
-    at: usize,
-    n: usize,
-    out: &mut [u8],
-    to: usize,
-) -> bool
-    requires { Inside image.now row × ((at + 16 * n ≤ length store.now) × ((all_slots (slots_at store.now at n) ≡ true) × (to + 16 * row.len ≤ length out.old))) }
-    ensures { Gathers (slots_at store.now at n) (ids_in image.now row) out.old to out.new result }
+pub fn gather(row: &Row<'_>, store: &[u8], at: usize, n: usize, out: &mut [u8], to: usize) -> bool
+    requires { (at + 16 * n ≤ length store.now) × ((all_slots (slots_at store.now at n) ≡ true) × (to + 16 * row.now.places.len ≤ length out.old)) }
+    ensures { Gathers (slots_at store.now at n) (ids_of row.now) out.old to out.new result }
 {
-    for j in 0..row.len {
-        let id = id_of(image, row, j);
-        let t = find(store, at, n, id);
-        let sort = t.sort;
-        if 4 < sort {
+    for j in 0..row.places.len {
+        let Some(found) = find(store, at, n, id_of(row, j)) else {
             return false;
-        }
-        let value = Slot {
-            sort,
-            id: 0,
-            payload: t.payload,
         };
-        put_slot(out, to + 16 * j, value);
+        put_slot(out, to + 16 * j, Slot { id: 0, ..found });
     }
     true
 }
 
 // The row's IDs in the slots from at, one for one. Only bytes 4 to 7 of each are written.
-pub fn rename(image: &[u8], row: Row, slots: &mut [u8], at: usize)
-    requires { Inside image.now row × ((at + 16 * row.len ≤ length slots.old) × (all_slots (slots_at slots.old at row.len) ≡ true)) }
-    ensures { slots.new ≡ sets slots.old at (each slot_bytes (renamed (ids_in image.now row) (slots_at slots.old at row.len))) }
+pub fn rename(row: &Row<'_>, slots: &mut [u8], at: usize)
+    requires { (at + 16 * row.now.places.len ≤ length slots.old) × (all_slots (slots_at slots.old at row.now.places.len) ≡ true) }
+    ensures { slots.new ≡ sets slots.old at (each slot_bytes (renamed (ids_of row.now) (slots_at slots.old at row.now.places.len))) }
 {
-    for j in 0..row.len {
-        let id = id_of(image, row, j);
+    for j in 0..row.places.len {
+        let id = id_of(row, j);
         put_four(slots, at + 16 * j + 4, id);
     }
 }
@@ -62,43 +49,62 @@ pub fn erase(slots: &mut [u8], at: usize, n: usize)
     ensures { slots.new ≡ sets slots.old at (each slot_bytes (map (under 0) (slots_at slots.old at n))) }
 {
     let bytes: [u8; 1] = [0];
-    let row = Row {
+    let places = Places {
         from: 0,
         stride: 0,
         offset: 0,
         width: 0,
         len: n,
     };
-    rename(&bytes, row, slots, at);
+    let row = Row {
+        bytes: &bytes,
+        places,
+    };
+    rename(&row, slots, at);
 }
 
-// A value as an event shows it, where the slots of the cells are the first `heap` of the store.
+// What an event shows of a value's 64 bits, where the slots of the cells are the first `heap` of the store: of a cell its number.
+fn shown_payload(store: &[u8], heap: usize, t: Slot) -> u64
+    requires { 64 + 16 * heap ≤ length store.now }
+    ensures { result ≡ (shown_as (slots_at store.now 64 heap) (as_slot t)).payload }
+{
+    if t.sort != Sort::Cell {
+        return t.payload;
+    }
+    let at = t.payload as usize;
+    if heap <= at {
+        return 0;
+    }
+    match read(store, 64 + 16 * at) {
+        Some(cell) => cell.payload,
+        None => 0,
+    }
+}
+
+// A value as an event shows it.
 fn shown(store: &[u8], heap: usize, t: Slot) -> Slot
     requires { 64 + 16 * heap ≤ length store.now }
-    ensures { result ≡ shown_as (slots_at store.now 64 heap) t }
+    ensures { as_slot result ≡ shown_as (slots_at store.now 64 heap) (as_slot t) }
 {
-    let sort = t.sort;
-    let payload = t.payload;
-    if sort == 1 {
-        let at = payload as usize;
-        if at < heap {
-            let cell = read(store, 64 + 16 * at);
-            return Slot {
-                sort,
-                id: 0,
-                payload: cell.payload,
-            };
-        }
-        return Slot {
-            sort,
-            id: 0,
-            payload: 0,
-        };
-    }
     Slot {
-        sort,
+        sort: t.sort,
         id: 0,
-        payload,
+        payload: shown_payload(store, heap, t),
+    }
+}
+
+// The slot from at as an event shows it. What is no slot is shown as sixteen bytes that are none.
+fn show_one(store: &[u8], heap: usize, slots: &[u8], at: usize, events: &mut [u8], to: usize)
+    requires { (64 + 16 * heap ≤ length store.now) × ((at + 16 ≤ length slots.now) × (to + 16 ≤ length events.old)) }
+    ensures { events.new ≡ sets events.old to (slot_bytes (shown_as (slots_at store.now 64 heap) (slot_at slots.now at))) }
+{
+    match read(slots, at) {
+        Some(t) => {
+            put_slot(events, to, shown(store, heap, t));
+        }
+        None => {
+            put_parts(events, to, 5, 0, 0);
+        }
     }
 }
 
@@ -116,9 +122,7 @@ pub fn show(
     ensures { Puts events.old events.new to result (each slot_bytes (map (shown_as (slots_at store.now 64 heap)) (slots_at slots.now at n))) }
 {
     for j in 0..n {
-        let t = read(slots, at + 16 * j);
-        let value = shown(store, heap, t);
-        put_slot(events, to + 16 * j, value);
+        show_one(store, heap, slots, at + 16 * j, events, to + 16 * j);
     }
     to + 16 * n
 }

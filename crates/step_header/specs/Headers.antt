@@ -1,7 +1,7 @@
 -- The first 64 bytes of a store as code holds them, and the state that they are said of.
 use Rattle.std.specs.Prelude.{ℕ, zero, suc, ◌+◌, ◌*◌, ◌≤◌, ◌≡◌, Bool, true, false, Option, Some, None, List, length}
 use Rattle.image_spec.specs.Parse.{Parsed, refused, got}
-use Rattle.step_slots.specs.declared.Slot.{Slot}
+use Rattle.step_slots.specs.Slots.{Slot}
 use Rattle.step_slots.specs.Views.{slots_at, all_slots}
 use Rattle.step_spec.specs.Located.{Located}
 use Rattle.step_spec.specs.Store as store

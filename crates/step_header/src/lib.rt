@@ -1,6 +1,8 @@
 // The first 64 bytes of a store: position, flags and counts.
 #![tactic(auto)]
 
+pub mod state;
+
 ghost use Rattle.std.specs.Prelude.{◌≡◌, ◌+◌, ◌≤◌, length, drop, replicate};
 ghost use Rattle.image_write_parts.specs.Puts.{Puts};
 ghost use Rattle.step_spec.specs.Store.{header_parser, header_bytes};

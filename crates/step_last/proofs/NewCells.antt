@@ -7,8 +7,7 @@ use Rattle.syntax.specs.declared.names.VarId.{VarId}
 use Rattle.model.specs.Syntax.{Prog}
 use Rattle.model.specs.Machine.{cell, Cells}
 use Rattle.model.specs.Linear.{before_last}
-use Rattle.step_slots.specs.declared.Slot.{Slot}
-use Rattle.step_slots.specs.Slots.{slot}
+use Rattle.step_slots.specs.Slots.{Slot, slot}
 use Rattle.step_spec.specs.Located.{Machine, Kept, Located, cell_in}
 use Rattle.step_spec.specs.Store.{place_of, entry_slot, environment_of, EntryFits}
 use Rattle.step_spec.proofs.Lists.{all_take}

@@ -14,7 +14,7 @@ use Rattle.syntax.specs.declared.names.VarId.{VarId}
 use Rattle.model.specs.Syntax.{Prog}
 use Rattle.model.specs.Lists.{lookup}
 use Rattle.model.specs.Machine.{Value, Entries, Outcome, halts, or_halt, as_int}
-use Rattle.step_slots.specs.declared.Slot.{Slot}
+use Rattle.step_slots.specs.Slots.{Slot}
 use Rattle.step_spec.specs.Located.{Machine, source_machine, linear_machine, Located, project, located_step}
 use Rattle.step_header.specs.declared.Header.{Header}
 use Rattle.step_header.specs.Headers.{entries_in}

@@ -3,7 +3,7 @@ use Rattle.std.specs.Prelude.{cond, eqb, ℤ}
 use Rattle.std.proofs.Math.Option.{Option, none, some}
 use Rattle.std.specs.Int.{w64}
 use Rattle.std.proofs.Common.{to_z}
-use Rattle.step_slots.specs.declared.Slot.{Slot}
+use Rattle.step_slots.specs.Slots.{Slot}
 
 -- .. where its sort says that it holds one
 unfoldable pub integer_in : Slot → Option ℤ

@@ -3,33 +3,33 @@
 
 ghost use Rattle.std.specs.Prelude.{◌≡◌};
 ghost use Rattle.syntax.specs.Options.{option_of};
-ghost use Rattle.step_header.specs.Headers.{entries_in, Holds};
+ghost use Rattle.step_slots.specs.Views.{found_slot};
+ghost use Rattle.step_header.specs.States.{entries_of};
 ghost use Rattle.step_entries.specs.Named.{named};
 ghost use Rattle.step_lookup.specs.Integer.{integer_in};
 
 use image_integers::from_bits;
 use step_entries::find;
-use step_header::Header;
+use step_header::state::State;
 use step_slots::Slot;
+use step_slots::sort::Sort;
 
-// One of sort 5 where the variable is absent.
-pub fn slot_of(store: &[u8], header: Header, id: u32) -> Slot
-    requires { Holds store.now header }
-    ensures { result ≡ named id (entries_in store.now header) }
+// The slot of a variable that is there.
+pub fn slot_of(state: &State<'_>, id: u32) -> Option<Slot>
+    ensures { found_slot result ≡ named id (entries_of state.now) }
 {
-    let heap = header.heap as usize;
-    let entries = header.entries as usize;
-    find(store, 64 + 16 * heap, entries, id)
+    let heap = state.header.heap as usize;
+    let entries = state.header.entries as usize;
+    find(state.store, 64 + 16 * heap, entries, id)
 }
 
 // The integer of a variable that is there and has one.
-pub fn integer_of(store: &[u8], header: Header, id: u32) -> Option<i64>
-    requires { Holds store.now header }
-    ensures { option_of result ≡ integer_in (named id (entries_in store.now header)) }
+pub fn integer_of(state: &State<'_>, id: u32) -> Option<i64>
+    ensures { option_of result ≡ integer_in (named id (entries_of state.now)) }
 {
-    let slot = slot_of(store, header, id);
-    if slot.sort == 0 {
-        return Some(from_bits(slot.payload));
+    let slot = slot_of(state, id)?;
+    match slot.sort {
+        Sort::Integer => Some(from_bits(slot.payload)),
+        _ => None,
     }
-    None
 }

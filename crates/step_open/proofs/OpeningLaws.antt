@@ -14,8 +14,7 @@ use Rattle.image_spec.specs.Parse.{Parsed, refused, got, and_then, only_if, time
 use Rattle.image_spec.specs.Image.{if_got}
 use Rattle.image_spec.proofs.ParseLaws.{Exact, Sound, none_read, one-read}
 use Rattle.image_spec.proofs.DirectoryLaws.{and_left, and_right}
-use Rattle.step_slots.specs.declared.Slot.{Slot}
-use Rattle.step_slots.specs.Slots.{slot_bytes, SlotOk, slot_parser, is_cell_lem}
+use Rattle.step_slots.specs.Slots.{Slot, slot_bytes, SlotOk, slot_parser, is_cell_lem}
 use Rattle.step_slots.specs.Views.{slot_from, slot_at, slots_at, is_slot, all_slots}
 use Rattle.step_slots.proofs.SlotLaws.{slot_exact, slots_parse}
 use Rattle.step_spec.specs.Located.{Located}

@@ -26,8 +26,8 @@ use Rattle.step_spec.specs.Located.{is_stop}
 use Rattle.step_places.specs.Heads.{head_record}
 use Rattle.step_places.specs.Searches.{Finds}
 use Rattle.step_places.proofs.NextPlaces.{FoundAt, found_at, none_found}
-use Rattle.step_rows.specs.declared.Row.{Row}
-use Rattle.step_rows.specs.Rows.{ids_in, RowOf}
+use Rattle.step_rows.specs.declared.row.Row.{Row}
+use Rattle.step_rows.specs.Rows.{ids_of}
 use Rattle.step_rows.proofs.RowLaws.{ids-length}
 
 -- ---- IDs and values side by side
@@ -105,22 +105,22 @@ module _ {g : Frame} {bytes : List ℕ} {f : code.Option ℕ} {vs : List Value} 
   pub missing : f ≡ None → false ≡ b
   missing q = sym (w.stops ∙ enter_none w.context_of w.body_of w.what vs w.event place w.cells (none_found q w.finds))
 
-  module _ {j : ℕ} (q : f ≡ Some j) {row : Row} (listed : RowOf bytes row (ids (list_of (record_at g bytes j)))) where
+  module _ {j : ℕ} (q : f ≡ Some j) (row : Row) (listed : ids_of row ≡ ids (list_of (record_at g bytes j))) where
     abbrev there : FoundAt w.context_of w.body_of w.kind w.depth (records_in g bytes) w.body w.what j
     there = found_at j q w.finds
 
     abbrev context : Context
     context = w.context_of there.what
 
-    parameters : ids_in bytes row ≡ ids context
-    parameters = listed.ids ∙ ap ids (ap list_of there.head ∙ head-list w.kind there.name context)
+    parameters : ids_of row ≡ ids context
+    parameters = listed ∙ ap ids (ap list_of there.head ∙ head-list w.kind there.name context)
 
-    count : length (ids context) ≡ row.len
-    count = ap length (sym parameters) ∙ ids-length bytes row
+    count : length (ids context) ≡ row.places.len
+    count = ap length (sym parameters) ∙ ids-length row.bytes.now row.places
 
-    pub fewer : (row.len ≡ length vs → ⊥) → false ≡ b
+    pub fewer : (row.places.len ≡ length vs → ⊥) → false ≡ b
     fewer n = sym (w.stops ∙ enter-fewer w.context_of w.body_of w.what vs w.event place w.cells there.what there.is (λ m. n (sym count ∙ m)))
 
-    pub as_many : row.len ≡ length vs → (zs : List VarId) → ((new : Entries) → keys new ≡ ids_in bytes row → keys (place new) ≡ zs) → {a : Bool} → a ≡ not (distinct zs) → a ≡ b
+    pub as_many : row.places.len ≡ length vs → (zs : List VarId) → ((new : Entries) → keys new ≡ ids_of row → keys (place new) ≡ zs) → {a : Bool} → a ≡ not (distinct zs) → a ≡ b
     as_many n zs k t =
         t ∙ sym (w.stops ∙ enter-all w.context_of w.body_of w.what vs w.event place w.cells there.what there.is (count ∙ n) zs (λ new m. k new (m ∙ sym parameters)))

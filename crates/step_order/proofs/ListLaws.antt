@@ -11,12 +11,13 @@ use Rattle.syntax.specs.Sets.{distinct}
 use Rattle.syntax.specs.declared.names.VarId.{VarId}
 use Rattle.model.specs.Linear.{before_last, same_ids, ends_in_lem}
 use Rattle.image_spec.proofs.DirectoryLaws.{and_left}
-use Rattle.step_rows.specs.declared.Row.{Row}
-use Rattle.step_rows.specs.Rows.{identified, ids_in, id_at, Inside, RowOf, behind_of}
+use Rattle.step_rows.specs.declared.row.Row.{Row}
+use Rattle.step_rows.specs.Rows.{ids_of, id_at, IsBehind}
+use Rattle.step_rows.specs.Placing.{identified, ids_in}
 use Rattle.step_rows.specs.Apart.{apart}
-use Rattle.step_rows.proofs.RowLaws.{ids-length, ids-behind, ids-before, inside_to}
+use Rattle.step_rows.proofs.RowLaws.{ids-length, ids-behind, ids-before}
 use Rattle.step_rows.proofs.DistinctLaws.{distinct_append}
-use Rattle.step_order.specs.Orderly.{front_of}
+use Rattle.step_order.specs.Orderly.{IsFront}
 use Rattle.step_order.specs.Sure.{Sure}
 
 -- ---- two tests, the second only where the first holds
@@ -47,6 +48,16 @@ module _ (a b c : Bool) where
       go true false e = absurd (false≢true (sym e))
       go false b e = absurd (false≢true (sym e))
 
+-- ---- what `!=` says of `==`
+
+pub unlike : {b t : Bool} → t ≡ not b → t ≡ true → b ≡ false
+unlike {b = true} e h = absurd (false≢true (sym e ∙ h))
+unlike {b = false} e h = refl
+
+pub alike : {b t : Bool} → t ≡ not b → t ≡ false → b ≡ true
+alike {b = true} e h = refl
+alike {b = false} e h = absurd (false≢true (sym h ∙ e))
+
 -- ---- the first n
 
 -- .. of distinct IDs are distinct
@@ -68,32 +79,35 @@ one_last l x n h =
     ∙ (ap (λ (z : List VarId). same_ids z (x ∷ [])) (drop-cons l n (identified 0) (omega arith) ∙ ap (λ (z : List VarId). get_or l n (identified 0) ∷ z) e)
     ∙ and-true (same_var_id (get_or l n (identified 0)) x))
 
-module _ (s : List ℕ) (row : Row) where
-  pub last_none : (x : VarId) → row.len ≡ 0 → ends_in_lem (x ∷ []) (ids_in s row) ≡ false
-  last_none x h = no_last (ids_in s row) x (ids-length s row ∙ h)
+module _ (row : Row) where
+  pub last_none : (x : VarId) → row.places.len ≡ 0 → ends_in_lem (x ∷ []) (ids_of row) ≡ false
+  last_none x h = no_last (ids_of row) x (ids-length row.bytes.now row.places ∙ h)
 
-  pub last_one : (x : VarId) (n : ℕ) → row.len ≡ suc n → ends_in_lem (x ∷ []) (ids_in s row) ≡ same_var_id (id_at s row n) x
-  last_one x n h = one_last (ids_in s row) x n (ids-length s row ∙ h)
+  pub last_one : (x : VarId) (n : ℕ) → row.places.len ≡ suc n → ends_in_lem (x ∷ []) (ids_of row) ≡ same_var_id (id_at row n) x
+  last_one x n h = one_last (ids_of row) x n (ids-length row.bytes.now row.places ∙ h)
 
-  -- ---- the last of them, and those before
+-- ---- the last of a row, and those before
 
-  module _ (t : List ℕ) (other : Row) where
-    lengths : length (ids_in s row) - length (ids_in t other) ≡ row.len - other.len
-    lengths = ap₂ {C = ℕ} (λ (n k : ℕ). n - k) (ids-length s row) (ids-length t other)
+behind_ids : {row rest : Row} {k : ℕ} → IsBehind row k rest → ids_of rest ≡ drop k (ids_of row)
+behind_ids {row} {k = k} w = ap₂ {C = List VarId} ids_in w.bytes w.places ∙ ids-behind row.bytes.now row.places k
 
-    pub ends-behind : same_ids (ids_in s (behind_of row (row.len - other.len))) (ids_in t other) ≡ ends_in_lem (ids_in t other) (ids_in s row)
-    ends-behind = ap (λ (l : List VarId). same_ids l (ids_in t other)) (ids-behind s row (row.len - other.len) ∙ ap (λ (n : ℕ). drop n (ids_in s row)) (sym lengths))
+pub front_ids : {row rest : Row} {k : ℕ} → IsFront row k rest → ids_of rest ≡ take (row.places.len - k) (ids_of row)
+front_ids {row} {k = k} w = ap₂ {C = List VarId} ids_in w.bytes w.places ∙ ids-before row.bytes.now row.places (row.places.len - k) (omega arith)
 
-    pub before-front : ids_in s (front_of row other.len) ≡ before_last (length (ids_in t other)) (ids_in s row)
-    before-front = ids-before s row (row.len - other.len) (omega arith) ∙ ap (λ (n : ℕ). take n (ids_in s row)) (sym lengths)
+module _ (row other : Row) where
+  lengths : length (ids_of row) - length (ids_of other) ≡ row.places.len - other.places.len
+  lengths = ap₂ {C = ℕ} (λ (n k : ℕ). n - k) (ids-length row.bytes.now row.places) (ids-length other.bytes.now other.places)
 
-  -- the front is inside
-  pub inside-front : (k : ℕ) → Inside s row → Inside s (front_of row k)
-  inside-front k i = record { width = i.width; element = i.element; room = inside_to s row (row.len - k) i (omega arith) }
+  pub ends-behind : {rest : Row} {k : ℕ} → k ≡ row.places.len - other.places.len → IsBehind row k rest → same_ids (ids_of rest) (ids_of other) ≡ ends_in_lem (ids_of other) (ids_of row)
+  ends-behind e w = ap (λ (l : List VarId). same_ids l (ids_of other)) (behind_ids w ∙ ap (λ (n : ℕ). drop n (ids_of row)) (e ∙ sym lengths))
 
-  -- where one is sure of a list, one is of the row with its IDs, and of the row's front
-  pub sure_row : {xs : List VarId} {sure : Bool} → RowOf s row xs → Sure sure xs → Sure sure (ids_in s row)
-  sure_row w f t = ap distinct w.ids ∙ f t
+  pub before-front : {rest : Row} → IsFront row other.places.len rest → ids_of rest ≡ before_last (length (ids_of other)) (ids_of row)
+  before-front w = front_ids w ∙ ap (λ (n : ℕ). take n (ids_of row)) (sym lengths)
 
-  pub sure_front : (k : ℕ) {sure : Bool} → Sure sure (ids_in s row) → Sure sure (ids_in s (front_of row k))
-  sure_front k f t = ap distinct (ids-before s row (row.len - k) (omega arith)) ∙ distinct-front (row.len - k) (ids_in s row) (f t)
+-- ---- where one is sure of a list, one is of the row with its IDs, and of the row's front
+
+pub sure_row : {xs ys : List VarId} {sure : Bool} → ys ≡ xs → Sure sure xs → Sure sure ys
+sure_row e f t = ap distinct e ∙ f t
+
+pub sure_front : {row rest : Row} {k : ℕ} {sure : Bool} → IsFront row k rest → Sure sure (ids_of row) → Sure sure (ids_of rest)
+sure_front {row} {k = k} w f t = ap distinct (front_ids w) ∙ distinct-front (row.places.len - k) (ids_of row) (f t)

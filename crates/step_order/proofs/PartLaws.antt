@@ -14,7 +14,7 @@ use Rattle.model.specs.Linear.{first, last_value_lem}
 use Rattle.image_spec.specs.Parse.{All}
 use Rattle.image_spec.specs.Fields.{identifier_bytes, IdentifierOk}
 use Rattle.image_spec.specs.Records.{Record, record_bytes, RecordOk}
-use Rattle.std.specs.Prelude.{Some, None}
+use Rattle.std.specs.Prelude.{None}
 use Rattle.image_directory.specs.Slots.{Ready}
 use Rattle.image_directory.specs.declared.Frame.{Frame}
 use Rattle.image_read_parts.specs.Standing.{Stands}
@@ -25,7 +25,7 @@ use Rattle.image_read_nodes.proofs.NodeLaws.{record_ok}
 use Rattle.image_read_parts.specs.Parts.{list_of}
 use Rattle.pass_records.proofs.MadeLaws.{parts_of}
 use Rattle.pass_records.proofs.ListPlaces.{at-made}
-use Rattle.step_slots.specs.declared.Slot.{Slot}
+use Rattle.step_slots.specs.Slots.{Slot}
 use Rattle.step_slots.specs.Views.{no_slot, slot_at, slots_at}
 use Rattle.step_slots.proofs.SlotBytes.{slots-count}
 use Rattle.step_spec.specs.Located.{Machine, Located}
@@ -33,12 +33,13 @@ use Rattle.step_spec.specs.Store.{place_of, entry_slot, environment_of, EntryFit
 use Rattle.step_header.specs.declared.Header.{Header}
 use Rattle.step_header.specs.Headers.{heap_in, entries_in, Holds}
 use Rattle.step_places.specs.Searches.{PlaceOf}
-use Rattle.step_rows.specs.declared.Row.{Row}
-use Rattle.step_rows.specs.Rows.{ids_in, Inside, slot_row_lem, slot_id}
-use Rattle.step_rows.proofs.SlotRows.{slot_row}
+use Rattle.step_rows.specs.declared.places.Places.{Places}
+use Rattle.step_rows.specs.Rows.{slot_id}
+use Rattle.step_rows.specs.Placing.{ids_in, Inside, slot_places_lem}
+use Rattle.step_rows.proofs.SlotRows.{slot_inside, slot_row}
 use Rattle.step_rule.specs.Rules.{Stored}
 use Rattle.step_rule.proofs.Views.{viewed}
-use Rattle.step_cells.specs.declared.Cell.{Cell}
+use Rattle.step_cells.specs.Cells.{Cell}
 use Rattle.step_cells.proofs.HeldLaws.{no-reference}
 use Rattle.step_cells.proofs.HeapLaws.{cell_holds}
 use Rattle.step_cells.proofs.CellLaws.{no_value, OfCreate, Meets, meets_none, meets}
@@ -134,13 +135,13 @@ module _ {M : Machine} {P : Prog} {store : List ℕ} {h : Header} {l : Located} 
 -- ---- the IDs of what the cell of a Create holds
 
 -- they are in the store, whatever it holds
-pub held-inside : (store : List ℕ) (h : Header) {r : Cell} {row : Row} → Holds store h → r ≡ last_cell_lem store h → row ≡ slot_row_lem r.from r.len → Inside store row
+pub held-inside : (store : List ℕ) (h : Header) {r : Cell} {row : Places} → Holds store h → r ≡ last_cell_lem store h → row ≡ slot_places_lem r.from r.len → Inside store row
 held-inside store h {r} o e q =
     let w = cell_holds store h o (last_slot (entries_in store h)) e in
-    (slot_row store r.from r.len q (omega (arith, w.inside, o.inside)) w.slots).inside
+    slot_inside store r.from r.len q (omega (arith, w.inside, o.inside))
 
-pub held-keys : {M : Machine} {P : Prog} {store : List ℕ} {h : Header} {l : Located} {v : Option Value} {r : Cell} {row : Row} → Stored M P store h l → (w : OfCreate P store h l v r)
-    → row ≡ slot_row_lem r.from r.len → ids_in store row ≡ keys w.entries
+pub held-keys : {M : Machine} {P : Prog} {store : List ℕ} {h : Header} {l : Located} {v : Option Value} {r : Cell} {row : Places} → Stored M P store h l → (w : OfCreate P store h l v r)
+    → row ≡ slot_places_lem r.from r.len → ids_in store row ≡ keys w.entries
 held-keys {store = store} {l = l} {r = r} o w q =
-    (slot_row store r.from r.len q (omega (arith, w.holds.inside, (viewed o).inside)) w.holds.slots).ids
+    slot_row store r.from r.len q w.holds.slots
     ∙ (ap (map slot_id) w.holds.are ∙ entry-ids (place_of l.cells) w.entries)

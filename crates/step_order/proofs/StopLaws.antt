@@ -3,7 +3,7 @@
 use Prim.Native.Nat.{ℕ, ◌+◌, ◌-◌, ◌<◌}
 use mathlib.Core.Path.{◌≡◌, refl, sym, ap, ap₂, ◌∙◌, subst}
 use mathlib.Core.Bool.{Bool, true, false}
-use mathlib.Core.List.{List, [], ◌∷◌, ◌++◌, map, append-nil}
+use mathlib.Core.List.{List, [], ◌++◌, map, append-nil}
 use mathlib.Core.Option.{Option, none, some}
 use native.Mathlib.Omega.{arith}
 use borrow.Author.Tests.{eqb-true, eqb-false}
@@ -18,7 +18,7 @@ use Rattle.syntax.specs.declared.types.Ty.{Ty}
 use Rattle.model.specs.Syntax.{Stmt, Clauses, Def, Prog}
 use Rattle.model.specs.Lists.{lookup, lookups}
 use Rattle.model.specs.Integers.{eval_op}
-use Rattle.model.specs.Machine.{Value, outside, Entries, keys, values, Cells, at, ended, Outcome, or_halt, find_def, find_clause_lem, as_int, second, matched, invoked, Target, Call', Switch', Invoke'}
+use Rattle.model.specs.Machine.{Value, outside, Entries, keys, values, Cells, ended, Outcome, or_halt, find_def, find_clause_lem, as_int, second, matched, invoked, Target, Call', Switch', Invoke'}
 use Rattle.model.specs.Linear.{before_last, sources, in_order_lem, stop_unless, last_value_lem, linear_enter_lem, linear_work, linear_step_lem}
 use Rattle.image_spec.specs.Records.{Record, call, switch, invoke}
 use Rattle.image_spec.specs.Kinds.{kind_of, clauses_of}
@@ -39,8 +39,7 @@ use Rattle.image_read_parts.specs.Parts.{list_of}
 use Rattle.image_read_nodes.specs.Nodes.{record_at, At, first_of}
 use Rattle.pass_records.proofs.MadeLaws.{parts_of}
 use Rattle.pass_records.proofs.ListPlaces.{at-made}
-use Rattle.step_slots.specs.declared.Slot.{Slot}
-use Rattle.step_slots.specs.Slots.{value_slot}
+use Rattle.step_slots.specs.Slots.{Slot, value_slot}
 use Rattle.step_spec.specs.Located.{Machine, source_machine, Located, records_in, stmt_in, cell_in, state_of, project, is_stop, clause_place, label_place}
 use Rattle.step_spec.specs.Store.{place_of, entry_slot, environment_of}
 use Rattle.step_spec.proofs.NeverStops.{source-never-stops}
@@ -49,19 +48,20 @@ use Rattle.step_spec.proofs.Standing.{Stands}
 use Rattle.step_header.specs.declared.Header.{Header}
 use Rattle.step_header.specs.Headers.{entries_in}
 use Rattle.step_places.specs.Searches.{name_of, Finds, FindsDef, FindsLabel}
-use Rattle.step_rows.specs.declared.Row.{Row}
-use Rattle.step_rows.specs.Rows.{ids_in, RowOf, slot_id}
-use Rattle.step_rows.proofs.RowLaws.{ids-length, ids-before}
+use Rattle.step_rows.specs.declared.row.Row.{Row}
+use Rattle.step_rows.specs.Rows.{ids_of, slot_id}
+use Rattle.step_rows.proofs.RowLaws.{ids-length}
 use Rattle.step_rule.specs.Rules.{ImageOf, Stored, Reads}
 use Rattle.step_rule.proofs.Views.{viewed}
 use Rattle.step_rule.proofs.Statements.{Is, is_substitute, is_call, is_let, is_switch, is_create_lem, is_invoke, is_literal, is_op, is_ifc, is_print, is_exit, here, placed}
-use Rattle.step_cells.specs.declared.Cell.{Cell}
+use Rattle.step_cells.specs.Cells.{Cell}
 use Rattle.step_cells.proofs.CellLaws as cells
 use Rattle.step_cells.proofs.CellLaws.{OfLet, OfCreate, Meets, cells_of, lacks_halts, matched_let, invoked-create, is_outside, no_let, no_target}
 use Rattle.step_cells.proofs.CreateLaws.{created}
-use Rattle.step_order.specs.Orderly.{front_of}
+use Rattle.step_order.specs.Orderly.{IsFront}
 use Rattle.step_order.specs.Stopping.{last_slot, last_cell_lem, TagOf, ClauseOf, work_at, step_at}
 use Rattle.step_order.proofs.InOrderLaws.{entries-keys}
+use Rattle.step_order.proofs.ListLaws.{front_ids}
 use Rattle.step_order.proofs.PartLaws.{tag_is, last_meets}
 use Rattle.step_order.proofs.EnterLaws.{entering, Enters}
 
@@ -148,12 +148,12 @@ module _ {M : Machine} {P : Prog} {store : List ℕ} {h : Header} {l : Located} 
       let ε = l.environment in
       length-map (before_last 1 ε) (λ (e : VarId × Value). e.1) ∙ (length-take-le (length ε - 1) ε (omega arith) ∙ ap (λ (n : ℕ). n - 1) entries-count)
 
-  pub front-keys : {row others : Row} → RowOf store row (map slot_id (entries_in store h)) → others ≡ front_of row 1 → ids_in store others ≡ keys (before_last 1 l.environment)
+  pub front-keys : {row others : Row} → ids_of row ≡ map slot_id (entries_in store h) → IsFront row 1 others → ids_of others ≡ keys (before_last 1 l.environment)
   front-keys {row} w e =
       let ε = l.environment in
-      let ids : ids_in store row ≡ keys ε = w.ids ∙ entries-keys o in
-      let n : row.len - 1 ≡ length ε - 1 = ap (λ (n : ℕ). n - 1) (sym (ids-length store row) ∙ (ap length ids ∙ length-map ε (λ (e : VarId × Value). e.0))) in
-      ap (ids_in store) e ∙ (ids-before store row (row.len - 1) (omega arith) ∙ (ap₂ {C = List VarId} (λ (k : ℕ) (xs : List VarId). take k xs) n ids ∙ sym (take-keys (length ε - 1) ε)))
+      let ids : ids_of row ≡ keys ε = w ∙ entries-keys o in
+      let n : row.places.len - 1 ≡ length ε - 1 = ap (λ (n : ℕ). n - 1) (sym (ids-length row.bytes.now row.places) ∙ (ap length ids ∙ length-map ε (λ (e : VarId × Value). e.0))) in
+      front_ids e ∙ (ap₂ {C = List VarId} (λ (k : ℕ) (xs : List VarId). take k xs) n ids ∙ sym (take-keys (length ε - 1) ε))
 
   -- the last value is a Let's cell, or a Create's
   pub last_let : {c : Cell} → c ≡ last_cell_lem store h → c.sort ≡ 3 → OfLet P store h l (last_value_lem l.environment) c

@@ -1,5 +1,5 @@
 -- Are the IDs that a statement shows in order? By its record. (proofs/OrderlyLaws.antt: it is the linear machine's `in_order_lem`.)
-use Rattle.std.specs.Prelude.{ℕ, ◌-◌, Bool, true, false, ◌&&◌, List, [], ◌∷◌, ◌++◌, length}
+use Rattle.std.specs.Prelude.{ℕ, ◌-◌, ◌≡◌, Bool, true, false, ◌&&◌, List, [], ◌∷◌, ◌++◌, length}
 use Rattle.std.proofs.Math.Option.{none, some}
 use Rattle.syntax.specs.Sets.{distinct}
 use Rattle.syntax.specs.Context.{ids}
@@ -7,7 +7,8 @@ use Rattle.syntax.specs.declared.names.VarId.{VarId}
 use Rattle.model.specs.FreeVars.{optional_id}
 use Rattle.model.specs.Linear.{before_last, ends_in_lem, present, targets, sources}
 use Rattle.image_spec.specs.Records.{Record, definition, substitute, call, let', switch, create, invoke, literal, op, ifc, clause', print, exit}
-use Rattle.step_rows.specs.declared.Row.{Row}
+use Rattle.step_rows.specs.declared.places.Places.{Places}
+use Rattle.step_rows.specs.declared.row.Row.{Row}
 
 -- can the ID come behind those of the list?
 abbrev pub added : List VarId → VarId → Bool
@@ -34,6 +35,11 @@ orderly (clause' x Γ) l = false
 orderly (print n v) l = present (v.id ∷ []) l
 orderly (exit v) l = present (v.id ∷ []) l
 
--- a row without its last k
-abbrev pub front_of : Row → (k : ℕ) → Row
-front_of row k = record { from = row.from; stride = row.stride; offset = row.offset; width = row.width; len = row.len - k }
+-- places without the last k
+abbrev pub front_of : Places → (k : ℕ) → Places
+front_of p k = record { from = p.from; stride = p.stride; offset = p.offset; width = p.width; len = p.len - k }
+
+-- the row is the other one without its last k
+pub record IsFront (row : Row) (k : ℕ) (front : Row) : Type 0 where
+  pub bytes : front.bytes.now ≡ row.bytes.now
+  pub places : front.places ≡ front_of row.places k

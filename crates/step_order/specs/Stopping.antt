@@ -10,7 +10,7 @@ use Rattle.image_spec.specs.Records.{Record, invoke}
 use Rattle.image_spec.specs.Kinds.{clauses_of}
 use Rattle.image_directory.specs.declared.Frame.{Frame}
 use Rattle.image_read_nodes.specs.Nodes.{record_at}
-use Rattle.step_slots.specs.declared.Slot.{Slot}
+use Rattle.step_slots.specs.Slots.{Slot}
 use Rattle.step_slots.specs.Views.{no_slot}
 use Rattle.step_spec.specs.Located.{Located, stmt_in, cell_in, project, is_stop}
 use Rattle.step_header.specs.declared.Header.{Header}
@@ -18,8 +18,7 @@ use Rattle.step_header.specs.Headers.{heap_in, entries_in}
 use Rattle.step_places.specs.Searches.{PlaceOf, FindsClause}
 use Rattle.step_places.specs.declared.stepper.Stepper.{Stepper}
 use Rattle.step_rule.specs.Rules.{ProgramOf, Reads}
-use Rattle.step_cells.specs.declared.Cell.{Cell}
-use Rattle.step_cells.specs.Cells.{cell_in'}
+use Rattle.step_cells.specs.Cells.{Cell, cell_in'}
 
 -- the last slot; one of sort 5 where there is none
 abbrev pub last_slot : List Slot → Slot

@@ -2,6 +2,7 @@
 use Rattle.std.specs.Prelude.{ℕ, ◌≡◌, Bool, true, List, map}
 use Rattle.syntax.specs.Sets.{distinct}
 use Rattle.syntax.specs.declared.names.VarId.{VarId}
+use Rattle.step_spec.specs.declared.MachineKind.TheVariants.{Linear}
 use Rattle.step_header.specs.declared.Header.{Header}
 use Rattle.step_header.specs.Headers.{entries_in}
 use Rattle.step_rows.specs.Rows.{slot_id}
@@ -13,4 +14,4 @@ Sure sure xs = sure ≡ true → distinct xs ≡ true
 
 -- where the linear stepper is sure, those of the store's entries are. The source machine does not ask
 abbrev pub SureIn : Stepper → (sure : Bool) → (store : List ℕ) → Header → Type 0
-SureIn stepper sure store h = stepper.linear ≡ true → Sure sure (map slot_id (entries_in store h))
+SureIn stepper sure store h = stepper.machine ≡ Linear → Sure sure (map slot_id (entries_in store h))

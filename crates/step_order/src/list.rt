@@ -1,84 +1,96 @@
 // The IDs of the linear machine's list, as a row: what stands last, and what can be added.
-ghost use Rattle.std.specs.Prelude.{◌≡◌, not, ◌∷◌, [], ◌++◌, map, ◌-◌};
+ghost use Rattle.std.specs.Prelude.{◌≡◌, not, ◌∷◌, [], ◌++◌, map};
 ghost use Rattle.syntax.specs.Sets.{distinct};
 ghost use Rattle.model.specs.Linear.{ends_in_lem};
-ghost use Rattle.step_header.specs.Headers.{entries_in, Holds};
-ghost use Rattle.step_rows.specs.Rows.{identified, ids_in, Inside, RowOf, slot_id};
-ghost use Rattle.step_order.specs.Orderly.{added, replaced, front_of};
-ghost use Rattle.step_order.specs.Sure.{Sure};
+ghost use Rattle.step_header.specs.States.{entries_of};
+ghost use Rattle.step_rows.specs.Placing.{identified};
+ghost use Rattle.step_rows.specs.Rows.{ids_of, slot_id};
+ghost use Rattle.step_order.specs.Orderly.{added, replaced, front_of, IsFront};
 
-use step_header::Header;
-use step_rows::{Row, behind, disjoint, distinct, has, id_of, same, slot_row};
+use crate::listed::Listed;
+use step_header::state::State;
+use step_rows::places::Places;
+use step_rows::row::Row;
+use step_rows::{behind, disjoint, distinct, has, id_of, same, slot_places};
 
 // The IDs of the store's entries.
-pub fn entries_row(store: &[u8], header: Header) -> Row
-    requires { Holds store.now header }
-    ensures { RowOf store.now result (map slot_id (entries_in store.now header)) }
+pub fn entries_row<'a>(state: &State<'a>) -> Row<'a>
+    ensures { ids_of result ≡ map slot_id (entries_of state.now) }
 {
-    slot_row(64 + 16 * header.heap as usize, header.entries as usize)
+    let heap = state.header.heap as usize;
+    Row {
+        bytes: state.store,
+        places: slot_places(64 + 16 * heap, state.header.entries as usize),
+    }
+}
+
+// Places without the last k.
+pub fn front_places(places: Places, k: usize) -> Places
+    ensures { result ≡ front_of places k }
+{
+    Places {
+        len: places.len.saturating_sub(k),
+        ..places
+    }
 }
 
 // The row without its last k.
-pub fn front(row: Row, k: usize) -> Row
-    ensures { result ≡ front_of row k }
+pub fn front<'a>(row: &Row<'a>, k: usize) -> Row<'a>
+    ensures { IsFront row.now k result }
 {
     Row {
-        from: row.from,
-        stride: row.stride,
-        offset: row.offset,
-        width: row.width,
-        len: row.len.saturating_sub(k),
+        bytes: row.bytes,
+        places: front_places(row.places, k),
     }
 }
 
 // Is the ID the last of the list?
-pub fn last_is(store: &[u8], row: Row, id: u32) -> bool
-    requires { Inside store.now row }
-    ensures { result ≡ ends_in_lem (identified id ∷ []) (ids_in store.now row) }
+pub fn last_is(row: &Row<'_>, id: u32) -> bool
+    ensures { result ≡ ends_in_lem (identified id ∷ []) (ids_of row.now) }
 {
-    row.len != 0 && id_of(store, row, row.len - 1) == id
+    let len = row.places.len;
+    len != 0 && id_of(row, len - 1) == id
 }
 
 // Are the listed IDs the last of the list?
-pub fn ends_in(image: &[u8], listed: Row, store: &[u8], row: Row) -> bool
-    requires { Inside image.now listed × Inside store.now row }
-    ensures { result ≡ ends_in_lem (ids_in image.now listed) (ids_in store.now row) }
+pub fn ends_in(listed: &Row<'_>, row: &Row<'_>) -> bool
+    ensures { result ≡ ends_in_lem (ids_of listed.now) (ids_of row.now) }
 {
-    let others = row.len.saturating_sub(listed.len);
-    let last = behind(row, others);
-    same(store, last, image, listed)
+    let others = row.places.len.saturating_sub(listed.places.len);
+    same(&behind(row, others), listed)
 }
 
-// Is no ID in the row twice? Where one is sure, it is not asked.
-fn is_distinct(bytes: &[u8], row: Row, sure: bool) -> bool
-    requires { Inside bytes.now row × Sure sure (ids_in bytes.now row) }
-    ensures { result ≡ «distinct» (ids_in bytes.now row) }
+// Is no ID in the list twice? Where one is sure, it is not asked.
+fn is_distinct(list: &Listed<'_>) -> bool
+    ensures { result ≡ «distinct» (ids_of list.now.row) }
 {
-    sure || distinct(bytes, row)
+    list.sure || distinct(&list.row)
 }
 
 // Can the ID come behind those of the list?
-pub fn adds(store: &[u8], row: Row, id: u32, sure: bool) -> bool
-    requires { Inside store.now row × Sure sure (ids_in store.now row) }
-    ensures { result ≡ added (ids_in store.now row) (identified id) }
+pub fn adds(list: &Listed<'_>, id: u32) -> bool
+    ensures { result ≡ added (ids_of list.now.row) (identified id) }
 {
-    is_distinct(store, row, sure) && !has(store, row, id)
+    is_distinct(list) && !has(&list.row, id)
 }
 
 // Are the listed IDs the last of the list, and can the ID come in their place?
-pub fn replaces(image: &[u8], listed: Row, store: &[u8], row: Row, id: u32, sure: bool) -> bool
-    requires { Inside image.now listed × (Inside store.now row × Sure sure (ids_in store.now row)) }
-    ensures { result ≡ replaced (ids_in image.now listed) (ids_in store.now row) (identified id) }
+pub fn replaces(listed: &Row<'_>, list: &Listed<'_>, id: u32) -> bool
+    ensures { result ≡ replaced (ids_of listed.now) (ids_of list.now.row) (identified id) }
 {
-    ends_in(image, listed, store, row) && adds(store, front(row, listed.len), id, sure)
+    if !ends_in(listed, &list.row) {
+        return false;
+    }
+    let others = Listed {
+        row: front(&list.row, listed.places.len),
+        sure: list.sure,
+    };
+    adds(&others, id)
 }
 
-// Is an ID twice in the two rows together? One may be sure of the first.
-pub fn repeats(bytes: &[u8], row: Row, others: &[u8], other_row: Row, sure: bool) -> bool
-    requires { Inside bytes.now row × (Inside others.now other_row × Sure sure (ids_in bytes.now row)) }
-    ensures { result ≡ not («distinct» (ids_in bytes.now row ++ ids_in others.now other_row)) }
+// Is an ID twice in the list and the row together?
+pub fn repeats(list: &Listed<'_>, other: &Row<'_>) -> bool
+    ensures { result ≡ not («distinct» (ids_of list.now.row ++ ids_of other.now)) }
 {
-    !is_distinct(bytes, row, sure)
-        || !distinct(others, other_row)
-        || !disjoint(bytes, row, others, other_row)
+    !is_distinct(list) || !distinct(other) || !disjoint(&list.row, other)
 }

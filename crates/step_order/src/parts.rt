@@ -1,42 +1,38 @@
 // What is read to tell whether a Switch or an Invoke stops: the last value's cell, an Invoke's tag, the clause with a tag.
 ghost use Rattle.std.specs.Prelude.{◌≡◌};
-ghost use Rattle.step_header.specs.Headers.{entries_in, Holds};
 ghost use Rattle.step_order.specs.Stopping.{last_slot, last_cell_lem, TagOf, ClauseOf};
 ghost use Rattle.image_read_nodes.specs.Opened.{record_of, IsAt};
+ghost use Rattle.step_header.specs.States.{entries_of};
+ghost use Rattle.step_slots.specs.Views.{found_slot};
+ghost use Rattle.step_cells.specs.Cells.{found_cell};
 
 use image_directory::image::Image;
 use image_read_nodes::parts_of;
 use image_read_parts::identifier;
 use step_cells::{Cell, cell_of};
-use step_header::Header;
+use step_header::state::State;
 use step_places::search::find_clause;
 use step_places::stepper::Stepper;
 use step_slots::{Slot, read};
 use syntax::names::Identifier;
 
-// The slot of the last entry; one of sort 5 where there is none.
-fn last_value(store: &[u8], header: Header) -> Slot
-    requires { Holds store.now header }
-    ensures { result ≡ last_slot (entries_in store.now header) }
+// The slot of the last entry, if there is one.
+fn last_value(state: &State<'_>) -> Option<Slot>
+    ensures { found_slot result ≡ last_slot (entries_of state.now) }
 {
-    let heap = header.heap as usize;
-    let entries = header.entries as usize;
+    let heap = state.header.heap as usize;
+    let entries = state.header.entries as usize;
     if entries == 0 {
-        return Slot {
-            sort: 5,
-            id: 0,
-            payload: 0,
-        };
+        return None;
     }
-    read(store, 64 + 16 * heap + 16 * (entries - 1))
+    read(state.store, 64 + 16 * heap + 16 * (entries - 1))
 }
 
-// The cell of the last entry's value; one of sort 5 where it is none.
-pub fn last_cell(store: &[u8], header: Header) -> Cell
-    requires { Holds store.now header }
-    ensures { result ≡ last_cell_lem store.now header }
+// The cell of the last entry's value, if it is one.
+pub fn last_cell(state: &State<'_>) -> Option<Cell>
+    ensures { found_cell result ≡ last_cell_lem state.now.store.now state.now.header }
 {
-    cell_of(store, header, last_value(store, header))
+    cell_of(state, last_value(state)?)
 }
 
 // The tag of the Invoke at index i.

@@ -1,5 +1,5 @@
 // The table of ends: at each index the place behind the part that begins there.
-ghost use Rattle.std.specs.Prelude.{◌≤◌, ◌<◌, ◌^◌, length};
+ghost use Rattle.std.specs.Prelude.{◌≤◌, length};
 ghost use Rattle.step_places.specs.Ends.{Ends, Hopped};
 ghost use Rattle.image_directory.specs.Images.{records_of};
 

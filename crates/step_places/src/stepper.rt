@@ -3,12 +3,13 @@ ghost use Rattle.image_directory.specs.Images.{records_of};
 ghost use Rattle.step_places.specs.Ends.{Ends};
 
 use image_directory::image::Image;
+use step_spec::MachineKind;
 
 #[derive(Clone, Copy)]
 pub struct Stepper<'a> {
     pub image: Image<'a>,
     pub ends: &'a [u32],
     pub definitions: usize,
-    pub linear: bool,
+    pub machine: MachineKind,
     pub ghost right: { Ends (records_of image) ends.now },
 }

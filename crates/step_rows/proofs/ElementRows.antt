@@ -8,7 +8,7 @@ use Rattle.syntax.specs.declared.names.VarId.{VarId}
 use Rattle.image_spec.specs.Parse.{each, All, number, field}
 use Rattle.image_spec.proofs.ParseLaws.{number_exact}
 use Rattle.step_slots.proofs.SlotLaws.{past}
-use Rattle.step_rows.specs.Rows.{identified, number_at, ids_from}
+use Rattle.step_rows.specs.Placing.{identified, number_at, ids_from}
 use Rattle.step_rows.proofs.RowLaws.{number_is}
 
 -- how values are written, each with an ID of w bytes at the same place

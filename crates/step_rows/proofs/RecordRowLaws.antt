@@ -23,11 +23,13 @@ use Rattle.image_read_parts.proofs.StandingLaws.{byte-run, stands_in, stands-roo
 use Rattle.image_read_nodes.specs.Nodes.{record_at, At}
 use Rattle.image_read_nodes.proofs.TailLaws.{tail_from}
 use Rattle.image_read_nodes.proofs.NodeLaws.{record_ok}
-use Rattle.step_rows.specs.declared.Row.{Row}
+use Rattle.step_rows.specs.declared.places.Places.{Places}
+use Rattle.step_rows.specs.declared.row.Row.{Row}
 use Rattle.std.specs.Prelude as code
 use Rattle.std.specs.Prelude.{Some, None}
-use Rattle.step_rows.specs.Rows.{ids_from, RowOf}
-use Rattle.step_rows.specs.RecordRows.{bytes_of, AnyBytes, counted_row_lem, pairs_of, environment_of, EnvironmentRow, absent, listed}
+use Rattle.step_rows.specs.Rows.{ids_of}
+use Rattle.step_rows.specs.Placing.{ids_from, ids_in, Inside}
+use Rattle.step_rows.specs.RecordRows.{bytes_of, AnyBytes, pairs_of, environment_of, EnvironmentRow, absent, listed, counted_places_lem}
 use Rattle.step_rows.proofs.ElementRows.{Written, each_row}
 
 -- ---- a count and as many elements
@@ -40,20 +42,23 @@ module _ {A : Type 0} {e : A → List ℕ} {P : A → Type 0} {id : A → VarId}
   pub counted-inside : {s : List ℕ} {at : ℕ} {xs : List A} → Stands (λ xs. length xs ∷ each e xs) (λ xs. (length xs ≤ max_count) × All P xs) s at xs → at < length s
   counted-inside h = omega (arith, stands-room {e = λ (xs : List A). length xs ∷ each e xs} (omega arith) h)
 
-  pub counted-row : {s : List ℕ} {at : ℕ} {xs : List A} {row : Row} → Stands (λ xs. length xs ∷ each e xs) (λ xs. (length xs ≤ max_count) × All P xs) s at xs
-      → w ≤ 4 → offset + w ≤ stride → row ≡ counted_row_lem s at stride offset w → RowOf s row (map id xs)
-  counted-row {s} {at} {xs} h small inside q =
+  pub counted-places : {s : List ℕ} {at : ℕ} {xs : List A} {row : Places} → Stands (λ xs. length xs ∷ each e xs) (λ xs. (length xs ≤ max_count) × All P xs) s at xs
+      → w ≤ 4 → offset + w ≤ stride → row ≡ counted_places_lem s at stride offset w → Inside s row
+  counted-places {s} {at} {xs} h small inside q =
+      let n : get_or s at 0 ≡ length xs = byte-run s (each e xs ++ h.others) at (length xs) h.bytes in
+      let m : stride * get_or s at 0 ≡ stride * length xs = ap (λ (z : ℕ). stride * z) n in
+      subst (Inside s) (sym q) record {
+        width = small;
+        element = inside;
+        room = omega (arith, m, each-length xs, stands-room {e = λ (xs : List A). length xs ∷ each e xs} (omega arith) h);
+      }
+
+  pub counted-row : {s : List ℕ} {at : ℕ} {xs : List A} {row : Places} → Stands (λ xs. length xs ∷ each e xs) (λ xs. (length xs ≤ max_count) × All P xs) s at xs
+      → row ≡ counted_places_lem s at stride offset w → ids_in s row ≡ map id xs
+  counted-row {s} {at} {xs} h q =
       let n : get_or s at 0 ≡ length xs = byte-run s (each e xs ++ h.others) at (length xs) h.bytes in
       let k : drop (at + 1) s ≡ each e xs ++ h.others = sym (drop-drop 1 at s) ∙ ap (drop 1) h.bytes in
-      let m : stride * get_or s at 0 ≡ stride * length xs = ap (λ (z : ℕ). stride * z) n in
-      subst (λ (row : Row). RowOf s row (map id xs)) (sym q) record {
-        inside = record {
-          width = small;
-          element = inside;
-          room = omega (arith, m, each-length xs, stands-room {e = λ (xs : List A). length xs ∷ each e xs} (omega arith) h);
-        };
-        ids = ap (ids_from s stride w (at + 1 + offset)) n ∙ each_row t s (at + 1) xs h.others h.fits.1 k;
-      }
+      ap (ids_in s) q ∙ (ap (ids_from s stride w (at + 1 + offset)) n ∙ each_row t s (at + 1) xs h.others h.fits.1 k)
 
 -- ---- bindings and pairs
 
@@ -143,7 +148,7 @@ module _ (w : ℕ) where
     environment-inside (unmarked r h) = r
     environment-inside (marked h t) = omega (arith, stands-room {e = list_bytes w} (omega arith) t)
 
-    pub absent-row : {e : Option Context} → Environs s at e → get_or s at 0 ≡ 0 → EnvironmentRow s None e
+    pub absent-row : {e : Option Context} → Environs s at e → get_or s at 0 ≡ 0 → EnvironmentRow None e
     absent-row (unmarked r h) z = absent
     absent-row (marked h t) z = absurd (omega arith)
 
@@ -151,10 +156,15 @@ module _ (w : ℕ) where
     listed-room (unmarked r h) z = absurd (z h)
     listed-room (marked h t) z = omega (arith, stands-room {e = list_bytes w} (omega arith) t)
 
-    pub listed-row : {e : Option Context} {row : Row} → Environs s at e → (get_or s at 0 ≡ 0 → ⊥) → w ≤ 4
-        → row ≡ counted_row_lem s (at + 1) (6 + (w + w)) 2 w → EnvironmentRow s (Some row) e
-    listed-row (unmarked r h) z n q = absurd (z h)
-    listed-row (marked h t) z n q = listed (counted-row binding-written t n (omega arith) q)
+    pub listed-places : {e : Option Context} {row : Places} → Environs s at e → (get_or s at 0 ≡ 0 → ⊥) → w ≤ 4
+        → row ≡ counted_places_lem s (at + 1) (6 + (w + w)) 2 w → Inside s row
+    listed-places (unmarked r h) z n q = absurd (z h)
+    listed-places (marked h t) z n q = counted-places binding-written t n (omega arith) q
+
+  pub listed-row : {at : ℕ} {e : Option Context} {row : Row} → Environs row.bytes.now at e → (get_or row.bytes.now at 0 ≡ 0 → ⊥)
+      → row.places ≡ counted_places_lem row.bytes.now (at + 1) (6 + (w + w)) 2 w → EnvironmentRow (Some row) e
+  listed-row (unmarked r h) z q = absurd (z h)
+  listed-row (marked h t) z q = listed (counted-row binding-written t q)
 
 -- ---- the same, of the record at an index
 
@@ -192,15 +202,15 @@ module _ (g : Frame) (s : List ℕ) (i : ℕ) where
 -- ---- what the answer says of an environment
 
 -- there is one, and these are its IDs
-pub record Entered (s : List ℕ) (row : Row) (e : Option Context) : Type 0 where
+pub record Entered (row : Row) (e : Option Context) : Type 0 where
   pub context : Context
   pub is : e ≡ some context
-  pub holds : RowOf s row (ids context)
+  pub holds : ids_of row ≡ ids context
 
-pub environment_none : {s : List ℕ} {r : code.Option Row} {e : Option Context} → EnvironmentRow s r e → r ≡ None → e ≡ none
+pub environment_none : {r : code.Option Row} {e : Option Context} → EnvironmentRow r e → r ≡ None → e ≡ none
 environment_none absent q = refl
 environment_none (listed h) q = cc
 
-pub environment_some : {s : List ℕ} {r : code.Option Row} {e : Option Context} {row : Row} → EnvironmentRow s r e → r ≡ Some row → Entered s row e
+pub environment_some : {r : code.Option Row} {e : Option Context} {row : Row} → EnvironmentRow r e → r ≡ Some row → Entered row e
 environment_some absent q = let z : ◌≡◌ {A = ℕ} 0 1 = cc (q) in absurd (omega arith)
-environment_some {s} {row = row} (listed {row = other} {Γ = Γ} h) q = let k : other ≡ row = cc (q) in record { context = Γ; is = refl; holds = subst (λ (z : Row). RowOf s z (ids Γ)) k h }
+environment_some {row = row} (listed {row = other} {Γ = Γ} h) q = let k : other ≡ row = cc (q) in record { context = Γ; is = refl; holds = subst (λ (z : Row). ids_of z ≡ ids Γ) k h }

@@ -7,8 +7,10 @@ use native.Mathlib.Nat.{mul-le-mul_left}
 use lib.ListN.{length, take, drop, get_or}
 use Rattle.syntax.specs.declared.names.VarId.{VarId}
 use Rattle.image_spec.specs.Parse.{got, number}
-use Rattle.step_rows.specs.declared.Row.{Row}
-use Rattle.step_rows.specs.Rows.{identified, number_from, number_at, ids_from, ids_in, id_at, Inside, RowOf, behind_of}
+use Rattle.step_rows.specs.declared.places.Places.{Places}
+use Rattle.step_rows.specs.declared.row.Row.{Row}
+use Rattle.step_rows.specs.Rows.{ids_of, id_at}
+use Rattle.step_rows.specs.Placing.{identified, number_from, number_at, ids_from, ids_in, Inside, behind_of}
 
 -- what was read at a place is the number there
 pub number_is : (s : List ℕ) (w at n : ℕ) (m : List ℕ) → number w (drop at s) ≡ got n m → n ≡ number_at s w at
@@ -48,22 +50,17 @@ module _ (s : List ℕ) (stride w : ℕ) where
   from-take at zero (suc k) h = absurd (omega arith)
   from-take at (suc n) (suc k) h = ap (λ (z : List VarId). identified (number_at s w at) ∷ z) (from-take (at + stride) n k (omega arith))
 
-module _ (s : List ℕ) (row : Row) where
+module _ (s : List ℕ) (row : Places) where
   pub ids-length : length (ids_in s row) ≡ row.len
   ids-length = from-length s row.stride row.width (row.from + row.offset) row.len
 
-  pub id-at : (j : ℕ) → j < row.len → (id_at s row j).0 ≡ number_at s row.width (row.from + row.stride * j + row.offset)
-  id-at j h =
-      let k : row.from + row.offset + row.stride * j ≡ row.from + row.stride * j + row.offset = omega arith in
-      ap (λ (x : VarId). x.0) (from_at s row.stride row.width (row.from + row.offset) row.len j h) ∙ ap (number_at s row.width) k
-
-  -- the row without its first k
+  -- those without the first k
   pub ids-behind : (k : ℕ) → ids_in s (behind_of row k) ≡ drop k (ids_in s row)
   ids-behind k =
       let a : row.from + row.stride * k + row.offset ≡ row.from + row.offset + row.stride * k = omega arith in
       rw a (from-drop s row.stride row.width (row.from + row.offset) row.len k)
 
-  -- the row of its first k
+  -- the first k
   pub ids-before : (k : ℕ) → k ≤ row.len → ids_in s (record { from = row.from; stride = row.stride; offset = row.offset; width = row.width; len = k }) ≡ take k (ids_in s row)
   ids-before k h = from-take s row.stride row.width (row.from + row.offset) row.len k h
 
@@ -81,6 +78,13 @@ module _ (s : List ℕ) (row : Row) where
       let e : row.stride * row.len ≡ row.stride * (k + (row.len - k)) = ap (λ (z : ℕ). row.stride * z) d in
       record { width = i.width; element = i.element; room = omega (arith, i.room, e) }
 
--- a row has as many as its list
-pub row-length : {s : List ℕ} {row : Row} {xs : List VarId} → RowOf s row xs → length xs ≡ row.len
-row-length {s} {row} h = ap length (sym h.ids) ∙ ids-length s row
+module _ (row : Row) where
+  pub id-at : (j : ℕ) → j < row.places.len → (id_at row j).0 ≡ number_at row.bytes.now row.places.width (row.places.from + row.places.stride * j + row.places.offset)
+  id-at j h =
+      let p = row.places in
+      let k : p.from + p.offset + p.stride * j ≡ p.from + p.stride * j + p.offset = omega arith in
+      ap (λ (x : VarId). x.0) (from_at row.bytes.now p.stride p.width (p.from + p.offset) p.len j h) ∙ ap (number_at row.bytes.now p.width) k
+
+  -- a row has as many as its list
+  pub row-length : {xs : List VarId} → ids_of row ≡ xs → length xs ≡ row.places.len
+  row-length h = ap length (sym h) ∙ ids-length row.bytes.now row.places

@@ -12,8 +12,9 @@ use Rattle.syntax.specs.Sets.{elem, distinct}
 use Rattle.syntax.specs.declared.names.VarId.{VarId}
 use Rattle.model.specs.Lists.{every}
 use Rattle.model.specs.Linear.{same_ids}
-use Rattle.step_rows.specs.declared.Row.{Row}
-use Rattle.step_rows.specs.Rows.{identified, ids_in, id_at}
+use Rattle.step_rows.specs.declared.row.Row.{Row}
+use Rattle.step_rows.specs.Rows.{ids_of, id_at}
+use Rattle.step_rows.specs.Placing.{identified}
 use Rattle.step_rows.specs.Apart.{agrees}
 use Rattle.step_rows.proofs.RowLaws.{ids-length}
 
@@ -53,31 +54,31 @@ agrees_is true false = refl
 agrees_is false true = refl
 agrees_is false false = refl
 
-module _ (s : List ℕ) (row : Row) where
+module _ (row : Row) where
   -- the IDs from place j on, where one stands
-  from_place : (j : ℕ) → j < row.len → drop j (ids_in s row) ≡ id_at s row j ∷ drop (j + 1) (ids_in s row)
-  from_place j h = drop-cons (ids_in s row) j (identified 0) (omega (arith, ids-length s row)) ∙ ap (λ (k : ℕ). id_at s row j ∷ drop k (ids_in s row)) (sym (add-one j))
+  from_place : (j : ℕ) → j < row.places.len → drop j (ids_of row) ≡ id_at row j ∷ drop (j + 1) (ids_of row)
+  from_place j h = drop-cons (ids_of row) j (identified 0) (omega (arith, ids-length row.bytes.now row.places)) ∙ ap (λ (k : ℕ). id_at row j ∷ drop k (ids_of row)) (sym (add-one j))
 
-  from_end : drop row.len (ids_in s row) ≡ []
-  from_end = ap (λ (k : ℕ). drop k (ids_in s row)) (sym (ids-length s row)) ∙ drop-length (ids_in s row)
+  from_end : drop row.places.len (ids_of row) ≡ []
+  from_end = ap (λ (k : ℕ). drop k (ids_of row)) (sym (ids-length row.bytes.now row.places)) ∙ drop-length (ids_of row)
 
-  pub every_turns : (p : VarId → Bool) → Turns row.len (λ j. every p (drop j (ids_in s row))) (λ j. p (id_at s row j))
+  pub every_turns : (p : VarId → Bool) → Turns row.places.len (λ j. every p (drop j (ids_of row))) (λ j. p (id_at row j))
   every_turns p = record { turn = λ j h. ap (every p) (from_place j h); end = ap (every p) from_end }
 
-  pub distinct_turns : Turns row.len (λ j. distinct (drop j (ids_in s row))) (λ j. not (elem (id_at s row j) (drop (j + 1) (ids_in s row))))
+  pub distinct_turns : Turns row.places.len (λ j. distinct (drop j (ids_of row))) (λ j. not (elem (id_at row j) (drop (j + 1) (ids_of row))))
   distinct_turns = record { turn = λ j h. ap distinct (from_place j h); end = ap distinct from_end }
 
-  pub elem_turns : (x : VarId) → Turns row.len (λ j. not (elem x (drop j (ids_in s row)))) (λ j. not (same_var_id x (id_at s row j)))
+  pub elem_turns : (x : VarId) → Turns row.places.len (λ j. not (elem x (drop j (ids_of row)))) (λ j. not (same_var_id x (id_at row j)))
   elem_turns x = record {
-    turn = λ j h. ap (λ (l : List VarId). not (elem x l)) (from_place j h) ∙ not_or (same_var_id x (id_at s row j)) (elem x (drop (j + 1) (ids_in s row)));
+    turn = λ j h. ap (λ (l : List VarId). not (elem x l)) (from_place j h) ∙ not_or (same_var_id x (id_at row j)) (elem x (drop (j + 1) (ids_of row)));
     end = ap (λ (l : List VarId). not (elem x l)) from_end;
   }
 
-pub same_turns : (s : List ℕ) (row : Row) (t : List ℕ) (other : Row) → row.len ≡ other.len
-    → Turns row.len (λ j. same_ids (drop j (ids_in s row)) (drop j (ids_in t other))) (λ j. same_var_id (id_at s row j) (id_at t other j))
-same_turns s row t other e = record {
-  turn = λ j h. let k : j < other.len = omega arith in ap₂ same_ids (from_place s row j h) (from_place t other j k);
-  end = ap₂ same_ids (from_end s row) (ap (λ (k : ℕ). drop k (ids_in t other)) e ∙ from_end t other);
+pub same_turns : (row other : Row) → row.places.len ≡ other.places.len
+    → Turns row.places.len (λ j. same_ids (drop j (ids_of row)) (drop j (ids_of other))) (λ j. same_var_id (id_at row j) (id_at other j))
+same_turns row other e = record {
+  turn = λ j h. let k : j < other.places.len = omega arith in ap₂ same_ids (from_place row j h) (from_place other j k);
+  end = ap₂ same_ids (from_end row) (ap (λ (k : ℕ). drop k (ids_of other)) e ∙ from_end other);
 }
 
 -- lists of different lengths

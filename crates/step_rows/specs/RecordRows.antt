@@ -1,16 +1,17 @@
 -- The rows of IDs in the records of an opened image.
-use Rattle.std.specs.Prelude.{ℕ, ◌+◌, Option, Some, None, List, [], get_or}
+use Rattle.std.specs.Prelude.{ℕ, ◌+◌, ◌≡◌, Option, Some, None, List, [], get_or}
 use Rattle.std.proofs.Math.Option.{Option as Optional, none, some}
 use Rattle.syntax.specs.Context.{Context, ids}
 use Rattle.syntax.specs.declared.names.Identifier.{Identifier}
 use Rattle.syntax.specs.declared.context.ContextBinding.{ContextBinding}
 use Rattle.image_spec.specs.Records.{Record, definition, substitute, call, let', switch, create, invoke, literal, op, ifc, clause', print, exit}
-use Rattle.step_rows.specs.declared.Row.{Row}
-use Rattle.step_rows.specs.Rows.{RowOf}
+use Rattle.step_rows.specs.declared.places.Places.{Places}
+use Rattle.step_rows.specs.declared.row.Row.{Row}
+use Rattle.step_rows.specs.Rows.{ids_of}
 
 -- what stands at `at`: a count, and as many elements
-abbrev pub counted_row_lem : List ℕ → (at stride offset width : ℕ) → Row
-counted_row_lem bytes at stride offset width = record { from = at + 1; stride = stride; offset = offset; width = width; len = get_or bytes at 0 }
+abbrev pub counted_places_lem : List ℕ → (at stride offset width : ℕ) → Places
+counted_places_lem bytes at stride offset width = record { from = at + 1; stride = stride; offset = offset; width = width; len = get_or bytes at 0 }
 
 -- any bytes, as they are
 abbrev pub bytes_of : List ℕ → List ℕ
@@ -52,6 +53,6 @@ environment_of (print n v) = none
 environment_of (exit v) = none
 
 -- the IDs of an environment, or that there is none
-pub data EnvironmentRow (bytes : List ℕ) : Option Row → Optional Context → Type 0 where
-  absent : EnvironmentRow bytes None none
-  listed : {row : Row} {Γ : Context} → RowOf bytes row (ids Γ) → EnvironmentRow bytes (Some row) (some Γ)
+pub data EnvironmentRow : Option Row → Optional Context → Type 0 where
+  absent : EnvironmentRow None none
+  listed : {row : Row} {Γ : Context} → ids_of row ≡ ids Γ → EnvironmentRow (Some row) (some Γ)

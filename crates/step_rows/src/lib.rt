@@ -1,32 +1,26 @@
 // Rows of variable IDs: those of a list in an image, of the pairs of a Substitute, and of slots in a store.
 #![tactic(auto)]
 
+pub mod places;
 pub mod records;
+pub mod row;
 
-ghost use Rattle.std.specs.Prelude.{◌≡◌, ◌+◌, ◌*◌, ◌≤◌, ◌<◌, ◌^◌};
+ghost use Rattle.std.specs.Prelude.{◌≡◌, ◌+◌, ◌*◌, ◌^◌, ◌≤◌, ◌<◌};
 ghost use Rattle.syntax.specs.Sets.{elem, distinct};
 ghost use Rattle.model.specs.Linear.{same_ids, present};
-ghost use Rattle.step_rows.specs.Rows.{identified, ids_in, id_at, Inside, behind_of, slot_row_lem};
+ghost use Rattle.step_rows.specs.Rows.{ids_of, id_at, IsBehind};
+ghost use Rattle.step_rows.specs.Placing.{identified, behind_of, slot_places_lem};
 ghost use Rattle.step_rows.specs.Apart.{apart, all_are_lem};
 
+use crate::places::Places;
+use crate::row::Row;
 use image_fields::number;
 
-// Numbers at equal distances in bytes: len elements of stride bytes each, the first at from, each with a number of width bytes that stands
-// offset bytes into it.
-#[derive(Clone, Copy, Debug, PartialEq, Eq)]
-pub struct Row {
-    pub from: usize,
-    pub stride: usize,
-    pub offset: usize,
-    pub width: usize,
-    pub len: usize,
-}
-
-// The IDs of the n slots from at.
-pub fn slot_row(at: usize, n: usize) -> Row
-    ensures { result ≡ slot_row_lem at n }
+// The places of the IDs of the n slots from at.
+pub fn slot_places(at: usize, n: usize) -> Places
+    ensures { result ≡ slot_places_lem at n }
 {
-    Row {
+    Places {
         from: at,
         stride: 16,
         offset: 4,
@@ -35,43 +29,57 @@ pub fn slot_row(at: usize, n: usize) -> Row
     }
 }
 
-// The row without its first k.
-pub fn behind(row: Row, k: usize) -> Row
-    requires { (k ≤ row.len) × (row.from + row.stride * row.len < 2 ^ 64) }
-    ensures { result ≡ behind_of row k }
+// The places without the first k.
+pub fn places_behind(places: Places, k: usize) -> Places
+    requires { (k ≤ places.len) × (places.from + places.stride * places.len < 2 ^ 64) }
+    ensures { result ≡ behind_of places k }
 {
-    Row {
-        from: row.from + row.stride * k,
-        stride: row.stride,
-        offset: row.offset,
-        width: row.width,
-        len: row.len - k,
+    Places {
+        from: places.from + places.stride * k,
+        len: places.len - k,
+        ..places
     }
 }
 
-// The ID at place j. The row's width is given again, so that a caller can give it as a constant: then the ID is read at once.
-fn id_at(bytes: &[u8], row: Row, width: usize, j: usize) -> u32
-    requires { Inside bytes.now row × (width ≡ row.width) × (j < row.len) }
-    ensures { result ≡ (id_at bytes.now row j).0 }
+// The row without its first k.
+pub fn behind<'a>(row: &Row<'a>, k: usize) -> Row<'a>
+    requires { k ≤ row.now.places.len }
+    ensures { IsBehind row.now k result }
 {
-    number(bytes, row.from + row.stride * j + row.offset, width)
+    Row {
+        bytes: row.bytes,
+        places: places_behind(row.places, k),
+    }
+}
+
+// The ID at place j. The row's width is given again, so that a caller can give it as a constant: then the ID is read at once (docs/SPEED.md).
+fn id_at(row: &Row<'_>, width: usize, j: usize) -> u32
+    requires { (width ≡ row.now.places.width) × (j < row.now.places.len) }
+    ensures { result ≡ (id_at row.now j).0 }
+{
+    let places = row.places;
+    number(
+        row.bytes,
+        places.from + places.stride * j + places.offset,
+        width,
+    )
 }
 
 // The ID at place j.
-pub fn id_of(bytes: &[u8], row: Row, j: usize) -> u32
-    requires { Inside bytes.now row × (j < row.len) }
-    ensures { result ≡ (id_at bytes.now row j).0 }
+pub fn id_of(row: &Row<'_>, j: usize) -> u32
+    requires { j < row.now.places.len }
+    ensures { result ≡ (id_at row.now j).0 }
 {
-    id_at(bytes, row, row.width, j)
+    id_at(row, row.places.width, j)
 }
 
 // Is the ID in the row? The width as in id_at.
-fn search(bytes: &[u8], row: Row, width: usize, id: u32) -> bool
-    requires { Inside bytes.now row × (width ≡ row.width) }
-    ensures { result ≡ elem (identified id) (ids_in bytes.now row) }
+fn search(row: &Row<'_>, width: usize, id: u32) -> bool
+    requires { width ≡ row.now.places.width }
+    ensures { result ≡ elem (identified id) (ids_of row.now) }
 {
-    for j in 0..row.len {
-        let other = id_at(bytes, row, width, j);
+    for j in 0..row.places.len {
+        let other = id_at(row, width, j);
         if id == other {
             return true;
         }
@@ -80,30 +88,26 @@ fn search(bytes: &[u8], row: Row, width: usize, id: u32) -> bool
 }
 
 // Is the ID in the row?
-pub fn has(bytes: &[u8], row: Row, id: u32) -> bool
-    requires { Inside bytes.now row }
-    ensures { result ≡ elem (identified id) (ids_in bytes.now row) }
+pub fn has(row: &Row<'_>, id: u32) -> bool
+    ensures { result ≡ elem (identified id) (ids_of row.now) }
 {
     // The IDs of slots: a loop with a constant for the width, for speed.
-    if row.width == 4 {
-        return search(bytes, row, 4, id);
+    if row.places.width == 4 {
+        return search(row, 4, id);
     }
-    search(bytes, row, row.width, id)
+    search(row, row.places.width, id)
 }
 
 // Have two rows the same IDs in the same order?
-pub fn same(bytes: &[u8], row: Row, others: &[u8], other_row: Row) -> bool
-    requires { Inside bytes.now row × Inside others.now other_row }
-    ensures { result ≡ same_ids (ids_in bytes.now row) (ids_in others.now other_row) }
+pub fn same(row: &Row<'_>, other: &Row<'_>) -> bool
+    ensures { result ≡ same_ids (ids_of row.now) (ids_of other.now) }
 {
-    let other_len = other_row.len;
-    if row.len != other_len {
+    let len = row.places.len;
+    if len != other.places.len {
         return false;
     }
-    for j in 0..row.len {
-        let id = id_of(bytes, row, j);
-        let other = id_of(others, other_row, j);
-        if id != other {
+    for j in 0..len {
+        if id_of(row, j) != id_of(other, j) {
             return false;
         }
     }
@@ -111,13 +115,11 @@ pub fn same(bytes: &[u8], row: Row, others: &[u8], other_row: Row) -> bool
 }
 
 // Is every ID of the row in the other, or none, as is wanted?
-fn all_are(bytes: &[u8], row: Row, others: &[u8], other_row: Row, wanted: bool) -> bool
-    requires { Inside bytes.now row × Inside others.now other_row }
-    ensures { result ≡ all_are_lem wanted (ids_in bytes.now row) (ids_in others.now other_row) }
+fn all_are(row: &Row<'_>, other: &Row<'_>, wanted: bool) -> bool
+    ensures { result ≡ all_are_lem wanted (ids_of row.now) (ids_of other.now) }
 {
-    for j in 0..row.len {
-        let id = id_of(bytes, row, j);
-        let found = has(others, other_row, id);
+    for j in 0..row.places.len {
+        let found = has(other, id_of(row, j));
         if found != wanted {
             return false;
         }
@@ -126,30 +128,28 @@ fn all_are(bytes: &[u8], row: Row, others: &[u8], other_row: Row, wanted: bool) 
 }
 
 // Is every ID of the row in the other?
-pub fn all_present(bytes: &[u8], row: Row, others: &[u8], other_row: Row) -> bool
-    requires { Inside bytes.now row × Inside others.now other_row }
-    ensures { result ≡ present (ids_in bytes.now row) (ids_in others.now other_row) }
+pub fn all_present(row: &Row<'_>, other: &Row<'_>) -> bool
+    ensures { result ≡ present (ids_of row.now) (ids_of other.now) }
 {
-    all_are(bytes, row, others, other_row, true)
+    all_are(row, other, true)
 }
 
 // Is no ID of the row in the other?
-pub fn disjoint(bytes: &[u8], row: Row, others: &[u8], other_row: Row) -> bool
-    requires { Inside bytes.now row × Inside others.now other_row }
-    ensures { result ≡ apart (ids_in bytes.now row) (ids_in others.now other_row) }
+pub fn disjoint(row: &Row<'_>, other: &Row<'_>) -> bool
+    ensures { result ≡ apart (ids_of row.now) (ids_of other.now) }
 {
-    all_are(bytes, row, others, other_row, false)
+    all_are(row, other, false)
 }
 
 // Is no ID in the row twice? The width as in id_at.
-fn differ(bytes: &[u8], row: Row, width: usize) -> bool
-    requires { Inside bytes.now row × (width ≡ row.width) }
-    ensures { result ≡ «distinct» (ids_in bytes.now row) }
+fn differ(row: &Row<'_>, width: usize) -> bool
+    requires { width ≡ row.now.places.width }
+    ensures { result ≡ «distinct» (ids_of row.now) }
 {
-    for j in 0..row.len {
-        let id = id_at(bytes, row, width, j);
+    for j in 0..row.places.len {
+        let id = id_at(row, width, j);
         let rest = behind(row, j + 1);
-        if search(bytes, rest, width, id) {
+        if search(&rest, width, id) {
             return false;
         }
     }
@@ -157,13 +157,12 @@ fn differ(bytes: &[u8], row: Row, width: usize) -> bool
 }
 
 // Is no ID in the row twice?
-pub fn distinct(bytes: &[u8], row: Row) -> bool
-    requires { Inside bytes.now row }
-    ensures { result ≡ «distinct» (ids_in bytes.now row) }
+pub fn distinct(row: &Row<'_>) -> bool
+    ensures { result ≡ «distinct» (ids_of row.now) }
 {
     // The IDs of slots, as in has.
-    if row.width == 4 {
-        return differ(bytes, row, 4);
+    if row.places.width == 4 {
+        return differ(row, 4);
     }
-    differ(bytes, row, row.width)
+    differ(row, row.places.width)
 }

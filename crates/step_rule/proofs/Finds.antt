@@ -14,8 +14,7 @@ use Rattle.model.specs.Syntax.{Prog}
 use Rattle.model.specs.Lists.{lookup}
 use Rattle.model.specs.Machine.{Value, int, cell, outside, Entries, as_int}
 use Rattle.image_spec.specs.Parse.{All}
-use Rattle.step_slots.specs.declared.Slot.{Slot}
-use Rattle.step_slots.specs.Slots.{slot, value_slot}
+use Rattle.step_slots.specs.Slots.{Slot, slot, value_slot}
 use Rattle.step_slots.specs.Views.{no_slot}
 use Rattle.step_spec.specs.Located.{Machine, Located}
 use Rattle.step_spec.specs.Store.{place_of, environment_of, ValueFits}

@@ -12,8 +12,7 @@ use lib.Seq.{sets}
 use Rattle.model.specs.Syntax.{Prog}
 use Rattle.model.specs.Machine.{Event}
 use Rattle.image_spec.specs.Parse.{each}
-use Rattle.step_slots.specs.declared.Slot.{Slot}
-use Rattle.step_slots.specs.Slots.{slot_bytes}
+use Rattle.step_slots.specs.Slots.{Slot, slot_bytes}
 use Rattle.step_slots.proofs.SlotBytes.{slots_length}
 use Rattle.step_spec.specs.Located.{Machine, Located, Stepped, located_step}
 use Rattle.step_spec.specs.Store.{heap_of, environment_of, bit, header_of, header_bytes, raw_of, store_bytes}

@@ -10,8 +10,7 @@ use lib.ListN.{length, drop, length-append}
 use lib.Seq.{drop-append_seam}
 use Rattle.model.specs.Syntax.{Prog}
 use Rattle.image_spec.specs.Parse.{each, All}
-use Rattle.step_slots.specs.declared.Slot.{Slot}
-use Rattle.step_slots.specs.Slots.{slot_bytes, SlotOk}
+use Rattle.step_slots.specs.Slots.{Slot, slot_bytes, SlotOk}
 use Rattle.step_slots.specs.Views.{slots_at, is_slot, all_slots}
 use Rattle.step_slots.proofs.SlotLaws.{past, slots-stand}
 use Rattle.step_slots.proofs.SlotBytes.{slots_length}

@@ -9,8 +9,7 @@ use lib.ListN.{length, length-append}
 use Rattle.model.specs.Syntax.{Stmt, Prog}
 use Rattle.model.specs.Machine.{Value, Entries, Cell, Cells, State, at, ended, Event, Outcome, shows, silent, halts}
 use Rattle.image_spec.specs.Parse.{each, All}
-use Rattle.step_slots.specs.declared.Slot.{Slot}
-use Rattle.step_slots.specs.Slots.{slot, value_slot}
+use Rattle.step_slots.specs.Slots.{Slot, slot, value_slot}
 use Rattle.step_spec.specs.Located.{Machine, Kept, Located, Stepped, stmt_in, cell_in, state_of, project, next_place_lem, keep, moved, unless_stopped, follow, located_step}
 use Rattle.step_spec.specs.Store.{place_of, entry_slot, blocks_of, block_slots, heap_of, environment_of, held_in, ValueFits, EntryFits}
 use Rattle.step_spec.specs.Events.{event_bytes}

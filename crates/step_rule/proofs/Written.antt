@@ -9,8 +9,7 @@ use lib.ListN.{length, take, drop, length-append, take-append-drop}
 use lib.Seq.{sets, length-take-le}
 use Rattle.image_spec.specs.Parse.{each}
 use Rattle.image_write_parts.proofs.Putting.{sets_append, sets_reserved}
-use Rattle.step_slots.specs.declared.Slot.{Slot}
-use Rattle.step_slots.specs.Slots.{slot_bytes}
+use Rattle.step_slots.specs.Slots.{Slot, slot_bytes}
 use Rattle.step_slots.specs.Views.{all_slots}
 use Rattle.step_slots.proofs.SlotLaws.{past}
 use Rattle.step_slots.proofs.SlotBytes.{slots-bytes, slots-count, slots_length}

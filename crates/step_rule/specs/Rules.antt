@@ -1,5 +1,5 @@
 -- One step of a machine on a store: what is known before it, and what it must have done.
-use Rattle.std.specs.Prelude.{ℕ, ◌+◌, ◌-◌, ◌*◌, ◌^◌, ◌≤◌, ◌<◌, ◌≡◌, true, false, Bool, cond, List, length, Result, Ok, Err}
+use Rattle.std.specs.Prelude.{ℕ, ◌+◌, ◌-◌, ◌≡◌, true, false, List, length, Result, Ok, Err}
 use Rattle.std.proofs.Math.Option.{Option, none, some}
 use Rattle.std.proofs.lemmas.List.Edits.{sets}
 use Rattle.model.specs.Syntax.{Prog}
@@ -7,14 +7,18 @@ use Rattle.image_spec.specs.Parse.{All}
 use Rattle.image_spec.specs.Shape.{DefOk}
 use Rattle.image_directory.specs.Slots as image
 use Rattle.image_directory.specs.declared.Frame.{Frame}
+use Rattle.step_spec.specs.declared.MachineKind.{MachineKind}
+use Rattle.step_spec.specs.declared.MachineKind.TheVariants.{Source, Linear}
 use Rattle.step_spec.specs.Located.{Machine, source_machine, linear_machine, Located, Stepped, records_in, project, is_stop, located_step}
 use Rattle.step_spec.specs.Store.{header_of, raw_of, store_bytes, state_from}
 use Rattle.step_spec.specs.Events.{shown_bytes}
 use Rattle.step_spec.specs.Calls.{has_room_lem}
 use Rattle.step_header.specs.declared.Header.{Header}
 use Rattle.image_read_nodes.specs.Nodes.{At}
-use Rattle.step_header.specs.Headers.{tuple_of, Holds}
+use Rattle.step_header.specs.Headers.{tuple_of}
+use Rattle.step_write.specs.Working.{Fit}
 use Rattle.step_places.specs.declared.stepper.Stepper.{Stepper}
+use Rattle.step_write.specs.declared.Work.{Work}
 use Rattle.step_write.specs.declared.Step.{Step}
 use Rattle.step_write.specs.declared.Stop.{Stop}
 use Rattle.step_write.specs.declared.Stop.TheVariants.{NoStep, NoRoom}
@@ -28,11 +32,12 @@ pub record ImageOf (P : Prog) (g : Frame) (D : ℕ) (bytes : List ℕ) : Type 0 
 abbrev pub ProgramOf : Prog → Stepper → List ℕ → Type 0
 ProgramOf P stepper bytes = ImageOf P stepper.image.frame stepper.definitions bytes
 
-abbrev pub machine_for : (linear : Bool) → Machine
-machine_for linear = cond linear linear_machine source_machine
+abbrev pub machine_for : MachineKind → Machine
+machine_for Source = source_machine
+machine_for Linear = linear_machine
 
 abbrev pub machine_in : Stepper → Machine
-machine_in s = machine_for s.linear
+machine_in s = machine_for s.machine
 
 -- the store is read as the state l of this program, whose header is h
 pub record Reads (P : Prog) (store : List ℕ) (h : Header) (l : Located) : Type 0 where
@@ -64,13 +69,12 @@ pub data Makes (store events : List ℕ) (at : ℕ) : Option Stepped → (store'
       → Makes store events at (some r) store' events' (Ok step)
 
 -- .. whatever program and state they are
-pub record MakesAs (M : Machine) (stepper : Stepper) (bytes store events : List ℕ) (h : Header) (at : ℕ) (store' events' : List ℕ) (m : Result Step Stop) : Type 0 where
-  pub makes : (P : Prog) (l : Located) → ProgramOf P stepper bytes → Stored M P store h l → Makes store events at (resting (located_step M P l)) store' events' m
+pub record MakesAs (M : Machine) (stepper : Stepper) (w w' : Work) (m : Result Step Stop) : Type 0 where
+  pub makes : (P : Prog) (l : Located) → ProgramOf P stepper stepper.image.bytes.now → Stored M P w.store.now w.header l
+      → Makes w.store.now w.events.now w.at (resting (located_step M P l)) w'.store.now w'.events.now m
 
--- what a rule for a statement of this kind is given: the record at the position, a store that has what its header says, a place in the event buffer,
--- and room for a cell of 128 values with its own slot and a variable
-pub record Given (stepper : Stepper) (bytes store events scratch : List ℕ) (h : Header) (at kind : ℕ) : Type 0 where
-  pub record' : At stepper.image.frame bytes h.position kind
-  pub holds : Holds store h
-  pub place : at ≤ length events
-  pub scratch' : 2080 ≤ length scratch
+-- what a rule for a statement of this kind is given: the record at the position, a store that has what its header says, and a
+-- place in the event buffer. (Scratch has room for 130 slots beside it: a cell of 128 values with its own slot, and a variable.)
+pub record Given (stepper : Stepper) (w : Work) (kind : ℕ) : Type 0 where
+  pub record' : At stepper.image.frame stepper.image.bytes.now w.header.position kind
+  pub fit : Fit w

@@ -1,15 +1,15 @@
 // Steps one after another.
 #![tactic(auto)]
 
+ghost use Rattle.step_write.specs.Working.{Keeps};
 ghost use Rattle.step_rule.specs.Rules.{machine_in};
 ghost use Rattle.step_order.specs.Sure.{SureIn};
 ghost use Rattle.step_turn.specs.Turning.{Lives, Workplace};
 ghost use Rattle.step_run.specs.Runs.{Runs};
 
-use step_header::Header;
 use step_places::stepper::Stepper;
 use step_turn::advance;
-use step_write::Stop;
+use step_write::{Stop, Work};
 
 // How many steps were made, how many bytes their events took, and whether the next one had no room.
 #[derive(Clone, Copy)]
@@ -23,23 +23,21 @@ pub struct Ran {
 // machine's list are distinct, no step asks: they stay so.
 pub fn run(
     stepper: &Stepper<'_>,
-    store: &mut [u8],
-    events: &mut [u8],
+    work: &mut Work<'_, '_>,
     scratch: &mut [u8],
-    header: Header,
     steps: u64,
     sure: bool,
 ) -> Ran
-    requires { Workplace events.old scratch.old 0 × (Lives (machine_in stepper.now) stepper.now stepper.now.image.bytes.now store.old header × SureIn stepper.now sure store.old header) }
-    ensures { Runs (machine_in stepper.now) stepper.now stepper.now.image.bytes.now steps store.old events.old header store.new events.new result }
+    requires { Workplace work.old.events.now scratch.old 0 × (Lives (machine_in stepper.now) stepper.now stepper.now.image.bytes.now work.old.store.now work.old.header × SureIn stepper.now sure work.old.store.now work.old.header) }
+    ensures { Runs (machine_in stepper.now) stepper.now stepper.now.image.bytes.now steps work.old.store.now work.old.events.now work.old.header work.new.store.now work.new.events.now result × Keeps work.old work.new }
 {
-    let mut here = header;
-    let mut at = 0;
+    work.at = 0;
     for made in 0..steps {
-        match advance(stepper, store, events, scratch, here, at, sure) {
+        let at = work.at;
+        match advance(stepper, work, scratch, sure) {
             Ok(step) => {
-                here = step.header;
-                at = step.at;
+                work.header = step.header;
+                work.at = step.at;
             }
             Err(stop) => {
                 return Ran {
@@ -52,7 +50,7 @@ pub fn run(
     }
     Ran {
         steps,
-        length: at,
+        length: work.at,
         full: false,
     }
 }

@@ -1,21 +1,19 @@
 -- One pass over the slots of a store: kinds of records, a value, the turn of the loops. Assumes nothing.
-use Prim.Native.Nat.{ℕ, zero, suc, ◌+◌, ◌-◌, ◌*◌, ◌^◌, ◌≤◌, ◌<◌}
+use Prim.Native.Nat.{ℕ, zero, suc, ◌+◌, ◌-◌, ◌*◌, ◌≤◌, ◌<◌}
 use mathlib.Core.Path.{◌≡◌, refl, sym, ap, ap₂, ◌∙◌}
-use mathlib.Core.Bool.{Bool, true, false, not, ◌&&◌, cond}
+use mathlib.Core.Bool.{Bool, true, false, ◌&&◌}
 use mathlib.Core.List.{List, [], ◌∷◌}
 use native.Mathlib.Omega.{arith}
 use native.Mathlib.Numerals.{add-one}
-use borrow.Author.Tests.{le-leb, lt-leb, lt-ltb, le-ltb, eq-eqb, ne_eqb}
+use borrow.Author.Tests.{le-leb, lt-leb, eq-eqb, ne_eqb}
 use lib.Dec.{leb, ltb, eqb}
-use lib.ListN.{length, drop}
+use lib.ListN.{drop}
 use Rattle.model.specs.Syntax.{Prog}
 use Rattle.image_spec.specs.Records.{Record}
-use Rattle.step_slots.specs.declared.Slot.{Slot}
-use Rattle.step_slots.specs.Slots.{is_cell_lem}
-use Rattle.step_slots.specs.Views.{slot_at, slots_at, is_slot, all_slots}
-use Rattle.step_spec.specs.Store.{first_slot, every_slot, first_record, is_a_statement, is_a_create, statement_at, create_at, value_ok, entry_ok, field_ok, cells_in, leading, blocks, cells_ok}
-use Rattle.step_spec.specs.Scan.{held_ok, head_ok, scan}
-use Rattle.step_spec.proofs.Scans.{scanned}
+use Rattle.step_slots.specs.Slots.{Slot, is_cell_lem}
+use Rattle.step_slots.specs.Views.{slot_at, slots_at}
+use Rattle.step_spec.specs.Store.{first_slot, every_slot, first_record, is_a_statement, is_a_create, statement_at, create_at, value_ok, entry_ok}
+use Rattle.step_spec.specs.Scan.{held_ok, head_ok}
 use Rattle.image_directory.specs.declared.Frame.{Frame}
 use Rattle.image_directory.specs.Slots as image
 use Rattle.step_scan.specs.Pass.{Of, pass}

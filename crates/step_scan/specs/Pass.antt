@@ -3,8 +3,7 @@ use Rattle.std.specs.Prelude.{ℕ, suc, ◌≡◌, Bool, ◌&&◌, cond, List, [
 use Rattle.model.specs.Syntax.{Prog}
 use Rattle.image_directory.specs.declared.Frame.{Frame}
 use Rattle.image_directory.specs.Slots as image
-use Rattle.step_slots.specs.declared.Slot.{Slot}
-use Rattle.step_slots.specs.Slots.{is_cell_lem}
+use Rattle.step_slots.specs.Slots.{Slot, is_cell_lem}
 use Rattle.step_slots.specs.Views.{is_slot}
 use Rattle.step_spec.specs.Located.{Located, records_in}
 use Rattle.step_spec.specs.Store.{raw_from, state_in}

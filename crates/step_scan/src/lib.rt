@@ -3,9 +3,10 @@
 
 ghost use Rattle.std.specs.Prelude.{◌≡◌, List, ◌+◌, ◌*◌, ◌≤◌, length, drop};
 ghost use Rattle.model.specs.Syntax.{Prog};
-ghost use Rattle.step_slots.specs.Slots.{is_cell_lem};
+ghost use Rattle.step_slots.specs.Sorts.{own_code};
+ghost use Rattle.step_slots.specs.Slots as view;
+ghost use Rattle.step_slots.specs.Slots.{as_slot, is_cell_lem};
 ghost use Rattle.step_slots.specs.Views.{slots_at};
-ghost use Rattle.step_slots.specs.declared.Slot as view;
 ghost use Rattle.step_spec.specs.Store.{first_slot, first_record, is_a_statement, is_a_create, entry_ok, every_slot};
 ghost use Rattle.step_spec.specs.Scan.{head_ok, held_ok};
 ghost use Rattle.step_scan.specs.Pass.{Of, pass};
@@ -14,6 +15,7 @@ ghost use Rattle.image_directory.specs.Images.{records_of};
 use image_directory::image::Image;
 use image_kinds::kinds::Kind;
 use image_shape::look;
+use step_slots::sort::Sort;
 use step_slots::{Slot, read};
 
 pub fn is_statement(image: &Image<'_>, i: u32) -> bool
@@ -34,48 +36,58 @@ fn is_create(image: &Image<'_>, i: u32) -> bool
     }
 }
 
-// Is it the place of a cell's slot?
+// Is it the place of a cell's slot? What is no slot counts as one here: it is refused where it stands.
 fn is_cell(store: &[u8], heap: usize, p: u64) -> bool
     requires { 64 + 16 * heap ≤ length store.now }
     ensures { result ≡ first_slot «is_cell_lem» (drop p (slots_at store.now 64 heap)) }
 {
     let i = p as usize;
-    i < heap && 3 <= read(store, 64 + 16 * i).sort
+    if heap <= i {
+        return false;
+    }
+    match read(store, 64 + 16 * i) {
+        Some(t) => t.sort.begins_cell(),
+        None => true,
+    }
 }
 
 // Is it a value: an integer, a cell by the place of its slot, or an outside number?
 fn value_ok(store: &[u8], heap: usize, t: Slot) -> bool
     requires { 64 + 16 * heap ≤ length store.now }
-    ensures { (P : Prog) → result ≡ entry_ok P (slots_at store.now 64 heap) t }
+    ensures { (P : Prog) → result ≡ entry_ok P (slots_at store.now 64 heap) (as_slot t) }
 {
     match t.sort {
-        0 => true,
-        1 => is_cell(store, heap, t.payload),
-        2 => t.payload < 256,
-        _ => false,
+        Sort::Integer => true,
+        Sort::Cell => is_cell(store, heap, t.payload),
+        Sort::Outside => t.payload < 256,
+        Sort::LetCell | Sort::CreateCell => false,
     }
 }
 
-// May a cell whose own slot is of sort f hold it?
-fn held_ok(store: &[u8], heap: usize, f: u8, t: Slot) -> bool
+// May a cell with an own slot of this sort hold it? Before the first cell there is none.
+fn held_ok(store: &[u8], heap: usize, own: Option<Sort>, t: Slot) -> bool
     requires { 64 + 16 * heap ≤ length store.now }
-    ensures { (P : Prog) → result ≡ held_ok P (slots_at store.now 64 heap) f t }
+    ensures { (P : Prog) → result ≡ held_ok P (slots_at store.now 64 heap) (own_code own) (as_slot t) }
 {
-    match f {
-        0 => false,
-        3 => t.id == 0 && value_ok(store, heap, t),
+    let Some(sort) = own else {
+        return false;
+    };
+    match sort {
+        // No cell has such an own slot.
+        Sort::Integer => false,
+        Sort::LetCell => t.id == 0 && value_ok(store, heap, t),
         _ => value_ok(store, heap, t),
     }
 }
 
 // Has a cell's own slot a tag, or the place of a Create?
 fn head_ok(image: &Image<'_>, t: Slot) -> bool
-    ensures { (P : Prog) (heap : List view.Slot) → Of P image.now.frame image.now.bytes.now → result ≡ head_ok P heap t }
+    ensures { (P : Prog) (heap : List view.Slot) → Of P image.now.frame image.now.bytes.now → result ≡ head_ok P heap (as_slot t) }
 {
-    if t.sort == 3 {
-        return t.id < 65536;
+    match t.sort {
+        Sort::LetCell => t.id < 65536,
+        _ => is_create(image, t.id),
     }
-    is_create(image, t.id)
 }
 
 // The slots of the cells: numbered from 0, with what each may hold, and as many as the header says.
@@ -84,19 +96,18 @@ pub fn cells_ok(image: &Image<'_>, store: &[u8], cells: u64, heap: usize) -> boo
     ensures { (P : Prog) → Of P image.now.frame image.now.bytes.now → result ≡ pass P (slots_at store.now 64 heap) cells 0 0 (slots_at store.now 64 heap) }
 {
     let mut k: u64 = 0;
-    let mut f: u8 = 0;
+    let mut own = None;
     for i in 0..heap {
-        let t = read(store, 64 + 16 * i);
-        if 4 < t.sort {
+        let Some(t) = read(store, 64 + 16 * i) else {
             return false;
-        }
-        if 3 <= t.sort {
+        };
+        if t.sort.begins_cell() {
             if t.payload != k || !head_ok(image, t) {
                 return false;
             }
             k += 1;
-            f = t.sort;
-        } else if !held_ok(store, heap, f, t) {
+            own = Some(t.sort);
+        } else if !held_ok(store, heap, own, t) {
             return false;
         }
     }
@@ -109,7 +120,10 @@ pub fn entries_ok(store: &[u8], heap: usize, entries: usize) -> bool
     ensures { (P : Prog) → result ≡ every_slot (entry_ok P (slots_at store.now 64 heap)) (slots_at store.now (64 + 16 * heap) entries) }
 {
     for i in 0..entries {
-        if !value_ok(store, heap, read(store, 64 + 16 * (heap + i))) {
+        let Some(t) = read(store, 64 + 16 * (heap + i)) else {
+            return false;
+        };
+        if !value_ok(store, heap, t) {
             return false;
         }
     }

@@ -4,15 +4,18 @@ use mathlib.Core.Path.{◌≡◌, refl, sym, ap, ◌∙◌, subst}
 use mathlib.Core.Bool.{Bool, true, false, false≢true}
 use mathlib.Core.List.{List, ◌++◌, map}
 use native.Mathlib.Omega.{arith}
+use borrow.Author.Rules.{rules}
+use denote.Enum.Bare.{sameb, same_true, same_false}
 use lib.ListN.{length, drop, set, length-append}
 use lib.Seq.{sets, sets-eq, drop-append_seam}
 use Rattle.model.specs.Syntax.{Prog}
-use Rattle.image_spec.specs.Parse.{each}
-use Rattle.step_slots.specs.Slots.{slot_bytes}
 use Rattle.model.specs.Linear.{linear_step_lem}
+use Rattle.step_spec.specs.contracts.MachineKind.{the_type}
+use Rattle.step_spec.specs.declared.MachineKind.{MachineKind}
+use Rattle.step_spec.specs.declared.MachineKind.TheVariants.{Source, Linear}
 use Rattle.step_spec.specs.Located.{Machine, Located, stmt_in, cell_in, state_of, project, is_stop}
 use Rattle.step_spec.proofs.NeverStops.{source-never-stops}
-use Rattle.step_spec.specs.Store.{heap_of, environment_of, bit, header_of, header_bytes, raw_of, store_bytes}
+use Rattle.step_spec.specs.Store.{header_of, raw_of, store_bytes}
 use Rattle.step_spec.proofs.OneToOne.{only_its_bytes}
 use Rattle.step_header.specs.declared.Header.{Header}
 use Rattle.step_header.specs.Headers.{tuple_of}
@@ -73,17 +76,28 @@ module _ {M : Machine} {stepper : Stepper} {bytes store : List ℕ} {h : Header}
       → {store' : List ℕ} {h' : Header} → store' ≡ set store 5 1 → h' ≡ stopping h → Settles M stepper bytes store h store' h'
   settles-stopped f w q = record { settles = λ P l p o s. rw (f P l p o s) (w ∙ stop-bytes o, ap tuple_of q ∙ stop-heads o) }
 
--- the machine that the stepper's flag says
-pub settles_as : {stepper : Stepper} {bytes store store' : List ℕ} {h h' : Header} {c : Bool} → stepper.linear ≡ c → Settles (machine_for c) stepper bytes store h store' h'
+-- the stepper's machine
+pub settles_as : {stepper : Stepper} {bytes store store' : List ℕ} {h h' : Header} {c : MachineKind} → stepper.machine ≡ c → Settles (machine_for c) stepper bytes store h store' h'
     → Settles (machine_in stepper) stepper bytes store h store' h'
-settles_as {stepper} {bytes} {store} {store'} {h} {h'} e x = subst (λ (z : Bool). Settles (machine_for z) stepper bytes store h store' h') (sym e) x
+settles_as {stepper} {bytes} {store} {store'} {h} {h'} e x = subst (λ (z : MachineKind). Settles (machine_for z) stepper bytes store h store' h') (sym e) x
+
+-- which it is, by the test for the source machine
+pub is_source : (k : MachineKind) {t : Bool} → t ≡ sameb the_type k Source → t ≡ true → k ≡ Source
+is_source k e h = same_true the_type (search rules) k Source (sym e ∙ h)
+
+other : (k : MachineKind) → (k ≡ Source → ⊥) → k ≡ Linear
+other Source n = absurd (n refl)
+other Linear n = refl
+
+pub is-linear : (k : MachineKind) {t : Bool} → t ≡ sameb the_type k Source → t ≡ false → k ≡ Linear
+is-linear k e h = other k (same_false the_type k Source (sym e ∙ h))
 
 -- a state that has ended does not stop
-pub ended-goes : {P : Prog} {store : List ℕ} {h : Header} {l : Located} (b : Bool) → Reads P store h l → h.ended ≡ true → is_stop ((machine_for b).step P (project P l)) ≡ false
+pub ended-goes : {P : Prog} {store : List ℕ} {h : Header} {l : Located} (b : MachineKind) → Reads P store h l → h.ended ≡ true → is_stop ((machine_for b).step P (project P l)) ≡ false
 unfolding project linear_step_lem
 ended-goes {P} {store} {h} {l} b o e = go b l.has_ended (sym (views o).ended ∙ e)
   where
-    go : (b c : Bool) → c ≡ true → is_stop ((machine_for b).step P (state_of c (stmt_in P l.position) l.environment (map (cell_in P) l.cells))) ≡ false
-    go true true f = refl
-    go true false f = absurd (false≢true f)
-    go false c f = source-never-stops P _
+    go : (b : MachineKind) (c : Bool) → c ≡ true → is_stop ((machine_for b).step P (state_of c (stmt_in P l.position) l.environment (map (cell_in P) l.cells))) ≡ false
+    go Linear true f = refl
+    go Linear false f = absurd (false≢true f)
+    go Source c f = source-never-stops P _

@@ -8,8 +8,10 @@ ghost use Rattle.step_order.specs.Sure.{SureIn};
 ghost use Rattle.step_settle.specs.Settling.{stopping, Settles};
 
 use step_header::Header;
+use step_header::state::State;
 use step_order::stops;
 use step_places::stepper::Stepper;
+use step_spec::MachineKind;
 
 // The flag set, in the store and in the header.
 pub fn stop(store: &mut [u8], header: Header) -> Header
@@ -28,7 +30,10 @@ pub fn settle(stepper: &Stepper<'_>, store: &mut [u8], header: Header, sure: boo
     requires { (header.position < stepper.now.image.frame.count) × (Holds store.old header × SureIn stepper.now sure store.old header) }
     ensures { Settles (machine_in stepper.now) stepper.now stepper.now.image.bytes.now store.old header store.new result }
 {
-    if !header.ended && stepper.linear && stops(stepper, store, header, sure) {
+    if header.ended || stepper.machine == MachineKind::Source {
+        return header;
+    }
+    if stops(stepper, &State { store, header }, sure) {
         return stop(store, header);
     }
     header

@@ -11,8 +11,7 @@ use Rattle.std.specs.Prelude.{Result, Ok, Err}
 use Rattle.image_spec.specs.Parse.{each}
 use Rattle.image_write_parts.specs.Puts.{Puts}
 use Rattle.image_write_parts.proofs.Putting.{puts_then}
-use Rattle.step_slots.specs.declared.Slot.{Slot}
-use Rattle.step_slots.specs.Slots.{slot_bytes}
+use Rattle.step_slots.specs.Slots.{Slot, slot_bytes}
 use Rattle.step_slots.specs.Views.{slots_at}
 use Rattle.step_slots.proofs.SlotBytes.{slots_length, slots-count}
 use Rattle.step_spec.specs.Store.{header_bytes}

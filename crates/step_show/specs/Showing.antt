@@ -1,8 +1,7 @@
 -- What the step shows that ends a run with an outside number.
 use Rattle.std.specs.Prelude.{ℕ, List, ◌++◌, map}
 use Rattle.image_spec.specs.Parse.{each}
-use Rattle.step_slots.specs.declared.Slot.{Slot}
-use Rattle.step_slots.specs.Slots.{slot_bytes}
+use Rattle.step_slots.specs.Slots.{Slot, slot_bytes}
 use Rattle.step_gather.specs.Gathering.{shown_as}
 use Rattle.step_write.specs.declared.EventHead.{EventHead}
 use Rattle.step_write.specs.Writing.{head_bytes}

@@ -4,55 +4,59 @@
 ghost use Rattle.std.specs.Prelude.{[], ◌+◌, ◌*◌, ◌≤◌, ◌<◌, ◌^◌, length};
 ghost use Rattle.step_slots.specs.Views.{slots_at};
 ghost use Rattle.step_header.specs.Headers.{heap_in};
+ghost use Rattle.step_write.specs.Working.{Keeps};
 ghost use Rattle.step_write.specs.Writing.{Ending, Finishes};
 ghost use Rattle.step_show.specs.Showing.{shown_with};
 
 use step_gather::show;
 use step_header::{Header, put_header};
-use step_write::{EventHead, Step, Stop, has_room, put_event};
+use step_write::{EventHead, Step, Stop, Work, fits, put_event, store_of};
 
 // The n values are the slots of the store from byte `from` on.
 pub fn finish_showing(
-    store: &mut [u8],
-    events: &mut [u8],
-    at: usize,
+    work: &mut Work<'_, '_>,
     event: EventHead,
     header: Header,
     from: usize,
     n: usize,
 ) -> Result<Step, Stop>
-    requires { Ending store.old events.old at header × ((64 + 16 * header.heap ≤ from) × (from + 16 * n ≤ length store.old)) }
-    ensures { Finishes store.old events.old at header (shown_with event (heap_in store.old header) (slots_at store.old from n)) 64 [] store.new events.new result }
+    requires { Ending work.old.store.now work.old.events.now work.old.at header × ((64 + 16 * header.heap ≤ from) × (from + 16 * n ≤ length work.old.store.now)) }
+    ensures { Finishes work.old.store.now work.old.events.now work.old.at header (shown_with event (heap_in work.old.store.now header) (slots_at work.old.store.now from n)) 64 [] work.new.store.now work.new.events.now result × Keeps work.old work.new }
 {
-    if !has_room(store.len(), header, events.len(), at, 16 + 16 * n) {
+    if !fits(work, header, 16 + 16 * n) {
         return Err(Stop::NoRoom);
     }
     let heap = header.heap as usize;
-    let values = put_event(events, at, event);
+    let at = work.at;
+    let values = put_event(work.events, at, event);
+    let events = std::mem::take(&mut work.events);
+    let store = store_of(work);
     let next = show(store, heap, store, from, n, events, values);
-    put_header(store, header);
+    work.events = events;
+    put_header(work.store, header);
     Ok(Step { header, at: next })
 }
 
-// The n values are the slots from the beginning of `slots` on.
+// The n values are the first slots of scratch.
 pub fn finish_showing_from(
-    store: &mut [u8],
-    events: &mut [u8],
-    at: usize,
+    work: &mut Work<'_, '_>,
+    scratch: &[u8],
     event: EventHead,
     header: Header,
-    slots: &[u8],
     n: usize,
 ) -> Result<Step, Stop>
-    requires { Ending store.old events.old at header × ((64 + 16 * header.heap ≤ length store.old) × ((16 * n ≤ length slots.now) × (16 + 16 * n < 2 ^ 64))) }
-    ensures { Finishes store.old events.old at header (shown_with event (heap_in store.old header) (slots_at slots.now 0 n)) 64 [] store.new events.new result }
+    requires { Ending work.old.store.now work.old.events.now work.old.at header × ((64 + 16 * header.heap ≤ length work.old.store.now) × ((16 * n ≤ length scratch.now) × (16 + 16 * n < 2 ^ 64))) }
+    ensures { Finishes work.old.store.now work.old.events.now work.old.at header (shown_with event (heap_in work.old.store.now header) (slots_at scratch.now 0 n)) 64 [] work.new.store.now work.new.events.now result × Keeps work.old work.new }
 {
-    if !has_room(store.len(), header, events.len(), at, 16 + 16 * n) {
+    if !fits(work, header, 16 + 16 * n) {
         return Err(Stop::NoRoom);
     }
     let heap = header.heap as usize;
-    let values = put_event(events, at, event);
-    let end = show(store, heap, slots, 0, n, events, values);
-    put_header(store, header);
+    let at = work.at;
+    let values = put_event(work.events, at, event);
+    let events = std::mem::take(&mut work.events);
+    let end = show(store_of(work), heap, scratch, 0, n, events, values);
+    work.events = events;
+    put_header(work.store, header);
     Ok(Step { header, at: end })
 }

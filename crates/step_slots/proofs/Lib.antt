@@ -1,4 +1,5 @@
--- Reading and writing slots, slots that stand in bytes, and their bytes.
+-- The sorts by name and byte, reading and writing slots, slots that stand in bytes, and their bytes.
+pub mod SortLaws
 pub mod SlotReads
 pub mod SlotLaws
 pub mod SlotBytes

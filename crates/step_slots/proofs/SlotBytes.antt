@@ -7,10 +7,9 @@ use native.Mathlib.Omega.{arith}
 use lib.ListN.{length, take, drop, length-append}
 use lib.Seq.{take-append_seam}
 use Rattle.image_spec.specs.Parse.{Parsed, refused, got, number, field, each}
-use Rattle.image_spec.proofs.ParseLaws.{Sound, none_read, one-read, number_exact}
+use Rattle.image_spec.proofs.ParseLaws.{Sound, one-read, number_exact}
 use Rattle.image_spec.proofs.DirectoryLaws.{and_left, and_right}
-use Rattle.step_slots.specs.declared.Slot.{Slot}
-use Rattle.step_slots.specs.Slots.{slot_bytes, SlotOk, slot_parser}
+use Rattle.step_slots.specs.Slots.{Slot, slot_bytes, SlotOk, slot_parser}
 use Rattle.step_slots.specs.Views.{slot_from, slot_at, slots_at, is_slot, all_slots}
 use Rattle.step_slots.proofs.SlotLaws.{slot_exact, past}
 

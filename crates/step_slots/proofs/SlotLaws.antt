@@ -1,6 +1,6 @@
 -- Slots that stand in bytes: parsed and viewed, one and many. Assumes nothing.
-use Prim.Native.Nat.{ℕ, zero, suc, ◌+◌, ◌*◌, ◌^◌, ◌≤◌, ◌<◌}
-use mathlib.Core.Path.{◌≡◌, refl, sym, ap, ap₂, ◌∙◌, subst}
+use Prim.Native.Nat.{ℕ, zero, suc, ◌+◌, ◌*◌}
+use mathlib.Core.Path.{◌≡◌, refl, sym, ap, ap₂, ◌∙◌}
 use mathlib.Core.Bool.{Bool, true, false, ◌&&◌}
 use mathlib.Core.List.{List, [], ◌∷◌, ◌++◌, append_assoc}
 use native.Mathlib.Omega.{arith}
@@ -8,9 +8,8 @@ use borrow.Author.Tests.{le-leb}
 use lib.ListN.{length, drop}
 use lib.Seq.{drop-drop, drop-append_seam}
 use Rattle.image_spec.specs.Parse.{Parsed, refused, got, and_then, only_if, times, each, All}
-use Rattle.image_spec.proofs.ParseLaws.{Exact, Sound, none_read, one-read, both_exact, via_exact, code_exact, zeros_exact, number_exact}
-use Rattle.step_slots.specs.declared.Slot.{Slot}
-use Rattle.step_slots.specs.Slots.{slot_bytes, SlotOk, slot_parser}
+use Rattle.image_spec.proofs.ParseLaws.{Exact, Sound, one-read, both_exact, via_exact, code_exact, zeros_exact, number_exact}
+use Rattle.step_slots.specs.Slots.{Slot, slot_bytes, SlotOk, slot_parser}
 use Rattle.step_slots.specs.Views.{slot_from, slot_at, slots_at, is_slot, all_slots}
 
 pub slot_exact : Exact slot_bytes SlotOk slot_parser

@@ -1,16 +1,15 @@
 -- Reading and writing sixteen bytes, as code does it. Assumes nothing.
 use Prim.Native.Nat.{ℕ, suc, ◌+◌, ◌-◌, ◌*◌, ◌^◌, ◌≤◌, ◌<◌}
 use mathlib.Core.Path.{◌≡◌, refl, ap, sym, ◌∙◌, subst}
-use mathlib.Core.List.{List, [], ◌∷◌, ◌++◌, append_assoc}
+use mathlib.Core.List.{List, ◌∷◌, ◌++◌, append_assoc}
 use native.Mathlib.Omega.{arith}
 use borrow.Author.Tests.{le-leb, lt-leb}
 use lib.ListN.{length, drop, get_or}
 use lib.Seq.{drop-cons}
 use native.Mathlib.Numerals.{add-one}
-use Rattle.image_spec.specs.Parse.{Parsed, refused, got, and_then, only_if, code, number, field, zeros}
+use Rattle.image_spec.specs.Parse.{refused, got, number, field, zeros}
 use Rattle.image_spec.proofs.ParseLaws.{Sound, one-read, number_exact}
 use Rattle.image_integers.proofs.Halves.{field_join}
-use Rattle.step_slots.specs.declared.Slot.{Slot}
 use Rattle.step_slots.specs.Slots.{slot, slot_parser}
 use Rattle.step_slots.specs.Views.{no_slot, slot_from, slot_at}
 

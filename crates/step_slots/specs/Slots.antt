@@ -3,7 +3,8 @@ use Rattle.std.specs.Prelude.{ℕ, ◌^◌, ◌≤◌, ◌<◌, Bool, List, [], 
 use Rattle.std.specs.Int.{w64}
 use Rattle.std.proofs.Common.{of_z}
 use Rattle.model.specs.Machine.{Value, int, cell, outside}
-use Rattle.step_slots.specs.declared.Slot.{Slot}
+use Rattle.step_slots.specs.declared.Slot as code
+use Rattle.step_slots.specs.Sorts.{sort_code}
 use Rattle.image_spec.specs.Parse.{Parser, via, both, code, number, field, zeros}
 
 -- what the sixteen bytes hold:
@@ -12,8 +13,17 @@ use Rattle.image_spec.specs.Parse.{Parser, via, both, code, number, field, zeros
 -- bytes 4-7   of an entry its ID, of a cell of a Let its tag, of a cell of a Create the place of its record, of a value without an ID zero
 -- bytes 8-15  the integer (signed), the place of the cell's slot, the outside number, or the number of the cell
 
+pub record Slot : Type 0 where
+  pub sort : ℕ
+  pub id : ℕ
+  pub payload : ℕ
+
 abbrev pub slot : ℕ → ℕ → ℕ → Slot
 slot k i p = record { sort = k; id = i; payload = p }
+
+-- what code has for a slot
+abbrev pub as_slot : code.Slot → Slot
+as_slot t = slot (sort_code t.sort) t.id t.payload
 
 abbrev pub slot_bytes : Slot → List ℕ
 slot_bytes s = (s.sort ∷ []) ++ (replicate 3 0 ++ (field 4 s.id ++ field 8 s.payload))

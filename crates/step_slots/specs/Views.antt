@@ -1,12 +1,17 @@
 -- The slots that stand in bytes, as code reads them: for all bytes, with one slot for what is none.
-use Rattle.std.specs.Prelude.{ℕ, zero, suc, ◌+◌, Bool, true, ◌&&◌, List, [], ◌∷◌, leb, drop}
+use Rattle.std.specs.Prelude.{ℕ, zero, suc, ◌+◌, Bool, true, ◌&&◌, Option, Some, None, List, [], ◌∷◌, leb, drop}
 use Rattle.image_spec.specs.Parse.{Parsed, refused, got}
-use Rattle.step_slots.specs.declared.Slot.{Slot}
-use Rattle.step_slots.specs.Slots.{slot, slot_parser}
+use Rattle.step_slots.specs.declared.Slot as code
+use Rattle.step_slots.specs.Slots.{Slot, slot, as_slot, slot_parser}
 
 -- what is read where sixteen bytes are no slot: no sort is above 4
 abbrev pub no_slot : Slot
 no_slot = slot 5 0 0
+
+-- what code has for a slot, or for none
+abbrev pub found_slot : Option code.Slot → Slot
+found_slot None = no_slot
+found_slot (Some t) = as_slot t
 
 abbrev pub slot_from : Parsed ℕ Slot → Slot
 slot_from refused = no_slot

@@ -1,20 +1,22 @@
 // The slots of a store: sixteen bytes for a cell, an entry or a value.
 #![tactic(auto)]
 
+pub mod sort;
+
 ghost use Rattle.std.specs.Prelude.{◌≡◌, ◌∷◌, [], ◌+◌, ◌≤◌, length, drop};
 ghost use Rattle.image_spec.specs.Parse.{got, number, field, zeros, only_if};
 ghost use Rattle.image_write_parts.specs.Puts.{Puts};
-ghost use Rattle.step_slots.specs.Slots.{slot_bytes};
-ghost use Rattle.step_slots.specs.Views.{slot_at};
+ghost use Rattle.step_slots.specs.Slots.{slot, slot_bytes, as_slot};
+ghost use Rattle.step_slots.specs.Views.{slot_at, found_slot};
 
+use crate::sort::Sort;
 use image_fields::number;
 use image_write_parts::store_pair;
 
-// What the sixteen bytes hold: a sort (0 an integer, 1 a cell, 2 an outside number, 3 a cell of a Let, 4 a cell of a Create), an ID, a tag or a
-// place, and 64 bits.
+// What the sixteen bytes hold: a sort, an ID, a tag or a place, and 64 bits.
 #[derive(Clone, Copy, Debug, PartialEq, Eq)]
 pub struct Slot {
-    pub sort: u8,
+    pub sort: Sort,
     pub id: u32,
     pub payload: u64,
 }
@@ -42,22 +44,20 @@ pub fn all_zero(s: &[u8], at: usize, n: usize) -> bool
     true
 }
 
-// The slot from at; one of sort 5 where the sixteen bytes are none.
-pub fn read(s: &[u8], at: usize) -> Slot
+// The slot from at; none where the sixteen bytes are no slot's.
+pub fn read(s: &[u8], at: usize) -> Option<Slot>
     requires { at + 16 ≤ length s.now }
-    ensures { result ≡ slot_at s.now at }
+    ensures { found_slot result ≡ slot_at s.now at }
 {
-    let sort = s[at];
-    if sort <= 4 && all_zero(s, at + 1, 3) {
-        let id = number(s, at + 4, 4);
-        let payload = long_at(s, at + 8);
-        return Slot { sort, id, payload };
+    let Ok(sort) = Sort::try_from(s[at]) else {
+        return None;
+    };
+    if !all_zero(s, at + 1, 3) {
+        return None;
     }
-    Slot {
-        sort: 5,
-        id: 0,
-        payload: 0,
-    }
+    let id = number(s, at + 4, 4);
+    let payload = long_at(s, at + 8);
+    Some(Slot { sort, id, payload })
 }
 
 // The four bytes of n, the lowest first. Here and below the caller has asked for the room once, so that no byte is tested by itself.
@@ -78,7 +78,7 @@ pub fn put_long(out: &mut [u8], at: usize, n: u64) -> usize
     put_four(out, next, (n / 0x1_0000_0000) as u32)
 }
 
-// A sort, and three zero bytes.
+// A sort, and three zero bytes. Four stores, which become one where the places are known (docs/SPEED.md).
 fn put_sort(out: &mut [u8], at: usize, sort: u8) -> usize
     requires { at + 4 ≤ length out.old }
     ensures { Puts out.old out.new at result (sort ∷ 0 ∷ 0 ∷ 0 ∷ []) }
@@ -90,11 +90,19 @@ fn put_sort(out: &mut [u8], at: usize, sort: u8) -> usize
     at + 4
 }
 
+// Sixteen bytes with this one first, an ID and 64 bits; they are a slot's where the first is a sort's.
+pub fn put_parts(out: &mut [u8], at: usize, sort: u8, id: u32, payload: u64) -> usize
+    requires { at + 16 ≤ length out.old }
+    ensures { Puts out.old out.new at result (slot_bytes (slot sort id payload)) }
+{
+    let after_sort = put_sort(out, at, sort);
+    let after_id = put_four(out, after_sort, id);
+    put_long(out, after_id, payload)
+}
+
 pub fn put_slot(out: &mut [u8], at: usize, t: Slot) -> usize
     requires { at + 16 ≤ length out.old }
-    ensures { Puts out.old out.new at result (slot_bytes t) }
+    ensures { Puts out.old out.new at result (slot_bytes (as_slot t)) }
 {
-    let after_sort = put_sort(out, at, t.sort);
-    let after_id = put_four(out, after_sort, t.id);
-    put_long(out, after_id, t.payload)
+    put_parts(out, at, t.sort as u8, t.id, t.payload)
 }

@@ -12,8 +12,7 @@ use mir.ValLaws.{to_z-of_z, of_z_fits}
 use Rattle.model.specs.Machine.{Value, int, cell, outside, Event, Literal', Op', IfC', Let', Create', Switch', Invoke', Call', Outside', PrintI64', Exit'}
 use Rattle.image_spec.specs.Parse.{Parsed, got, and_then, times, each, All}
 use Rattle.image_spec.proofs.ParseLaws.{Exact, both_exact, code_exact, number_exact, times_exact}
-use Rattle.step_slots.specs.declared.Slot.{Slot}
-use Rattle.step_slots.specs.Slots.{slot_bytes, SlotOk, slot_parser}
+use Rattle.step_slots.specs.Slots.{Slot, slot_bytes, SlotOk, slot_parser}
 use Rattle.step_spec.specs.Store.{bit, ValueFits}
 use Rattle.step_spec.specs.Events.{event_head, shown_slot, event_bytes, args_of, ShownFits, EventFits, shown_in, events_by_kind, EventHead, event_head_parser, event_parser}
 use Rattle.step_spec.proofs.Lists.{all_map, all_weaker, bit-back, bit-small}

@@ -9,8 +9,7 @@ use Rattle.model.specs.Syntax.{Prog}
 use Rattle.model.specs.Machine.{Value, int, cell, outside}
 use Rattle.image_spec.specs.Parse.{each, All}
 use Rattle.step_spec.specs.Located.{Kept, held, made}
-use Rattle.step_slots.specs.declared.Slot.{Slot}
-use Rattle.step_slots.specs.Slots.{value_slot}
+use Rattle.step_slots.specs.Slots.{Slot, value_slot}
 use Rattle.step_spec.specs.Store.{size_of, place_of, entry_slot, Block, block_of, blocks_of, block_slots, heap_of, held_in, ValueFits, EntryFits, KeptFits}
 use Rattle.step_spec.proofs.Lists.{each-++}
 

@@ -16,8 +16,7 @@ use Rattle.image_spec.specs.Parse.{Parsed, refused, got, each, All}
 use Rattle.image_spec.specs.Image.{if_got}
 use Rattle.image_spec.proofs.ParseLaws.{Sound, none_read, one-read, following, times_exact}
 use Rattle.step_spec.specs.Located.{held, made, Located}
-use Rattle.step_slots.specs.declared.Slot.{Slot}
-use Rattle.step_slots.specs.Slots.{slot, slot_bytes, SlotOk, is_cell_lem, value_slot}
+use Rattle.step_slots.specs.Slots.{Slot, slot, slot_bytes, SlotOk, is_cell_lem, value_slot}
 use Rattle.step_spec.specs.Store.{size_of, place_of, entry_slot, Block, block_of, blocks_of, block_slots, heap_of, environment_of, Raw, bit, raw_of, Header, header_of, header_bytes, raw_bytes, store_bytes, ValueFits, EntryFits, raw_from, raw_parser, leading, blocks, cells_in, first_slot, every_slot, statement_at, create_at, KeptFits, Fits, value_ok, entry_ok, field_ok, cell_ok, cells_ok, formed, value_in, field_in, entry_in, kept_in, state_in, if_formed, state_from}
 use Rattle.step_slots.proofs.SlotLaws.{slot_exact}
 use Rattle.step_spec.proofs.Slots.{HeaderOk, header_exact, RawOk}

@@ -8,8 +8,7 @@ use borrow.Author.Tests.{leb-true, ne_eqb}
 use lib.Dec.{eqb, ltb}
 use lib.ListN.{length}
 use Rattle.model.specs.Syntax.{Prog}
-use Rattle.step_slots.specs.declared.Slot.{Slot}
-use Rattle.step_slots.specs.Slots.{is_cell_lem}
+use Rattle.step_slots.specs.Slots.{Slot, is_cell_lem}
 use Rattle.step_spec.specs.Store.{Block, leading, blocks, every_slot, create_at, entry_ok, field_ok, cell_ok, cells_ok}
 use Rattle.step_spec.specs.Scan.{held_ok, head_ok, scan}
 

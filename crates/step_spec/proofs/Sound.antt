@@ -22,8 +22,7 @@ use Rattle.model.specs.Linear.{stopped_if_twice, linear_begun, linear_start_at, 
 use Rattle.image_spec.specs.Parse.{times, whole, All}
 use Rattle.image_spec.proofs.ParseLaws.{whole-right, times_exact}
 use Rattle.step_spec.specs.Located.{Machine, source_machine, linear_machine, Kept, held, made, Located, stmt_in, cell_in, state_of, project}
-use Rattle.step_slots.specs.declared.Slot.{Slot}
-use Rattle.step_slots.specs.Slots.{SlotOk, slot_parser}
+use Rattle.step_slots.specs.Slots.{Slot, SlotOk, slot_parser}
 use Rattle.step_spec.specs.Store.{ValueFits, EntryFits, KeptFits, Fits}
 use Rattle.step_spec.specs.Events.{given_by_lem, given_in, and_given, givens_in, givens}
 use Rattle.step_spec.proofs.Standing.{KeptStands, Placed, statement-here}

@@ -7,8 +7,7 @@ use Rattle.syntax.specs.declared.names.Name.{Name}
 use Rattle.model.specs.Machine.{Value, int, cell, outside, Event, Literal', Op', IfC', Let', Create', Switch', Invoke', Call', Outside', PrintI64', Exit', Given, integer, outside_number}
 use Rattle.image_spec.specs.Parse.{Parser, got, and_then, both, times, whole, each, All, code, number, field}
 use Rattle.image_spec.specs.Image.{if_some}
-use Rattle.step_slots.specs.declared.Slot.{Slot}
-use Rattle.step_slots.specs.Slots.{slot_bytes, slot_parser, value_slot}
+use Rattle.step_slots.specs.Slots.{Slot, slot_bytes, slot_parser, value_slot}
 use Rattle.step_spec.specs.Store.{bit}
 
 -- document 02, A.2: an event takes 16 bytes, and 16 for each argument value shown:

@@ -1,8 +1,7 @@
 -- Question 14's test of the slots of cells in one pass, as code makes it. (proofs/Scans.antt: it is the test of specs/Store.antt.)
 use Rattle.std.specs.Prelude.{ℕ, suc, ◌^◌, Bool, true, false, ◌&&◌, cond, List, [], ◌∷◌, eqb, ltb}
 use Rattle.model.specs.Syntax.{Prog}
-use Rattle.step_slots.specs.declared.Slot.{Slot}
-use Rattle.step_slots.specs.Slots.{is_cell_lem}
+use Rattle.step_slots.specs.Slots.{Slot, is_cell_lem}
 use Rattle.step_spec.specs.Store.{create_at, entry_ok, field_ok}
 
 module _ (P : Prog) (heap : List Slot) where

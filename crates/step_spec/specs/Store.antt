@@ -10,8 +10,7 @@ use Rattle.image_spec.specs.Parse.{got, and_then, Parser, both, times, each, All
 use Rattle.image_spec.specs.Image.{if_got}
 use Rattle.image_spec.specs.Records.{Record, definition, substitute, call, let', switch, create, invoke, literal, op, ifc, clause', print, exit}
 use Rattle.step_spec.specs.Located.{Kept, held, made, Located, records_in}
-use Rattle.step_slots.specs.declared.Slot.{Slot}
-use Rattle.step_slots.specs.Slots.{slot, slot_bytes, slot_parser, is_cell_lem, value_slot}
+use Rattle.step_slots.specs.Slots.{Slot, slot, slot_bytes, slot_parser, is_cell_lem, value_slot}
 
 -- ── the bytes of a state ──
 

@@ -10,8 +10,7 @@ use Rattle.syntax.specs.declared.names.VarId.{VarId}
 use Rattle.image_spec.specs.Parse.{each}
 use Rattle.image_write_parts.proofs.Putting.{sets_reserved}
 use Rattle.image_write_bytes.proofs.Covering.{hidden}
-use Rattle.step_slots.specs.declared.Slot.{Slot}
-use Rattle.step_slots.specs.Slots.{slot_bytes}
+use Rattle.step_slots.specs.Slots.{Slot, slot_bytes}
 use Rattle.step_slots.specs.Views.{slots_at, all_slots}
 use Rattle.step_slots.proofs.SlotBytes.{slots_length, slots-count, slots-taken}
 use Rattle.step_gather.specs.Gathering.{renamed}

@@ -16,8 +16,9 @@ use Rattle.model.specs.Linear.{stopped_if_twice, linear_begun, linear_start_at, 
 use Rattle.image_spec.specs.Parse.{each, All}
 use Rattle.image_spec.specs.Shape.{DefOk}
 use Rattle.image_places_spec.proofs.PlaceLaws.{stmt_is}
-use Rattle.step_slots.specs.declared.Slot.{Slot}
-use Rattle.step_slots.specs.Slots.{slot_bytes, value_slot}
+use Rattle.step_slots.specs.Slots.{Slot, slot_bytes, value_slot}
+use Rattle.step_spec.specs.declared.MachineKind.{MachineKind}
+use Rattle.step_spec.specs.declared.MachineKind.TheVariants.{Source, Linear}
 use Rattle.step_spec.specs.Located.{source_machine, linear_machine, Located, project, is_stop, definition_place, start_of, located_start}
 use Rattle.step_spec.specs.Store.{place_of, heap_of, environment_of, header_of, header_bytes, raw_of, store_bytes}
 use Rattle.step_spec.proofs.Standing.{definition-stands}
@@ -29,6 +30,7 @@ use Rattle.step_header.specs.Headers.{tuple_of}
 use Rattle.step_gather.specs.Gathering.{renamed}
 use Rattle.step_gather.proofs.GatheringLaws.{Paired, paired}
 use Rattle.step_values.proofs.ValueLaws.{given_slot}
+use Rattle.step_rule.specs.Rules.{machine_for}
 use Rattle.step_settle.specs.Settling.{flagged}
 use Rattle.step_start.specs.Starting.{first_header_lem, start_stops}
 
@@ -103,13 +105,13 @@ module _ (P : Prog) (shallow : All DefOk P.defs) (n : ℕ) (d : Def) (found : nt
   first-keys = paired-keys xs (map value vs) ε entries.pairs
 
   -- either machine's start
-  pub machine-begins : (linear : Bool)
-      → located_start (cond linear linear_machine source_machine) P n vs
-      ≡ some (flagged (start_stops linear xs (is_stop ((cond linear linear_machine source_machine).step P (project P (first P n ε))))) (first P n ε))
-  machine-begins true =
+  pub machine-begins : (kind : MachineKind)
+      → located_start (machine_for kind) P n vs
+      ≡ some (flagged (start_stops kind xs (is_stop ((machine_for kind).step P (project P (first P n ε))))) (first P n ε))
+  machine-begins Linear =
       linear-begins
       ∙ ap (λ (ys : List VarId). some (flagged (cond (distinct ys) (is_stop (linear_step_lem P (project P (first P n ε)))) true) (first P n ε))) first-keys
-  machine-begins false = source-begins
+  machine-begins Source = source-begins
 
   -- it takes 64 bytes, and 16 for each value
   pub first-size : (b : Bool) → length (store_bytes (flagged b (first P n ε))) ≡ 64 + 16 * length d.context

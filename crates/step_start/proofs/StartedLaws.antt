@@ -17,8 +17,7 @@ use Rattle.image_spec.specs.Records.{Record}
 use Rattle.image_write_bytes.proofs.Covering.{hidden}
 use Rattle.image_read_parts.specs.Parts.{list_of}
 use Rattle.image_read_nodes.specs.Nodes.{record_at}
-use Rattle.step_slots.specs.declared.Slot.{Slot}
-use Rattle.step_slots.specs.Slots.{slot_bytes}
+use Rattle.step_slots.specs.Slots.{Slot, slot_bytes}
 use Rattle.step_slots.specs.Views.{slots_at}
 use Rattle.step_slots.proofs.SlotBytes.{slots-count}
 use Rattle.step_spec.specs.Located.{Machine, source_machine, Located, project, is_stop}
@@ -30,8 +29,8 @@ use Rattle.step_spec.proofs.Making.{written}
 use Rattle.step_spec.proofs.Stepping.{Readable}
 use Rattle.step_header.specs.declared.Header.{Header}
 use Rattle.step_header.specs.Headers.{tuple_of}
-use Rattle.step_rows.specs.declared.Row.{Row}
-use Rattle.step_rows.specs.Rows.{ids_in, RowOf}
+use Rattle.step_rows.specs.declared.row.Row.{Row}
+use Rattle.step_rows.specs.Rows.{ids_of}
 use Rattle.step_rows.proofs.RowLaws.{ids-length}
 use Rattle.step_gather.specs.Gathering.{renamed}
 use Rattle.step_gather.proofs.Renaming.{renamed-length}
@@ -46,68 +45,68 @@ use Rattle.step_answer_spec.specs.Saying.{result_of}
 use Rattle.step_start.specs.Starting.{first_header_lem, start_stops, Flags, DefinedAt}
 use Rattle.step_start.proofs.StartLaws.{first, ε, first-slots, first-bytes, machine-begins, first-size, first-sound}
 
-module _ {P : Prog} {stepper : Stepper} {bytes : List ℕ} {n i : ℕ} (d : DefinedAt P stepper bytes n i) {row : Row} (r : RowOf bytes row (ids (list_of (record_at stepper.image.frame bytes i)))) where
+module _ {P : Prog} {stepper : Stepper} {bytes : List ℕ} {n i : ℕ} (d : DefinedAt P stepper bytes n i) (row : Row) (r : ids_of row ≡ ids (list_of (record_at stepper.image.frame bytes i))) where
   -- the row is that of the parameters
-  row_is : ids_in bytes row ≡ ids d.def.context
-  row_is = r.ids ∙ ap (λ (t : Record). ids (list_of t)) d.head
+  row_is : ids_of row ≡ ids d.def.context
+  row_is = r ∙ ap (λ (t : Record). ids (list_of t)) d.head
 
-  row_count : row.len ≡ length d.def.context
-  row_count = sym (ids-length bytes row) ∙ (ap length row_is ∙ length-map d.def.context id_of)
+  row_count : row.places.len ≡ length d.def.context
+  row_count = sym (ids-length row.bytes.now row.places) ∙ (ap length row_is ∙ length-map d.def.context id_of)
 
   -- 14: the values are not as many, or one of them is none that a start may give
-  pub not_given : (M : Machine) (values : List ℕ) {store : List ℕ} → are_given_lem row.len values ≡ false → result_of (Err NoState) store [] ≡ start_with M P n (givens (length d.def.context) values) store
+  pub not_given : (M : Machine) (values : List ℕ) {store : List ℕ} → are_given_lem row.places.len values ≡ false → result_of (Err NoState) store [] ≡ start_with M P n (givens (length d.def.context) values) store
   not_given M values {store} e =
-      sym (ap (λ (o : Option (List Given)). start_with M P n o store) (ap (λ (k : ℕ). givens k values) (sym row_count) ∙ not_given_all row.len values e))
+      sym (ap (λ (o : Option (List Given)). start_with M P n o store) (ap (λ (k : ℕ). givens k values) (sym row_count) ∙ not_given_all row.places.len values e))
 
-  module _ (o : Readable P) (values : List ℕ) (g : are_given_lem row.len values ≡ true) where
+  module _ (o : Readable P) (values : List ℕ) (g : are_given_lem row.places.len values ≡ true) where
     -- the values that are given
     abbrev pub vs : List Given
-    vs = (are-given row.len values g).0.given
+    vs = (are-given row.places.len values g).0.given
 
-    vs-slots : map given_slot vs ≡ slots_at values 0 row.len
-    vs-slots = (are-given row.len values g).0.back
+    vs-slots : map given_slot vs ≡ slots_at values 0 row.places.len
+    vs-slots = (are-given row.places.len values g).0.back
 
     vs-read : givens (length d.def.context) values ≡ some vs
-    vs-read = ap (λ (k : ℕ). givens k values) (sym row_count) ∙ ((are-given row.len values g).1 ∙ (are-given row.len values g).0.is)
+    vs-read = ap (λ (k : ℕ). givens k values) (sym row_count) ∙ ((are-given row.places.len values g).1 ∙ (are-given row.places.len values g).0.is)
 
     pub vs-count : length d.def.context ≡ length vs
-    vs-count = sym row_count ∙ (sym (slots-count values 0 row.len) ∙ (ap length (sym vs-slots) ∙ length-map vs given_slot))
+    vs-count = sym row_count ∙ (sym (slots-count values 0 row.places.len) ∙ (ap length (sym vs-slots) ∙ length-map vs given_slot))
 
     -- the state before the first step
     abbrev pub begun : Located
     begun = first P n (ε P o.shallow n d.def d.found vs vs-count)
 
     abbrev stops : Bool
-    stops = start_stops stepper.linear (ids_in bytes row) (is_stop ((machine_in stepper).step P (project P begun)))
+    stops = start_stops stepper.machine (ids_of row) (is_stop ((machine_in stepper).step P (project P begun)))
 
-    begun-size : (b : Bool) → length (store_bytes (flagged b begun)) ≡ 64 + 16 * row.len
+    begun-size : (b : Bool) → length (store_bytes (flagged b begun)) ≡ 64 + 16 * row.places.len
     begun-size b = first-size P o.shallow n d.def d.found vs vs-count b ∙ omega (arith, row_count)
 
     starts : (store : List ℕ) → start_with (machine_in stepper) P n (givens (length d.def.context) values) store ≡ starts_with (some (flagged stops begun)) store
     starts store =
         ap (λ (x : Option (List Given)). start_with (machine_in stepper) P n x store) vs-read
-        ∙ (ap (λ (x : Option Located). starts_with x store) (machine-begins P o.shallow n d.def d.found vs vs-count stepper.linear)
-        ∙ ap (λ (xs : List VarId). starts_with (some (flagged (start_stops stepper.linear xs (is_stop ((machine_in stepper).step P (project P begun)))) begun)) store) (sym row_is))
+        ∙ (ap (λ (x : Option Located). starts_with x store) (machine-begins P o.shallow n d.def d.found vs vs-count stepper.machine)
+        ∙ ap (λ (xs : List VarId). starts_with (some (flagged (start_stops stepper.machine xs (is_stop ((machine_in stepper).step P (project P begun)))) begun)) store) (sym row_is))
 
     -- 15
-    pub no_room : {store : List ℕ} → length store < 64 + 16 * row.len → result_of (Err (NoRoom (record { steps = 0; length = 0 }))) store [] ≡ start_with (machine_in stepper) P n (givens (length d.def.context) values) store
+    pub no_room : {store : List ℕ} → length store < 64 + 16 * row.places.len → result_of (Err (NoRoom (record { steps = 0; length = 0 }))) store [] ≡ start_with (machine_in stepper) P n (givens (length d.def.context) values) store
     no_room {store} k =
         let W = store_bytes (flagged stops begun) in
         let long : length store < length W = omega (arith, k, begun-size stops) in
         sym (starts store ∙ ap (λ (b : Bool). cond b (unchanged 0 (sets store 0 W) []) (unchanged 15 store [])) (lt-leb (length W) (length store) long))
 
-    module _ (store : List ℕ) (room : 64 + 16 * row.len ≤ length store) (short : length store < 2 ^ 64) {h : Header} (heads : h ≡ first_header_lem (i + 1) row.len) {store₁ : List ℕ}
-        (wrote : store₁ ≡ sets store 0 (header_bytes (tuple_of h) ++ each slot_bytes (renamed (ids_in bytes row) (slots_at values 0 row.len)))) where
+    module _ (store : List ℕ) (room : 64 + 16 * row.places.len ≤ length store) (short : length store < 2 ^ 64) {h : Header} (heads : h ≡ first_header_lem (i + 1) row.places.len) {store₁ : List ℕ}
+        (wrote : store₁ ≡ sets store 0 (header_bytes (tuple_of h) ++ each slot_bytes (renamed (ids_of row) (slots_at values 0 row.places.len)))) where
       -- its bytes were written
-      begun-bytes : (header_bytes (tuple_of h) ++ each slot_bytes (renamed (ids_in bytes row) (slots_at values 0 row.len)) ≡ store_bytes begun) × (tuple_of h ≡ header_of (raw_of begun))
+      begun-bytes : (header_bytes (tuple_of h) ++ each slot_bytes (renamed (ids_of row) (slots_at values 0 row.places.len)) ≡ store_bytes begun) × (tuple_of h ≡ header_of (raw_of begun))
       begun-bytes =
           let xs = ids d.def.context in
           let c : length xs ≡ length (map given_slot vs) = length-map d.def.context id_of ∙ (vs-count ∙ sym (length-map vs given_slot)) in
-          let k : row.len ≡ length (environment_of [] begun.environment) =
+          let k : row.places.len ≡ length (environment_of [] begun.environment) =
           row_count ∙ (sym (length-map d.def.context id_of) ∙ sym (ap length (first-slots P o.shallow n d.def d.found vs vs-count) ∙ renamed-length xs (map given_slot vs) c)) in
-          let b = first-bytes P o.shallow n d.def d.found vs vs-count (i + 1) row.len d.place k in (
-            ap (λ (x : Header). header_bytes (tuple_of x) ++ each slot_bytes (renamed (ids_in bytes row) (slots_at values 0 row.len))) heads
-                ∙ (ap₂ {C = List ℕ} (λ (ys : List VarId) (ts : List Slot). header_bytes (tuple_of (first_header_lem (i + 1) row.len)) ++ each slot_bytes (renamed ys ts)) row_is (sym vs-slots)
+          let b = first-bytes P o.shallow n d.def d.found vs vs-count (i + 1) row.places.len d.place k in (
+            ap (λ (x : Header). header_bytes (tuple_of x) ++ each slot_bytes (renamed (ids_of row) (slots_at values 0 row.places.len))) heads
+                ∙ (ap₂ {C = List ℕ} (λ (ys : List VarId) (ts : List Slot). header_bytes (tuple_of (first_header_lem (i + 1) row.places.len)) ++ each slot_bytes (renamed ys ts)) row_is (sym vs-slots)
                 ∙ sym b.0),
             ap tuple_of heads ∙ b.1,
           )

@@ -10,14 +10,16 @@ use Rattle.model.specs.Machine.{nth}
 use Rattle.image_spec.specs.Records.{definition}
 use Rattle.image_read_nodes.specs.Nodes.{record_at, At}
 use Rattle.image_open.specs.declared.opened.Opened.{Opened}
+use Rattle.step_spec.specs.declared.MachineKind.{MachineKind}
+use Rattle.step_spec.specs.declared.MachineKind.TheVariants.{Source, Linear}
 use Rattle.step_spec.specs.Located.{Located, project, is_stop, definition_place}
 use Rattle.step_spec.specs.Store.{store_bytes}
 use Rattle.step_spec.specs.Events.{givens}
 use Rattle.step_spec.specs.Calls.{start_with, start_at}
 use Rattle.step_spec.proofs.Stepping.{Readable}
 use Rattle.step_header.specs.declared.Header.{Header}
-use Rattle.step_rows.specs.declared.Row.{Row}
-use Rattle.step_rows.specs.Rows.{ids_in}
+use Rattle.step_rows.specs.declared.row.Row.{Row}
+use Rattle.step_rows.specs.Rows.{ids_of}
 use Rattle.step_places.specs.declared.stepper.Stepper.{Stepper}
 use Rattle.step_rule.specs.Rules.{ImageOf, ProgramOf, machine_for, machine_in, Reads}
 use Rattle.step_settle.specs.Settling.{flagged}
@@ -30,13 +32,14 @@ abbrev pub first_header_lem : (position entries : ℕ) → Header
 first_header_lem p k = record { position = p; ended = false; stopped = false; cells = 0; heap = 0; entries = k }
 
 -- document 01: a start whose parameters repeat an ID has stopped with no step made. Otherwise the flag says whether the machine stops there
-abbrev pub start_stops : (linear : Bool) → List VarId → (stops : Bool) → Bool
-start_stops linear xs b = cond linear (cond (distinct xs) b true) b
+abbrev pub start_stops : MachineKind → List VarId → (stops : Bool) → Bool
+start_stops Source xs b = b
+start_stops Linear xs b = cond (distinct xs) b true
 
 -- the flag of a start whose parameters are the row's, whatever program and state they are
 pub record Flags (stepper : Stepper) (bytes : List ℕ) (row : Row) (store : List ℕ) (h : Header) (store' : List ℕ) : Type 0 where
   pub flags : (P : Prog) (l : Located) → ProgramOf P stepper bytes → Reads P store h l → l.has_stopped ≡ false
-      → store' ≡ sets store 0 (store_bytes (flagged (start_stops stepper.linear (ids_in bytes row) (is_stop ((machine_in stepper).step P (project P l)))) l))
+      → store' ≡ sets store 0 (store_bytes (flagged (start_stops stepper.machine (ids_of row) (is_stop ((machine_in stepper).step P (project P l)))) l))
 
 -- the definition at place n of the program has its record at index i
 pub record DefinedAt (P : Prog) (stepper : Stepper) (bytes : List ℕ) (n i : ℕ) : Type 0 where
@@ -59,5 +62,5 @@ pub record StartsIn (stepper : Stepper) (bytes : List ℕ) (i : ℕ) (values sto
       → result_of r store' [] ≡ start_with (machine_in stepper) P n (givens (length d.def.context) values) store
 
 -- a start at place n among the definitions, whatever program the image is that of
-pub record StartsOn (linear : Bool) (o : Opened) (n : ℕ) (values store store' : List ℕ) (r : Result Shown Failure) : Type 0 where
-  pub starts : (P : Prog) → ImageOf P o.image.frame o.definitions o.image.bytes.now → Readable P → result_of r store' [] ≡ start_at (machine_for linear) P n (nth n P.defs) values store
+pub record StartsOn (machine : MachineKind) (o : Opened) (n : ℕ) (values store store' : List ℕ) (r : Result Shown Failure) : Type 0 where
+  pub starts : (P : Prog) → ImageOf P o.image.frame o.definitions o.image.bytes.now → Readable P → result_of r store' [] ≡ start_at (machine_for machine) P n (nth n P.defs) values store

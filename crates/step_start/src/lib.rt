@@ -10,11 +10,11 @@ ghost use Rattle.step_slots.specs.Views.{slots_at, all_slots};
 ghost use Rattle.step_spec.specs.Store.{header_bytes};
 ghost use Rattle.step_spec.specs.Calls.{start_call};
 ghost use Rattle.step_header.specs.Headers.{tuple_of, Holds};
-ghost use Rattle.step_rows.specs.Rows.{Inside, ids_in};
 ghost use Rattle.step_gather.specs.Gathering.{renamed};
 ghost use Rattle.step_ask.specs.Asking.{stepper_of};
 ghost use Rattle.step_answer_spec.specs.Saying.{result_of, Accepted};
 ghost use Rattle.step_start.specs.Starting.{first_header_lem, Flags, HasDefinition, StartsIn, StartsOn};
+ghost use Rattle.step_rows.specs.Rows.{ids_of};
 
 use image_kinds::kinds::Kind;
 use image_open::opened::Opened;
@@ -27,31 +27,33 @@ use step_header::{Header, put_header};
 use step_places::ends::fill_ends;
 use step_places::search::find_definition;
 use step_places::stepper::Stepper;
+use step_rows::distinct;
 use step_rows::records::list_row;
-use step_rows::{Row, distinct};
+use step_rows::row::Row;
 use step_settle::{settle, stop};
+use step_spec::MachineKind;
 use step_values::are_given;
 
 // The header, and the values under the row's IDs.
-fn begin(image: &[u8], row: Row, values: &[u8], store: &mut [u8], header: Header)
-    requires { Inside image.now row × ((length values.now ≡ 16 * row.len) × ((64 + 16 * row.len ≤ length store.old) × (all_slots (slots_at values.now 0 row.len) ≡ true))) }
-    ensures { store.new ≡ sets store.old 0 (header_bytes (tuple_of header) ++ each slot_bytes (renamed (ids_in image.now row) (slots_at values.now 0 row.len))) }
+fn begin(row: &Row<'_>, values: &[u8], store: &mut [u8], header: Header)
+    requires { (length values.now ≡ 16 * row.now.places.len) × ((64 + 16 * row.now.places.len ≤ length store.old) × (all_slots (slots_at values.now 0 row.now.places.len) ≡ true)) }
+    ensures { store.new ≡ sets store.old 0 (header_bytes (tuple_of header) ++ each slot_bytes (renamed (ids_of row.now) (slots_at values.now 0 row.now.places.len))) }
 {
-    let len = row.len;
+    let len = row.places.len;
     copy(values, 0, 16 * len, store, 64);
-    rename(image, row, store, 64);
+    rename(row, store, 64);
     put_header(store, header);
 }
 
 // The stopped flag of a start whose parameters are the row's: set where they repeat an ID, or where the machine stops at the first statement.
-fn flag(stepper: &Stepper<'_>, row: Row, store: &mut [u8], header: Header)
-    requires { Inside stepper.now.image.bytes.now row × ((header.position < stepper.now.image.frame.count) × Holds store.old header) }
-    ensures { Flags stepper.now stepper.now.image.bytes.now row store.old header store.new }
+fn flag(stepper: &Stepper<'_>, row: &Row<'_>, store: &mut [u8], header: Header)
+    requires { (header.position < stepper.now.image.frame.count) × Holds store.old header }
+    ensures { Flags stepper.now stepper.now.image.bytes.now row.now store.old header store.new }
 {
-    if !stepper.linear {
+    if stepper.machine == MachineKind::Source {
         return;
     }
-    if distinct(stepper.image.bytes, row) {
+    if distinct(row) {
         settle(stepper, store, header, false);
     } else {
         stop(store, header);
@@ -82,7 +84,7 @@ fn start_in(
     ensures { StartsIn stepper.now stepper.now.image.bytes.now i values.now store.old store.new result }
 {
     let row = list_row(&stepper.image, i, Kind::Definition);
-    let len = row.len;
+    let len = row.places.len;
     let none = Shown {
         steps: 0,
         length: 0,
@@ -94,21 +96,21 @@ fn start_in(
         return Err(Failure::NoRoom(none));
     }
     let header = first_header((i + 1) as u32, len as u64);
-    begin(stepper.image.bytes, row, values, store, header);
-    flag(stepper, row, store, header);
+    begin(&row, values, store, header);
+    flag(stepper, &row, store, header);
     Ok(none)
 }
 
 // A start on an image whose questions were answered with yes.
 fn start_on(
     opened: &Opened<'_>,
-    linear: bool,
+    machine: MachineKind,
     definition: usize,
     values: &[u8],
     store: &mut [u8],
 ) -> Result<Shown, Failure>
     requires { Accepted opened.now.image.frame opened.now.definitions opened.now.image.bytes.now }
-    ensures { StartsOn linear opened.now definition values.now store.old store.new result }
+    ensures { StartsOn machine opened.now definition values.now store.old store.new result }
 {
     let mut ends = [0u32; 4000];
     fill_ends(&opened.image, &mut ends);
@@ -116,7 +118,7 @@ fn start_on(
         image: opened.image,
         ends: &ends,
         definitions: opened.definitions,
-        linear,
+        machine,
     };
     let i = find_definition(&stepper, definition).ok_or(Failure::NoState)?;
     start_in(&stepper, i, values, store)
@@ -126,14 +128,14 @@ fn start_on(
 pub fn start(
     image: &[u8],
     layout: Layout,
-    linear: bool,
+    machine: MachineKind,
     definition: usize,
     values: &[u8],
     store: &mut [u8],
 ) -> Result<Shown, Failure>
     requires { Known layout }
-    ensures { result_of result store.new [] ≡ start_call (stepper_of linear layout) image.now definition values.now store.old }
+    ensures { result_of result store.new [] ≡ start_call (stepper_of machine layout) image.now definition values.now store.old }
 {
-    let opened = ask(image, layout, linear)?;
-    start_on(&opened, linear, definition, values, store)
+    let opened = ask(image, layout, machine)?;
+    start_on(&opened, machine, definition, values, store)
 }

@@ -8,13 +8,12 @@ use Rattle.syntax.specs.declared.names.Name.{Name}
 use Rattle.syntax.specs.declared.names.VarId.{VarId}
 use Rattle.model.specs.Syntax.{Def, Prog}
 use Rattle.model.specs.Machine.{Value, Entries, Cells, at, Outcome, shows, Call', find_def}
-use Rattle.step_slots.specs.declared.Slot.{Slot}
-use Rattle.step_slots.specs.Slots.{value_slot}
+use Rattle.step_slots.specs.Slots.{Slot, value_slot}
 use Rattle.step_spec.specs.Located.{Machine, Located, cell_in, project, next_place_lem, located_step}
 use Rattle.step_spec.specs.Store.{place_of, environment_of}
 use Rattle.step_spec.specs.Events.{event_head, event_bytes}
 use Rattle.step_header.specs.declared.Header.{Header}
-use Rattle.step_rows.specs.Rows.{ids_in}
+use Rattle.step_rows.specs.Rows.{ids_of}
 use Rattle.step_gather.specs.Gathering.{renamed}
 use Rattle.step_write.specs.declared.Step.{Step}
 use Rattle.step_write.specs.declared.Stop.{Stop}
@@ -50,15 +49,15 @@ module _ {M : Machine} {P : Prog} {store : List ℕ} {h : Header} {l : Located} 
 
   module _ {f : Parameters} (e : r ≡ Some f) where
     -- .. or it has another number of parameters
-    pub uneven_makes : (f.row.len ≡ n → ⊥) → Makes store events at' (resting (located_step M P l)) store events (Err NoStep)
+    pub uneven_makes : (f.row.places.len ≡ n → ⊥) → Makes store events at' (resting (located_step M P l)) store events (Err NoStep)
     uneven_makes u = nothing_makes o (s.works ∙ uneven_halts (label-found p same d.finds) d.reads vs s.enter e (λ q. u (q ∙ sym s.count)))
 
-    pub call-makes : {ts : List Slot} {store' events' : List ℕ} {m : Result Step Stop} → f.row.len ≡ n → Laid l vs ts
-        → Enters store events h at' f.body (event_head 3 0 k 0 0) 0 0 (renamed (ids_in bytes f.row) ts) store' events' m
+    pub call-makes : {ts : List Slot} {store' events' : List ℕ} {m : Result Step Stop} → f.row.places.len ≡ n → Laid l vs ts
+        → Enters store events h at' f.body (event_head 3 0 k 0 0) 0 0 (renamed (ids_of f.row) ts) store' events' m
         → Makes store events at' (resting (located_step M P l)) store' events' m
     unfolding event_bytes next_place_lem environment_of
     call-makes u v w =
         let g = enters_with (label-found p same d.finds) d.reads vs s.enter e (place_of l.cells) (u ∙ s.count) in
         let t : M.step P (project P l) ≡ shows (Call' label) (at g.what.body (g.new ++ []) (cells P l)) =
         s.shown g.what g.new (s.works ∙ g.is) ∙ ap (λ (ε : Entries). shows (Call' label) (at g.what.body ε (cells P l))) (sym (append-nil g.new)) in
-        enters-makes o (Call' label) g.what.body g.new (alone o) t g.next (ap (λ (i : ℕ). event_head 3 0 i 0 0) same) (g.slots ∙ sym (v.slots (ids_in bytes f.row))) w
+        enters-makes o (Call' label) g.what.body g.new (alone o) t g.next (ap (λ (i : ℕ). event_head 3 0 i 0 0) same) (g.slots ∙ sym (v.slots (ids_of f.row))) w

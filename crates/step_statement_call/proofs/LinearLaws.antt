@@ -9,7 +9,7 @@ use Rattle.syntax.specs.declared.names.Identifier.{Identifier}
 use Rattle.model.specs.Syntax.{Call, Def, Prog}
 use Rattle.model.specs.Machine.{Value, Entries, values, Outcome, Call'}
 use Rattle.model.specs.Linear.{shows_unless_twice, linear_work}
-use Rattle.step_slots.specs.declared.Slot.{Slot}
+use Rattle.step_slots.specs.Slots.{Slot}
 use Rattle.step_spec.specs.Located.{linear_machine, Located, stmt_in, is_stop}
 use Rattle.step_spec.specs.Store.{place_of, entry_slot, environment_of}
 use Rattle.step_header.specs.declared.Header.{Header}

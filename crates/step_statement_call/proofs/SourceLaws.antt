@@ -1,6 +1,6 @@
 -- Call: the source machine's. Assumes nothing.
 use Prim.Native.Nat.{ℕ, ◌+◌, ◌*◌, ◌≤◌}
-use mathlib.Core.Path.{◌≡◌, sym, ap, ◌∙◌}
+use mathlib.Core.Path.{◌≡◌, sym, ap, ◌∙◌, subst}
 use mathlib.Core.Bool.{Bool, true, false}
 use mathlib.Core.List.{List, map}
 use mathlib.Core.Option.{Option}
@@ -15,8 +15,7 @@ use Rattle.model.specs.Syntax.{Call, Def, Prog}
 use Rattle.model.specs.Lists.{lookups}
 use Rattle.model.specs.Machine.{Value, Entries, at, Outcome, shows, or_halt, Call', find_def}
 use Rattle.model.specs.Source.{source_work, source_step_lem}
-use Rattle.step_slots.specs.declared.Slot.{Slot}
-use Rattle.step_slots.specs.Slots.{value_slot}
+use Rattle.step_slots.specs.Slots.{Slot, value_slot}
 use Rattle.step_slots.specs.Views.{slots_at}
 use Rattle.step_slots.proofs.SlotBytes.{slots-count}
 use Rattle.step_spec.specs.Located.{source_machine, Located, stmt_in, project, located_step}
@@ -33,6 +32,11 @@ use Rattle.step_rule.proofs.Machines.{source-works}
 use Rattle.step_enter.proofs.ParameterLaws.{with_values}
 use Rattle.step_enter.proofs.Around.{nothing_makes}
 use Rattle.step_statement_call.proofs.CallLaws.{cells, Calls, Laid}
+
+-- what was gathered of the slots in one store, in the same store
+pub gathers_in : {s t : List ℕ} (from n : ℕ) {xs : List VarId} {scratch scratch' : List ℕ} {r : Bool} → s ≡ t → Gathers (slots_at s from n) xs scratch 0 scratch' r
+    → Gathers (slots_at t from n) xs scratch 0 scratch' r
+gathers_in from n {xs} {scratch} {scratch'} {r} e g = subst (λ (s : List ℕ). Gathers (slots_at s from n) xs scratch 0 scratch' r) e g
 
 -- the values of all args, and their slots
 pub record AllFound (P : Prog) (l : Located) (label : Name) (ts : List Slot) (n : ℕ) : Type 0 where

@@ -1,28 +1,27 @@
 // call.rs: the definition with this label, and the values under the names of its parameters. Nothing else is in its environment.
-ghost use Rattle.std.specs.Prelude.{◌≡◌, true, ◌*◌, ◌≤◌, length};
+ghost use Rattle.std.specs.Prelude.{◌≡◌, true, ◌≤◌, ◌*◌, length};
 ghost use Rattle.image_read_nodes.specs.Nodes.{first_of};
 ghost use Rattle.step_slots.specs.Views.{slots_at, all_slots};
 ghost use Rattle.step_spec.specs.Located.{source_machine, linear_machine};
 ghost use Rattle.step_spec.specs.Events.{event_head};
-ghost use Rattle.step_header.specs.Headers.{Holds};
-ghost use Rattle.step_rows.specs.Rows.{ids_in, Inside};
 ghost use Rattle.step_gather.specs.Gathering.{renamed};
 ghost use Rattle.step_rule.specs.Rules.{Given, MakesAs};
 ghost use Rattle.step_enter.specs.Entering.{Enters};
 ghost use Rattle.step_statement_call.specs.Calling.{DefinitionOf};
 ghost use Rattle.image_read_nodes.specs.Opened.{record_of, IsAt};
+ghost use Rattle.step_write.specs.Working.{Fit, Keeps};
+ghost use Rattle.step_rows.specs.Rows.{ids_of};
 
 use image_directory::image::Image;
 use image_kinds::kinds::Kind;
 use image_read_nodes::first;
 use step_enter::{Parameters, enter, fetch, parameters_of};
 use step_gather::gather;
-use step_header::Header;
 use step_places::search::find_label;
 use step_places::stepper::Stepper;
-use step_rows::Row;
 use step_rows::records::list_row;
-use step_write::{EventHead, Step, Stop};
+use step_rows::row::Row;
+use step_write::{EventHead, Step, Stop, Work, store_of};
 
 // The label of the Call at this place.
 fn label_of(image: &Image<'_>, position: u32) -> u32
@@ -34,27 +33,23 @@ fn label_of(image: &Image<'_>, position: u32) -> u32
 }
 
 // The first definition with this label.
-fn definition_of(stepper: &Stepper<'_>, label: u32) -> Option<Parameters>
+fn definition_of<'a>(stepper: &Stepper<'a>, label: u32) -> Option<Parameters<'a>>
     ensures { DefinitionOf stepper.now stepper.now.image.bytes.now label result }
 {
-    let found = find_label(stepper, label);
-    parameters_of(&stepper.image, found, Kind::Definition)
+    let j = find_label(stepper, label)?;
+    Some(parameters_of(&stepper.image, j, Kind::Definition))
 }
 
 // A step to the body, with the values at the beginning of scratch as the only entries. The label is shown.
 fn jump(
-    image: &[u8],
-    row: Row,
-    store: &mut [u8],
-    events: &mut [u8],
+    row: &Row<'_>,
+    work: &mut Work<'_, '_>,
     scratch: &mut [u8],
-    header: Header,
-    at: usize,
     label: u32,
     body: u32,
 ) -> Result<Step, Stop>
-    requires { Inside image.now row × (Holds store.old header × ((at ≤ length events.old) × ((16 * row.len ≤ length scratch.old) × (all_slots (slots_at scratch.old 0 row.len) ≡ true)))) }
-    ensures { Enters store.old events.old header at body (event_head 3 0 label 0 0) 0 0 (renamed (ids_in image.now row) (slots_at scratch.old 0 row.len)) store.new events.new result }
+    requires { Fit work.old × ((16 * row.now.places.len ≤ length scratch.old) × (all_slots (slots_at scratch.old 0 row.now.places.len) ≡ true)) }
+    ensures { Enters work.old.store.now work.old.events.now work.old.header work.old.at body (event_head 3 0 label 0 0) 0 0 (renamed (ids_of row.now) (slots_at scratch.old 0 row.now.places.len)) work.new.store.now work.new.events.now result × Keeps work.old work.new }
 {
     let event = EventHead {
         kind: Kind::Call,
@@ -63,78 +58,48 @@ fn jump(
         count: 0,
         payload: 0,
     };
-    enter(
-        image, row, store, events, scratch, header, at, event, body, 0, 0,
-    )
+    enter(row, work, scratch, event, body, 0, 0)
 }
 
 // The source machine's: the values are those of the args.
 pub fn source(
     stepper: &Stepper<'_>,
-    store: &mut [u8],
-    events: &mut [u8],
+    work: &mut Work<'_, '_>,
     scratch: &mut [u8],
-    header: Header,
-    at: usize,
 ) -> Result<Step, Stop>
-    requires { Given stepper.now stepper.now.image.bytes.now store.old events.old scratch.old header at 3 }
-    ensures { MakesAs source_machine stepper.now stepper.now.image.bytes.now store.old events.old header at store.new events.new result }
+    requires { Given stepper.now work.old 3 × (2080 ≤ length scratch.old) }
+    ensures { MakesAs source_machine stepper.now work.old work.new result × Keeps work.old work.new }
 {
-    let args = list_row(&stepper.image, header.position as usize, Kind::Call);
-    let from = 64 + 16 * header.heap as usize;
-    let entries = header.entries as usize;
-    if !gather(stepper.image.bytes, args, store, from, entries, scratch, 0) {
+    let args = list_row(&stepper.image, work.header.position as usize, Kind::Call);
+    let from = 64 + 16 * work.header.heap as usize;
+    let entries = work.header.entries as usize;
+    if !gather(&args, store_of(work), from, entries, scratch, 0) {
         return Err(Stop::NoStep);
     }
-    let label = label_of(&stepper.image, header.position);
+    let label = label_of(&stepper.image, work.header.position);
     let called = definition_of(stepper, label).ok_or(Stop::NoStep)?;
-    let row = called.row;
-    if row.len != args.len {
+    if called.row.places.len != args.places.len {
         return Err(Stop::NoStep);
     }
-    jump(
-        stepper.image.bytes,
-        row,
-        store,
-        events,
-        scratch,
-        header,
-        at,
-        label,
-        called.body,
-    )
+    jump(&called.row, work, scratch, label, called.body)
 }
 
 // The linear machine's: the values are those of all entries. The args aren't read.
 pub fn linear(
     stepper: &Stepper<'_>,
-    store: &mut [u8],
-    events: &mut [u8],
+    work: &mut Work<'_, '_>,
     scratch: &mut [u8],
-    header: Header,
-    at: usize,
 ) -> Result<Step, Stop>
-    requires { Given stepper.now stepper.now.image.bytes.now store.old events.old scratch.old header at 3 }
-    ensures { MakesAs linear_machine stepper.now stepper.now.image.bytes.now store.old events.old header at store.new events.new result }
+    requires { Given stepper.now work.old 3 × (2080 ≤ length scratch.old) }
+    ensures { MakesAs linear_machine stepper.now work.old work.new result × Keeps work.old work.new }
 {
-    let from = 64 + 16 * header.heap as usize;
-    let entries = header.entries as usize;
-    let label = label_of(&stepper.image, header.position);
+    let from = 64 + 16 * work.header.heap as usize;
+    let entries = work.header.entries as usize;
+    let label = label_of(&stepper.image, work.header.position);
     let called = definition_of(stepper, label).ok_or(Stop::NoStep)?;
-    let row = called.row;
-    if row.len != entries {
+    if called.row.places.len != entries {
         return Err(Stop::NoStep);
     }
-    fetch(store, from, entries, scratch);
-    jump(
-        stepper.image.bytes,
-        row,
-        store,
-        events,
-        scratch,
-        header,
-        at,
-        label,
-        called.body,
-    )
+    fetch(store_of(work), from, entries, scratch);
+    jump(&called.row, work, scratch, label, called.body)
 }

@@ -20,8 +20,7 @@ use Rattle.image_directory.specs.Slots as image
 use Rattle.image_directory.specs.declared.Frame.{Frame}
 use Rattle.image_read_nodes.specs.declared.Follows.{Follows}
 use Rattle.image_read_nodes.specs.Nodes.{record_at, first_of, At, Followed}
-use Rattle.step_slots.specs.declared.Slot.{Slot}
-use Rattle.step_slots.specs.Slots.{slot}
+use Rattle.step_slots.specs.Slots.{Slot, slot}
 use Rattle.step_spec.specs.Located.{Machine, made, Located, records_in, stmt_in, cell_in, project, bodies_place, next_place_lem}
 use Rattle.step_spec.specs.Store.{environment_of, EntryFits}
 use Rattle.step_spec.specs.Events.{event_bytes, event_head}

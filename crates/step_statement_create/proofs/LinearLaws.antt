@@ -24,8 +24,7 @@ use Rattle.image_directory.specs.Slots as image
 use Rattle.image_directory.specs.Slots.{Ready}
 use Rattle.image_read_nodes.specs.Nodes.{record_at, first_of, At}
 use Rattle.image_read_nodes.proofs.NodeLaws.{record_ok}
-use Rattle.step_slots.specs.declared.Slot.{Slot}
-use Rattle.step_slots.specs.Slots.{slot_bytes}
+use Rattle.step_slots.specs.Slots.{Slot, slot_bytes}
 use Rattle.step_spec.specs.Located.{linear_machine, made, Located, stmt_in, cell_in, project, located_step}
 use Rattle.step_spec.specs.Store.{EntryFits}
 use Rattle.step_spec.specs.Events.{event_head}
@@ -33,7 +32,7 @@ use Rattle.step_spec.proofs.Lists.{each-++, all_drop}
 use Rattle.step_header.specs.declared.Header.{Header}
 use Rattle.step_header.specs.Headers.{entries_in}
 use Rattle.step_places.specs.Ends.{Ends}
-use Rattle.step_rows.specs.declared.Row.{Row}
+use Rattle.step_rows.specs.declared.row.Row.{Row}
 use Rattle.step_rows.specs.RecordRows.{environment_of, EnvironmentRow}
 use Rattle.step_rows.proofs.RowLaws.{row-length}
 use Rattle.step_rows.proofs.RecordRowLaws.{environment_none, environment_some}
@@ -88,17 +87,17 @@ few-held w Γ (clause' x Δ) k ok e = absurd (omega arith)
 few-held w Γ (print n v) k ok e = absurd (omega arith)
 few-held w Γ (exit v) k ok e = absurd (omega arith)
 
-module _ (g : Frame) {s : List ℕ} {i position : ℕ} {r : Maybe Row} (at' : i ≡ position) (q : EnvironmentRow s r (environment_of (record_at g s i))) where
+module _ (g : Frame) (s : List ℕ) {i position : ℕ} {r : Maybe Row} (at' : i ≡ position) (q : EnvironmentRow r (environment_of (record_at g s i))) where
   -- the code found none
   pub none_there : r ≡ None → environment_of (record_at g s position) ≡ none
   none_there e = ap (λ (j : ℕ). environment_of (record_at g s j)) (sym at') ∙ environment_none q e
 
   -- .. or a row of it
-  pub some_there : {row : Row} → Ready g s → At g s position 6 → r ≡ Some row → Encloses g s position row.len
+  pub some_there : {row : Row} → Ready g s → At g s position 6 → r ≡ Some row → Encloses g s position row.places.len
   some_there {row} ready a e =
       let t = environment_some q e in
       let f : environment_of (record_at g s position) ≡ some t.context = ap (λ (j : ℕ). environment_of (record_at g s j)) (sym at') ∙ t.is in
-      let n : length t.context ≡ row.len = sym (length-map t.context id_of) ∙ row-length t.holds in
+      let n : length t.context ≡ row.places.len = sym (length-map t.context id_of) ∙ row-length row t.holds in
       record { context = t.context; is = f; count = n; few = omega (arith, n, few-held g.id t.context (record_at g s position) a.kind (record_ok g s position 6 ready a) f) }
 
 module _ {P : Prog} {frame : Frame} {definitions : ℕ} {bytes store : List ℕ} {h : Header} {l : Located} (p : ImageOf P frame definitions bytes) (o : Stored linear_machine P store h l)

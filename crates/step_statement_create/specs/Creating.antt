@@ -3,8 +3,7 @@ use Rattle.std.specs.Prelude.{ℕ, ◌+◌, ◌-◌, ◌*◌, ◌≡◌, false, 
 use Rattle.image_spec.specs.Kinds.{clauses_of}
 use Rattle.image_directory.specs.declared.Frame.{Frame}
 use Rattle.image_read_nodes.specs.Nodes.{record_at, first_of}
-use Rattle.step_slots.specs.declared.Slot.{Slot}
-use Rattle.step_slots.specs.Slots.{slot, slot_bytes}
+use Rattle.step_slots.specs.Slots.{Slot, slot, slot_bytes}
 use Rattle.step_spec.specs.Events.{event_head}
 use Rattle.step_header.specs.declared.Header.{Header}
 use Rattle.step_places.specs.Ends.{Hopped}

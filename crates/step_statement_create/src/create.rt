@@ -1,13 +1,13 @@
 // create.rs: the clauses with an environment in a new cell, and the cell under var.
 ghost use Rattle.std.specs.Prelude.{◌≡◌, ◌++◌, ◌+◌, ◌*◌, ◌≤◌, ◌<◌, ◌^◌, length, take, drop};
-ghost use Rattle.step_slots.specs.Slots.{slot_bytes};
+ghost use Rattle.step_slots.specs.Slots.{slot_bytes, as_slot};
 ghost use Rattle.step_spec.specs.Events.{event_head};
 ghost use Rattle.step_spec.specs.Located.{source_machine, linear_machine};
-ghost use Rattle.step_header.specs.Headers.{Holds};
 ghost use Rattle.step_write.specs.Writing.{head_bytes};
 ghost use Rattle.step_rule.specs.Rules.{Given, MakesAs};
 ghost use Rattle.step_statement_create.specs.Creating.{PartsOf, closed, cell_slot_lem, var_slot_lem, Closes};
 ghost use Rattle.image_read_nodes.specs.Opened.{IsAt};
+ghost use Rattle.step_write.specs.Working.{Fit, Keeps};
 
 use image_kinds::kinds::Kind;
 use image_read_nodes::{first, parts_of};
@@ -16,8 +16,9 @@ use step_header::Header;
 use step_places::ends::hop;
 use step_places::stepper::Stepper;
 use step_rows::records::environment_row;
+use step_slots::sort::Sort;
 use step_slots::{Slot, put_slot};
-use step_write::{EventHead, Step, Stop, finish_before, finish_holding};
+use step_write::{EventHead, Step, Stop, Work, finish_before, finish_holding, store_of};
 
 // What is read of a Create: the ID of its var, and the place of its body.
 #[derive(Clone, Copy)]
@@ -71,10 +72,10 @@ fn event(header: Header) -> EventHead
 
 // The new cell's own slot.
 fn cell_slot(header: Header) -> Slot
-    ensures { result ≡ cell_slot_lem header }
+    ensures { as_slot result ≡ cell_slot_lem header }
 {
     Slot {
-        sort: 4,
+        sort: Sort::CreateCell,
         id: header.position,
         payload: header.cells,
     }
@@ -82,39 +83,39 @@ fn cell_slot(header: Header) -> Slot
 
 // The new cell under var.
 fn var_slot(header: Header, id: u32) -> Slot
-    ensures { result ≡ var_slot_lem header id }
+    ensures { as_slot result ≡ var_slot_lem header id }
 {
     Slot {
-        sort: 1,
+        sort: Sort::Cell,
         id,
         payload: header.heap,
     }
 }
 
 // The source machine's: the cell holds the whole environment, which stays behind var.
-pub fn source(
-    stepper: &Stepper<'_>,
-    store: &mut [u8],
-    events: &mut [u8],
-    header: Header,
-    at: usize,
-) -> Result<Step, Stop>
-    requires { IsAt stepper.now.image header.position 6 × (Holds store.old header × (at ≤ length events.old)) }
-    ensures { MakesAs source_machine stepper.now stepper.now.image.bytes.now store.old events.old header at store.new events.new result }
+pub fn source(stepper: &Stepper<'_>, work: &mut Work<'_, '_>) -> Result<Step, Stop>
+    requires { IsAt stepper.now.image work.old.header.position 6 × Fit work.old }
+    ensures { MakesAs source_machine stepper.now work.old work.new result × Keeps work.old work.new }
 {
-    let from = 64 + 16 * header.heap as usize;
-    let n = header.entries as usize;
-    let create = read_parts(stepper, header.position);
-    let next = after(header, create.next, header.entries, header.entries);
-    let cell = cell_slot(header);
-    let var = var_slot(header, create.id);
-    finish_holding(store, events, at, event(header), next, from, n, cell, var)
+    let from = 64 + 16 * work.header.heap as usize;
+    let n = work.header.entries as usize;
+    let create = read_parts(stepper, work.header.position);
+    let next = after(
+        work.header,
+        create.next,
+        work.header.entries,
+        work.header.entries,
+    );
+    let cell = cell_slot(work.header);
+    let var = var_slot(work.header, create.id);
+    let shown = event(work.header);
+    finish_holding(work, shown, next, from, n, cell, var)
 }
 
 // A cell that holds the k entries from byte `from` of the store, at the beginning of `scratch`.
 fn pack(store: &[u8], from: usize, k: usize, cell: Slot, scratch: &mut [u8])
     requires { (from + 16 * k ≤ length store.now) × (16 * (k + 1) ≤ length scratch.old) }
-    ensures { take (16 * (k + 1)) scratch.new ≡ slot_bytes cell ++ take (16 * k) (drop from store.now) }
+    ensures { take (16 * (k + 1)) scratch.new ≡ slot_bytes (as_slot cell) ++ take (16 * k) (drop from store.now) }
 {
     let next = put_slot(scratch, 0, cell);
     copy(store, from, 16 * k, scratch, next);
@@ -122,54 +123,38 @@ fn pack(store: &[u8], from: usize, k: usize, cell: Slot, scratch: &mut [u8])
 
 // The last k entries become the cell's, and the others stay before var.
 fn close_over(
-    store: &mut [u8],
-    events: &mut [u8],
+    work: &mut Work<'_, '_>,
     scratch: &mut [u8],
-    header: Header,
-    at: usize,
     create: Parts,
     k: usize,
 ) -> Result<Step, Stop>
-    requires { Holds store.old header × ((at ≤ length events.old) × ((16 * (k + 1) ≤ length scratch.old) × (k ≤ header.entries))) }
-    ensures { Closes store.old events.old header at create k store.new events.new result }
+    requires { Fit work.old × ((16 * (k + 1) ≤ length scratch.old) × (k ≤ work.old.header.entries)) }
+    ensures { Closes work.old.store.now work.old.events.now work.old.header work.old.at create k work.new.store.now work.new.events.now result × Keeps work.old work.new }
 {
-    let kept = header.entries as usize - k;
-    let from = 64 + 16 * header.heap as usize;
+    let kept = work.header.entries as usize - k;
+    let from = 64 + 16 * work.header.heap as usize;
     let last = from + 16 * kept;
-    let next = after(header, create.next, k as u64, kept as u64);
-    let cell = cell_slot(header);
-    let var = var_slot(header, create.id);
-    pack(store, last, k, cell, scratch);
-    finish_before(
-        store,
-        events,
-        at,
-        event(header),
-        next,
-        from,
-        kept,
-        var,
-        scratch,
-        k + 1,
-    )
+    let next = after(work.header, create.next, k as u64, kept as u64);
+    let cell = cell_slot(work.header);
+    let var = var_slot(work.header, create.id);
+    let shown = event(work.header);
+    pack(store_of(work), last, k, cell, scratch);
+    finish_before(work, scratch, shown, next, from, kept, var, k + 1)
 }
 
 // The linear machine's. With no environment, or a longer one than the list, it would have stopped.
 pub fn linear(
     stepper: &Stepper<'_>,
-    store: &mut [u8],
-    events: &mut [u8],
+    work: &mut Work<'_, '_>,
     scratch: &mut [u8],
-    header: Header,
-    at: usize,
 ) -> Result<Step, Stop>
-    requires { Given stepper.now stepper.now.image.bytes.now store.old events.old scratch.old header at 6 }
-    ensures { MakesAs linear_machine stepper.now stepper.now.image.bytes.now store.old events.old header at store.new events.new result }
+    requires { Given stepper.now work.old 6 × (2080 ≤ length scratch.old) }
+    ensures { MakesAs linear_machine stepper.now work.old work.new result × Keeps work.old work.new }
 {
-    let row = environment_row(&stepper.image, header.position as usize).ok_or(Stop::NoStep)?;
-    if (header.entries as usize) < row.len {
+    let row = environment_row(&stepper.image, work.header.position as usize).ok_or(Stop::NoStep)?;
+    if (work.header.entries as usize) < row.places.len {
         return Err(Stop::NoStep);
     }
-    let create = read_parts(stepper, header.position);
-    close_over(store, events, scratch, header, at, create, row.len)
+    let create = read_parts(stepper, work.header.position);
+    close_over(work, scratch, create, row.places.len)
 }

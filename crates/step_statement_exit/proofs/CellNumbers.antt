@@ -5,7 +5,7 @@ use mathlib.Core.List.{List, [], ◌∷◌, ◌++◌}
 use native.Mathlib.Omega.{arith}
 use lib.ListN.{length, get_or, get_or-eq_default}
 use lib.Seq.{get_or-append-add}
-use Rattle.step_slots.specs.declared.Slot.{Slot}
+use Rattle.step_slots.specs.Slots.{Slot}
 use Rattle.step_slots.specs.Views.{no_slot, slot_at, slots_at}
 use Rattle.step_slots.proofs.SlotBytes.{slots-count}
 use Rattle.step_spec.specs.Located.{Kept, held, made}

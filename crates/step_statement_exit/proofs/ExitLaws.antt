@@ -1,8 +1,8 @@
 -- Exit: the step of either machine. Assumes nothing.
 use Rattle.std.specs.Prelude.{Result, Err}
-use Prim.Native.Nat.{ℕ, ◌<◌}
+use Prim.Native.Nat.{ℕ, ◌≤◌, ◌<◌}
 use mathlib.Core.Path.{◌≡◌, refl, sym, ap, ap₂, ◌∙◌}
-use mathlib.Core.Bool.{Bool, true, false, cond}
+use mathlib.Core.Bool.{Bool, true, cond}
 use mathlib.Core.List.{List, map}
 use mathlib.Core.Option.{none, some}
 use native.Mathlib.Omega.{arith}
@@ -18,7 +18,9 @@ use Rattle.model.specs.Linear.{linear_work}
 use Rattle.image_spec.specs.Records.{exit}
 use Rattle.image_directory.specs.declared.Frame.{Frame}
 use Rattle.image_read_nodes.specs.Nodes.{record_at}
-use Rattle.step_slots.specs.declared.Slot.{Slot}
+use Rattle.step_slots.specs.Slots.{Slot}
+use Rattle.step_spec.specs.declared.MachineKind.{MachineKind}
+use Rattle.step_spec.specs.declared.MachineKind.TheVariants.{Source, Linear}
 use Rattle.step_spec.specs.Located.{Machine, Located, stmt_in, cell_in, project, next_place_lem, located_step}
 use Rattle.step_spec.specs.Store.{place_of}
 use Rattle.step_spec.specs.Events.{event_head, shown_slot, event_bytes}
@@ -29,12 +31,12 @@ use Rattle.step_entries.specs.Named.{named}
 use Rattle.step_write.specs.declared.Step.{Step}
 use Rattle.step_write.specs.declared.Stop.{Stop}
 use Rattle.step_write.specs.declared.Stop.TheVariants.{NoStep}
-use Rattle.step_rule.specs.Rules.{ImageOf, Stored, resting, Makes}
+use Rattle.step_rule.specs.Rules.{machine_for, ImageOf, Stored, resting, Makes}
 use Rattle.step_rule.proofs.Views.{viewed}
 use Rattle.step_rule.proofs.Finds.{Sees, sees_none, sees-int, sees-cell, sees-outside, sees}
 use Rattle.step_rule.proofs.Statements.{Is, is_exit, here}
 use Rattle.step_rule.proofs.Machines.{source-works, linear-works}
-use Rattle.step_lookup.proofs.LookupLaws.{machine, Asks, goes_with, nothing-made}
+use Rattle.step_lookup.proofs.LookupLaws.{Asks, goes_with, nothing-made}
 use Rattle.step_stay.specs.Staying.{Stays}
 use Rattle.step_stay.proofs.StayingLaws.{stays-ended}
 use Rattle.step_statement_exit.specs.Shown.{number_at, shown_in}
@@ -58,9 +60,9 @@ module _ {M : Machine} {P : Prog} {store : List ℕ} {h : Header} {l : Located} 
     sort : t.sort ≡ (shown_slot value).sort
     payload : shown_in (heap_in store h) t ≡ (shown_slot value).payload
 
-  valued : (x : VarId) {t : Slot} → Sees (place_of l.cells) x l.environment t → (t.sort ≡ 5 → ⊥) → Valued x t
+  valued : (x : VarId) {t : Slot} → Sees (place_of l.cells) x l.environment t → t.sort ≤ 4 → Valued x t
   unfolding shown_in
-  valued x (sees_none e) s = absurd (s refl)
+  valued x (sees_none e) s = absurd (omega arith)
   valued x (sees-int z e f) s = record { value = int z; there = sym e; sort = refl; payload = refl }
   valued x (sees-cell k e) s =
       let f : k < length l.cells = lookup-fits (length l.cells) x l.environment (cell k) (viewed o).fits.environment e in
@@ -81,28 +83,28 @@ module _ (P : Prog) (l : Located) (v : Identifier) (e : stmt_in P l.position ≡
   ends x = shows (Exit' x) (ended (Exit v) l.environment (map (cell_in P) l.cells))
 
   -- what the machine does
-  works : (b : Bool) {store : List ℕ} {h : Header} → Stored (machine b) P store h l → (machine b).step P (project P l) ≡ or_halt (lookup v.id l.environment) ends
+  works : (b : MachineKind) {store : List ℕ} {h : Header} → Stored (machine_for b) P store h l → (machine_for b).step P (project P l) ≡ or_halt (lookup v.id l.environment) ends
   unfolding source_work linear_work
-  works true o = linear-works o (Exit v) e
-  works false o = source-works o (Exit v) e
+  works Linear o = linear-works o (Exit v) e
+  works Source o = source-works o (Exit v) e
 
-  goes : (b : Bool) {store : List ℕ} {h : Header} → Stored (machine b) P store h l → Asks (lookup v.id l.environment) ends ((machine b).step P (project P l))
+  goes : (b : MachineKind) {store : List ℕ} {h : Header} → Stored (machine_for b) P store h l → Asks (lookup v.id l.environment) ends ((machine_for b).step P (project P l))
   goes b o = record { is = works b o }
 
 -- the statement that has the record
 exit-there : {v : Identifier} {t : Stmt} → Is t (exit v) → t ≡ Exit v
 exit-there is_exit = refl
 
-module _ (b : Bool) {P : Prog} {frame : Frame} {definitions : ℕ} {bytes store : List ℕ} {h : Header} {l : Located} {v : Identifier} {t : Slot}
-    (p : ImageOf P frame definitions bytes) (o : Stored (machine b) P store h l) (e : record_at frame bytes h.position ≡ exit v) (q : t ≡ named v.id.0 (entries_in store h))
+module _ (b : MachineKind) {P : Prog} {frame : Frame} {definitions : ℕ} {bytes store : List ℕ} {h : Header} {l : Located} {v : Identifier} {t : Slot}
+    (p : ImageOf P frame definitions bytes) (o : Stored (machine_for b) P store h l) (e : record_at frame bytes h.position ≡ exit v) (q : t ≡ named v.id.0 (entries_in store h))
     (events : List ℕ) (at' : ℕ) where
-  pub exit-halts : t.sort ≡ 5 → Makes store events at' (resting (located_step (machine b) P l)) store events (Err NoStep)
+  pub exit-halts : t.sort ≡ 5 → Makes store events at' (resting (located_step (machine_for b) P l)) store events (Err NoStep)
   exit-halts s = nothing-made o events at' (goes P l v (exit-there (here p o (exit v) e)) b o) (absent o v.id (sees o v.id q) s)
 
-  pub exit-makes : {payload : ℕ} {store' events' : List ℕ} {m : Result Step Stop} → (t.sort ≡ 5 → ⊥) → payload ≡ shown_in (heap_in store h) t
-      → Stays store events h at' h.position true (event_head 13 t.sort 0 0 payload) store' events' m → Makes store events at' (resting (located_step (machine b) P l)) store' events' m
+  pub exit-makes : {detail payload : ℕ} {store' events' : List ℕ} {m : Result Step Stop} → t.sort ≤ 4 → detail ≡ t.sort → payload ≡ shown_in (heap_in store h) t
+      → Stays store events h at' h.position true (event_head 13 detail 0 0 payload) store' events' m → Makes store events at' (resting (located_step (machine_for b) P l)) store' events' m
   unfolding event_bytes next_place_lem
-  exit-makes s k w =
+  exit-makes s d k w =
       let r = valued o v.id (sees o v.id q) s in
-      stays-ended o (Exit' r.value) (ap₂ {C = List ℕ} (λ (i j : ℕ). event_head 13 i 0 0 j) r.sort (k ∙ r.payload)) (Exit v)
+      stays-ended o (Exit' r.value) (ap₂ {C = List ℕ} (λ (i j : ℕ). event_head 13 i 0 0 j) (d ∙ r.sort) (k ∙ r.payload)) (Exit v)
       (goes_with (goes P l v (exit-there (here p o (exit v) e)) b o) r.value r.there) (viewed o).position w

@@ -1,6 +1,6 @@
 -- What an Exit shows of the value in a slot.
 use Rattle.std.specs.Prelude.{ℕ, cond, List, eqb, get_or}
-use Rattle.step_slots.specs.declared.Slot.{Slot}
+use Rattle.step_slots.specs.Slots.{Slot}
 use Rattle.step_slots.specs.Views.{no_slot}
 
 -- the number that the slot at a place among those of the cells has

@@ -4,7 +4,7 @@ use Rattle.std.proofs.Math.Option.{Option, none, some}
 use Rattle.syntax.specs.declared.names.Identifier.{Identifier}
 use Rattle.syntax.specs.declared.ifc.IfSort.{IfSort}
 use Rattle.model.specs.Integers.{holds}
-use Rattle.step_slots.specs.declared.Slot.{Slot}
+use Rattle.step_slots.specs.Slots.{Slot}
 use Rattle.step_entries.specs.Named.{named}
 use Rattle.step_lookup.specs.Integer.{integer_in, of_both}
 

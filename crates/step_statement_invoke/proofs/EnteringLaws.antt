@@ -1,25 +1,25 @@
 -- What is written where a clause is entered, and where the run ends, as the code has it. Assumes nothing.
 use Prim.Native.Nat.{ℕ, ◌+◌, ◌*◌, ◌≤◌}
-use mathlib.Core.Path.{◌≡◌, sym, ap, ◌∙◌, subst}
+use mathlib.Core.Path.{◌≡◌, sym, ap, ap₂, ◌∙◌, subst}
 use mathlib.Core.List.{List, [], ◌++◌, map}
+use native.Mathlib.Omega.{arith}
 use lib.ListN.{length, take, drop}
 use lib.Seq.{sets}
 use Rattle.std.specs.Prelude.{Option as Maybe, Some, None, Result, Err}
 use Rattle.syntax.specs.declared.names.VarId.{VarId}
 use Rattle.image_spec.specs.Parse.{each}
 use Rattle.image_directory.specs.declared.Frame.{Frame}
-use Rattle.step_slots.specs.declared.Slot.{Slot}
-use Rattle.step_slots.specs.Slots.{slot_bytes}
-use Rattle.step_slots.specs.Views.{slots_at}
+use Rattle.step_slots.specs.Slots.{Slot, slot_bytes}
+use Rattle.step_slots.specs.Views.{no_slot, slots_at}
 use Rattle.step_slots.proofs.SlotBytes.{slots_length, slots-count}
 use Rattle.step_spec.specs.Events.{event_head}
 use Rattle.step_header.specs.declared.Header.{Header}
 use Rattle.step_header.specs.Headers.{heap_in}
 use Rattle.step_gather.specs.Gathering.{renamed, shown_as}
 use Rattle.step_gather.proofs.Renaming.{renamed-length}
-use Rattle.step_rows.specs.Rows.{ids_in}
-use Rattle.step_cells.specs.declared.Cell.{Cell}
-use Rattle.step_cells.specs.Cells.{cell_in'}
+use Rattle.step_rows.specs.Rows.{ids_of}
+use Rattle.step_cells.specs.Cells.{Cell, no_cell_lem, cell_in'}
+use Rattle.step_cells.proofs.HeldLaws.{no-reference}
 use Rattle.step_write.specs.declared.Step.{Step}
 use Rattle.step_write.specs.declared.Stop.{Stop}
 use Rattle.step_write.specs.declared.Stop.TheVariants.{NoStep}
@@ -27,7 +27,7 @@ use Rattle.step_write.specs.Writing.{Finishes}
 use Rattle.step_write.proofs.Regions.{taken-put}
 use Rattle.step_enter.specs.declared.Parameters.{Parameters}
 use Rattle.step_enter.specs.Entering.{entered}
-use Rattle.step_statement_invoke.specs.Invoking.{EntranceOf, EntersClause, over, Invokes, of-outside, of-nothing, of-closure}
+use Rattle.step_statement_invoke.specs.Invoking.{EntranceOf, no-closure, EntersClause, over, Invokes, of-outside, of-nothing, of-closure}
 
 -- the slots of `scratch` under other IDs are taken from it
 taken-renamed : (scratch scratch' : List ℕ) (k : ℕ) (xs : List VarId) → length xs ≡ k → 16 * k ≤ length scratch → scratch' ≡ sets scratch 0 (each slot_bytes (renamed xs (slots_at scratch 0 k)))
@@ -66,6 +66,21 @@ entrance_as : {frame : Frame} {bytes : List ℕ} {cell cell' : Cell} {tag j k : 
     → EntranceOf frame bytes cell' tag k r'
 entrance_as {frame} {bytes} {tag = tag} c n e w = subst (λ (z : Cell × (ℕ × Maybe Parameters)). EntranceOf frame bytes z.0 tag z.1.0 z.1.1) (λ i. (c i, (n i, e i))) w
 
+-- the cell that is found in a state is that of the store
+pub referred_in : {o : Cell} (t : Slot) {s s' : List ℕ} {h h' : Header} → s ≡ s' → h ≡ h' → o ≡ cell_in' (heap_in s h) t → o ≡ cell_in' (heap_in s' h') t
+referred_in t p q e = e ∙ ap (λ (H : List Slot). cell_in' H t) (ap₂ {C = List Slot} heap_in p q)
+
+-- the value refers to no cell
+pub no-cell_as : {frame : Frame} {bytes store events : List ℕ} {h : Header} {at : ℕ} {value : Slot} {values : List Slot} {tag : ℕ} → no_cell_lem ≡ cell_in' (heap_in store h) value
+    → (value.sort ≡ 2 → ⊥) → Invokes frame bytes store events h at value values tag store events (Err NoStep)
+no-cell_as {store = store} {h = h} {value} e s =
+    let five : 5 ≡ (cell_in' (heap_in store h) value).sort = ap (λ (r : Cell). r.sort) e in
+    of-nothing s (no-closure (λ q. omega (arith, five, q)))
+
+-- there is no value
+pub no-value : {frame : Frame} {bytes store events : List ℕ} {h : Header} {at : ℕ} {values : List Slot} {tag : ℕ} → Invokes frame bytes store events h at no_slot values tag store events (Err NoStep)
+no-value {store = store} {h = h} = no-cell_as (no-reference (heap_in store h) no_slot (λ e. omega (arith, e))) (λ e. omega (arith, e))
+
 -- the clause of this cell was asked for with as many parameters as there are values
 module _ {frame : Frame} {bytes store events : List ℕ} {h : Header} {at : ℕ} {value : Slot} {values : List Slot} {tag k : ℕ} {cell : Cell} {r : Maybe Parameters}
     (w : EntranceOf frame bytes cell tag k r) (c : cell ≡ cell_in' (heap_in store h) value) (n : length values ≡ k) where
@@ -73,7 +88,7 @@ module _ {frame : Frame} {bytes store events : List ℕ} {h : Header} {at : ℕ}
   nothing_as e s = of-nothing s (entrance_as c (sym n) e w)
 
   pub closure_as : {p : Parameters} {slots : List Slot} {store' events' : List ℕ} {m : Result Step Stop} → r ≡ Some p → slots ≡ values
-      → EntersClause store events h at cell p.body (ids_in bytes p.row) slots tag store' events' m → Invokes frame bytes store events h at value values tag store' events' m
+      → EntersClause store events h at cell p.body (ids_of p.row) slots tag store' events' m → Invokes frame bytes store events h at value values tag store' events' m
   closure_as {p} {slots} {store'} {events'} {m} e q x =
       of-closure (entrance_as c (sym n) e w)
-      (subst (λ (z : Cell × List Slot). EntersClause store events h at z.0 p.body (ids_in bytes p.row) z.1 tag store' events' m) (λ i. (c i, q i)) x)
+      (subst (λ (z : Cell × List Slot). EntersClause store events h at z.0 p.body (ids_of p.row) z.1 tag store' events' m) (λ i. (c i, q i)) x)

@@ -7,12 +7,12 @@ use native.Mathlib.Omega.{arith}
 use lib.ListN.{length}
 use Rattle.std.specs.Prelude.{Option as Maybe, Some}
 use Rattle.image_directory.specs.declared.Frame.{Frame}
-use Rattle.step_slots.specs.declared.Slot.{Slot}
+use Rattle.step_slots.specs.Slots.{Slot}
 use Rattle.step_slots.specs.Views.{slots_at, all_slots}
-use Rattle.step_header.specs.declared.Header.{Header}
-use Rattle.step_header.specs.Headers.{heap_in, Holds}
-use Rattle.step_cells.specs.declared.Cell.{Cell}
-use Rattle.step_cells.specs.Cells.{cell_in'}
+use Rattle.step_header.specs.Headers.{heap_in}
+use Rattle.step_write.specs.declared.Work.{Work}
+use Rattle.step_write.specs.Working.{Fit}
+use Rattle.step_cells.specs.Cells.{Cell, cell_in'}
 use Rattle.step_cells.proofs.HeapLaws.{cell_holds}
 use Rattle.step_enter.specs.declared.Parameters.{Parameters}
 use Rattle.step_enter.specs.Entering.{ClauseOf}
@@ -23,7 +23,7 @@ use Rattle.step_statement_invoke.specs.Invoking.{EntranceOf, no-closure, no_reco
 pub record Entered (frame : Frame) (bytes : List ℕ) (cell : Cell) (tag k : ℕ) (p : Parameters) : Type 0 where
   pub sort : cell.sort ≡ 4
   pub clause : ClauseOf frame bytes cell.id tag (Some p)
-  pub count : p.row.len ≡ k
+  pub count : p.row.places.len ≡ k
 
 module _ {frame : Frame} {bytes : List ℕ} {cell : Cell} {tag k : ℕ} {p : Parameters} where
   pub entered_by : {r : Maybe Parameters} → EntranceOf frame bytes cell tag k r → r ≡ Some p → Entered frame bytes cell tag k p
@@ -36,20 +36,18 @@ module _ {frame : Frame} {bytes : List ℕ} {cell : Cell} {tag k : ℕ} {p : Par
       subst (Entered frame bytes cell tag k) same record { sort = s; clause = f; count = c }
 
   module _ (w : Entered frame bytes cell tag k p) where
-    entered-fits : Fitting bytes p.row
+    entered-fits : Fitting p.row
     entered-fits = fitting refl w.clause.reads
 
     pub entered-few : k ≤ 128
     entered-few = omega (arith, w.count, entered-fits.short)
 
     -- it can be entered
-    pub can_enter : {store events scratch : List ℕ} {h : Header} {at : ℕ} (value : Slot) → Holds store h → cell ≡ cell_in' (heap_in store h) value → at ≤ length events → 2080 ≤ length scratch
-        → all_slots (slots_at scratch 0 k) ≡ true → Enterable bytes store events scratch h at cell p.row
-    can_enter {store} {scratch = scratch} {h} value o e n r s = record {
-      inside = entered-fits.inside;
-      holds = o;
-      place = n;
+    pub can_enter : {work : Work} {scratch : List ℕ} (value : Slot) → Fit work → cell ≡ cell_in' (heap_in work.store.now work.header) value → 2080 ≤ length scratch
+        → all_slots (slots_at scratch 0 k) ≡ true → Enterable work scratch cell p.row
+    can_enter {work} {scratch} value f e r s = record {
+      fit = f;
       room = omega (arith, r, entered-few, w.count);
       slots = ap (λ (m : ℕ). all_slots (slots_at scratch 0 m)) w.count ∙ s;
-      closure = (cell_holds store h o value e).inside;
+      closure = (cell_holds work.store.now work.header f.holds value e).inside;
     }

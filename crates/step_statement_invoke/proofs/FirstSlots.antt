@@ -6,7 +6,7 @@ use mathlib.Core.List.{List, [], ◌∷◌}
 use native.Mathlib.Omega.{arith}
 use lib.ListN.{take}
 use Rattle.image_spec.proofs.DirectoryLaws.{and_left, and_right}
-use Rattle.step_slots.specs.declared.Slot.{Slot}
+use Rattle.step_slots.specs.Slots.{Slot}
 use Rattle.step_slots.specs.Views.{slot_at, slots_at, is_slot, all_slots}
 
 pub slots-take : (s : List ℕ) (at n k : ℕ) → k ≤ n → slots_at s at k ≡ take k (slots_at s at n)

@@ -24,8 +24,7 @@ use Rattle.image_directory.specs.declared.Frame.{Frame}
 use Rattle.image_directory.specs.Slots as image
 use Rattle.image_directory.specs.Slots.{Ready}
 use Rattle.image_read_nodes.specs.Nodes.{record_at, At}
-use Rattle.step_slots.specs.declared.Slot.{Slot}
-use Rattle.step_slots.specs.Slots.{slot_bytes, value_slot}
+use Rattle.step_slots.specs.Slots.{Slot, slot_bytes, value_slot}
 use Rattle.step_slots.proofs.SlotBytes.{slots-taken, slots-count}
 use Rattle.step_spec.specs.Located.{Machine, Located, stmt_in, project, closure_place, clause_place, next_place_lem, is_stop, located_step}
 use Rattle.step_spec.specs.Store.{place_of, entry_slot, environment_of}
@@ -34,12 +33,11 @@ use Rattle.step_spec.proofs.Lists.{each-++}
 use Rattle.step_header.specs.declared.Header.{Header}
 use Rattle.step_header.specs.Headers.{heap_in, entries_in}
 use Rattle.step_places.specs.Searches.{Finds}
-use Rattle.step_rows.specs.Rows.{ids_in}
+use Rattle.step_rows.specs.Rows.{ids_of}
 use Rattle.step_rows.proofs.RowLaws.{ids-length}
 use Rattle.step_gather.specs.Gathering.{renamed, shown_as}
 use Rattle.step_gather.proofs.Renaming.{renamed-length}
-use Rattle.step_cells.specs.declared.Cell.{Cell}
-use Rattle.step_cells.specs.Cells.{cell_in'}
+use Rattle.step_cells.specs.Cells.{Cell, cell_in'}
 use Rattle.step_cells.proofs.CellLaws.{Meets, OfCreate, cells_of, lacks_halts, is_create_lem, is_outside, invoked-create, no_target}
 use Rattle.step_cells.proofs.CreateLaws.{created}
 use Rattle.step_write.specs.declared.Step.{Step}
@@ -181,11 +179,11 @@ module _ {M : Machine} {P : Prog} {frame : Frame} {definitions : ℕ} {bytes sto
     closure-count xs n = omega (arith, n, renamed-length xs values n, c.holds.count, length-append (renamed xs values) held)
 
     closure-makes : {events store' events' : List ℕ} {at' : ℕ} {q : Parameters} {m : Result Step Stop} → Entered frame bytes cell tag.0 (length values) q
-        → EntersClause store events h at' cell q.body (ids_in bytes q.row) values tag.0 store' events' m → Makes store events at' (resting (located_step M P l)) store' events' m
+        → EntersClause store events h at' cell q.body (ids_of q.row) values tag.0 store' events' m → Makes store events at' (resting (located_step M P l)) store' events' m
     unfolding event_bytes
     closure-makes {events} {store'} {events'} {at'} {q} {m} x f =
-        let xs = ids_in bytes q.row in
-        let n : length xs ≡ length values = ids-length bytes q.row ∙ x.count in
+        let xs = ids_of q.row in
+        let n : length xs ≡ length values = ids-length q.row.bytes.now q.row.places ∙ x.count in
         let g = enters_with (searched c x.clause) x.clause.reads args (with_pairs c.entries) refl of (x.count ∙ valued.count) in
         let step = closure-step c ∙ g.is in
         let goes = step ∙ rule.runs cell.number g.what.1 (g.new ++ c.entries) (ap is_stop (sym step) ∙ o.goes) in

@@ -15,7 +15,7 @@ use Rattle.image_spec.specs.Records.{Record}
 use Rattle.image_directory.specs.declared.Frame.{Frame}
 use Rattle.image_directory.specs.Slots.{Ready}
 use Rattle.image_read_nodes.specs.Nodes.{record_at, At}
-use Rattle.step_slots.specs.declared.Slot.{Slot}
+use Rattle.step_slots.specs.Slots.{Slot}
 use Rattle.step_slots.specs.Views.{no_slot, slot_at, slots_at}
 use Rattle.step_spec.specs.Located.{linear_machine, Located, stmt_in, located_step}
 use Rattle.step_spec.specs.Store.{place_of, entry_slot, environment_of, EntryFits}

@@ -3,17 +3,17 @@ use Rattle.std.specs.Prelude.{ℕ, ◌+◌, ◌*◌, ◌≤◌, ◌≡◌, true,
 use Rattle.syntax.specs.declared.names.VarId.{VarId}
 use Rattle.image_spec.specs.Parse.{each}
 use Rattle.image_directory.specs.declared.Frame.{Frame}
-use Rattle.step_slots.specs.declared.Slot.{Slot}
-use Rattle.step_slots.specs.Slots.{slot_bytes}
+use Rattle.step_slots.specs.Slots.{Slot, slot_bytes}
 use Rattle.step_slots.specs.Views.{slots_at, all_slots}
 use Rattle.step_spec.specs.Events.{event_head}
 use Rattle.step_header.specs.declared.Header.{Header}
-use Rattle.step_header.specs.Headers.{heap_in, Holds}
-use Rattle.step_rows.specs.declared.Row.{Row}
-use Rattle.step_rows.specs.Rows.{ids_in, Inside}
+use Rattle.step_header.specs.Headers.{heap_in}
+use Rattle.step_rows.specs.declared.row.Row.{Row}
+use Rattle.step_rows.specs.Rows.{ids_of}
+use Rattle.step_write.specs.declared.Work.{Work}
+use Rattle.step_write.specs.Working.{Fit}
 use Rattle.step_gather.specs.Gathering.{renamed, shown_as}
-use Rattle.step_cells.specs.declared.Cell.{Cell}
-use Rattle.step_cells.specs.Cells.{cell_in'}
+use Rattle.step_cells.specs.Cells.{Cell, cell_in'}
 use Rattle.step_write.specs.declared.Step.{Step}
 use Rattle.step_write.specs.declared.Stop.{Stop}
 use Rattle.step_write.specs.declared.Stop.TheVariants.{NoStep}
@@ -27,19 +27,17 @@ pub data EntranceOf (frame : Frame) (bytes : List ℕ) (cell : Cell) (tag k : �
   no-closure : (cell.sort ≡ 4 → ⊥) → EntranceOf frame bytes cell tag k None
   no_record : cell.sort ≡ 4 → frame.count ≤ cell.id → EntranceOf frame bytes cell tag k None
   no-clause : cell.sort ≡ 4 → ClauseOf frame bytes cell.id tag None → EntranceOf frame bytes cell tag k None
-  other-count : {p : Parameters} → cell.sort ≡ 4 → ClauseOf frame bytes cell.id tag (Some p) → (p.row.len ≡ k → ⊥) → EntranceOf frame bytes cell tag k None
-  a-clause : {p : Parameters} → cell.sort ≡ 4 → ClauseOf frame bytes cell.id tag (Some p) → p.row.len ≡ k → EntranceOf frame bytes cell tag k (Some p)
+  other-count : {p : Parameters} → cell.sort ≡ 4 → ClauseOf frame bytes cell.id tag (Some p) → (p.row.places.len ≡ k → ⊥) → EntranceOf frame bytes cell tag k None
+  a-clause : {p : Parameters} → cell.sort ≡ 4 → ClauseOf frame bytes cell.id tag (Some p) → p.row.places.len ≡ k → EntranceOf frame bytes cell tag k (Some p)
 
 -- ---- a clause is entered
 
--- what is asked before: parameters in a row, as many slots in `scratch`, and a cell before the entries
-pub record Enterable (bytes store events scratch : List ℕ) (h : Header) (at : ℕ) (cell : Cell) (row : Row) : Type 0 where
-  pub inside : Inside bytes row
-  pub holds : Holds store h
-  pub place : at ≤ length events
-  pub room : 16 * row.len ≤ length scratch
-  pub slots : all_slots (slots_at scratch 0 row.len) ≡ true
-  pub closure : cell.from + 16 * cell.len ≤ 64 + 16 * h.heap
+-- what is asked before: as many slots in `scratch` as there are parameters, and a cell before the entries
+pub record Enterable (w : Work) (scratch : List ℕ) (cell : Cell) (row : Row) : Type 0 where
+  pub fit : Fit w
+  pub room : 16 * row.places.len ≤ length scratch
+  pub slots : all_slots (slots_at scratch 0 row.places.len) ≡ true
+  pub closure : cell.from + 16 * cell.len ≤ 64 + 16 * w.header.heap
 
 -- the body's environment: these slots under the parameters' IDs, and then what the closure holds
 pub record EntersClause (store events : List ℕ) (h : Header) (at : ℕ) (cell : Cell) (body : ℕ) (xs : List VarId) (values : List Slot) (tag : ℕ) (store' events' : List ℕ) (m : Result Step Stop) : Type 0 where
@@ -61,4 +59,4 @@ pub data Invokes (frame : Frame) (bytes store events : List ℕ) (h : Header) (a
   of-nothing : (value.sort ≡ 2 → ⊥) → EntranceOf frame bytes (cell_in' (heap_in store h) value) tag (length values) None
       → Invokes frame bytes store events h at value values tag store events (Err NoStep)
   of-closure : {p : Parameters} {store' events' : List ℕ} {m : Result Step Stop} → EntranceOf frame bytes (cell_in' (heap_in store h) value) tag (length values) (Some p)
-      → EntersClause store events h at (cell_in' (heap_in store h) value) p.body (ids_in bytes p.row) values tag store' events' m → Invokes frame bytes store events h at value values tag store' events' m
+      → EntersClause store events h at (cell_in' (heap_in store h) value) p.body (ids_of p.row) values tag store' events' m → Invokes frame bytes store events h at value values tag store' events' m

@@ -1,16 +1,18 @@
 // invoke.rs: the clause with the tag of the closure that var is: its parameters have the args' values, and the closure's entries are behind them. Of an
 // outside number, the end of the run.
-ghost use Rattle.std.specs.Prelude.{◌≡◌, true, ◌+◌, ◌*◌, ◌≤◌};
-ghost use Rattle.image_spec.specs.Parse.{field};
+ghost use Rattle.std.specs.Prelude.{◌≡◌, true, ◌+◌, ◌*◌, ◌≤◌, length};
 ghost use Rattle.step_slots.specs.Views.{slots_at, all_slots};
 ghost use Rattle.step_spec.specs.Events.{event_head};
 ghost use Rattle.step_spec.specs.Located.{source_machine, linear_machine};
-ghost use Rattle.step_rows.specs.Rows.{ids_in};
 ghost use Rattle.step_tags.specs.Tags.{tag_in};
+ghost use Rattle.step_write.specs.Working.{Keeps};
 ghost use Rattle.step_write.specs.Writing.{head_bytes};
 ghost use Rattle.step_rule.specs.Rules.{Given, MakesAs};
 ghost use Rattle.step_statement_invoke.specs.Invoking.{EntranceOf, Enterable, EntersClause, over, Invokes};
 ghost use Rattle.image_read_nodes.specs.Opened.{record_of, IsAt};
+ghost use Rattle.step_slots.specs.Slots.{as_slot};
+ghost use Rattle.step_rows.specs.Rows.{ids_of};
+ghost use Rattle.step_cells.specs.Cells.{as_cell};
 
 use image_directory::image::Image;
 use image_kinds::kinds::Kind;
@@ -21,12 +23,13 @@ use step_gather::{gather, rename};
 use step_header::Header;
 use step_lookup::slot_of;
 use step_places::stepper::Stepper;
-use step_rows::Row;
 use step_rows::records::list_row;
+use step_rows::row::Row;
 use step_show::{finish_showing, finish_showing_from};
+use step_slots::sort::Sort;
 use step_slots::{Slot, read};
 use step_tags::tag_of;
-use step_write::{EventHead, Step, Stop, finish_entering};
+use step_write::{EventHead, Step, Stop, Work, finish_entering, state_of, store_of};
 
 // The name of the tag of the Invoke at index i.
 fn read_tag(image: &Image<'_>, i: usize) -> u32
@@ -38,14 +41,14 @@ fn read_tag(image: &Image<'_>, i: usize) -> u32
 }
 
 // The parameters of the first clause with this tag of the closure in a cell; absent also where they are not k, or the cell is no closure.
-fn entrance_of(stepper: &Stepper<'_>, cell: Cell, tag: u32, k: usize) -> Option<Parameters>
-    ensures { EntranceOf stepper.now.image.frame stepper.now.image.bytes.now cell tag k result }
+fn entrance_of<'a>(stepper: &Stepper<'a>, cell: Cell, tag: u32, k: usize) -> Option<Parameters<'a>>
+    ensures { EntranceOf stepper.now.image.frame stepper.now.image.bytes.now (as_cell cell) tag k result }
 {
-    if cell.sort != 4 || stepper.image.frame.count <= cell.id as usize {
+    if cell.sort != Sort::CreateCell || stepper.image.frame.count <= cell.id as usize {
         return None;
     }
     let clause = clause_of(stepper, cell.id, tag)?;
-    if clause.row.len != k {
+    if clause.row.places.len != k {
         return None;
     }
     Some(clause)
@@ -66,50 +69,37 @@ fn event(cell: Cell, tag: u32) -> EventHead
 
 // The body of the clause, where the first slots of `scratch` are its parameters and the closure's entries are behind them.
 fn enter_clause(
-    image: &[u8],
-    row: Row,
-    store: &mut [u8],
-    events: &mut [u8],
+    row: &Row<'_>,
+    work: &mut Work<'_, '_>,
     scratch: &mut [u8],
-    header: Header,
-    at: usize,
     cell: Cell,
     tag: u32,
     body: u32,
 ) -> Result<Step, Stop>
-    requires { Enterable image.now store.old events.old scratch.old header at cell row }
-    ensures { EntersClause store.old events.old header at cell body (ids_in image.now row) (slots_at scratch.old 0 row.len) tag store.new events.new result }
+    requires { Enterable work.old scratch.old (as_cell cell) row.now }
+    ensures { EntersClause work.old.store.now work.old.events.now work.old.header work.old.at (as_cell cell) body (ids_of row.now) (slots_at scratch.old 0 row.now.places.len) tag work.new.store.now work.new.events.now result × Keeps work.old work.new }
 {
-    let k = row.len;
+    let k = row.places.len;
     let len = cell.len;
     let next = Header {
         position: body,
         ended: false,
         stopped: false,
         entries: (k + len) as u64,
-        ..header
+        ..work.header
     };
-    let from = 64 + 16 * header.heap as usize;
-    rename(image, row, scratch, 0);
+    let from = 64 + 16 * work.header.heap as usize;
+    rename(row, scratch, 0);
     finish_entering(
-        store,
-        events,
-        at,
+        work,
+        scratch,
         event(cell, tag),
         next,
         from,
-        scratch,
         k,
         cell.from,
         len,
     )
-}
-
-// The four bytes of a count.
-fn short_count(n: usize) -> u32
-    ensures { field 4 result ≡ field 4 n }
-{
-    (n % 4294967296) as u32
 }
 
 // The outside number is shown, the tag, and how many values follow.
@@ -120,7 +110,7 @@ fn last_event(tag: u32, number: u64, n: usize) -> EventHead
         kind: Kind::Invoke,
         detail: 2,
         name: tag,
-        count: short_count(n),
+        count: (n % 4294967296) as u32,
         payload: number,
     }
 }
@@ -139,121 +129,90 @@ fn ended(header: Header) -> Header
 // The values of the k args are in `scratch`.
 fn source_enter(
     stepper: &Stepper<'_>,
-    store: &mut [u8],
-    events: &mut [u8],
+    work: &mut Work<'_, '_>,
     scratch: &mut [u8],
-    header: Header,
-    at: usize,
     value: Slot,
     tag: u32,
     k: usize,
 ) -> Result<Step, Stop>
-    requires { Given stepper.now stepper.now.image.bytes.now store.old events.old scratch.old header at 7 × ((k ≤ 128) × (all_slots (slots_at scratch.old 0 k) ≡ true)) }
-    ensures { Invokes stepper.now.image.frame stepper.now.image.bytes.now store.old events.old header at value (slots_at scratch.old 0 k) tag store.new events.new result }
+    requires { Given stepper.now work.old 7 × ((2080 ≤ length scratch.old) × ((k ≤ 128) × (all_slots (slots_at scratch.old 0 k) ≡ true))) }
+    ensures { Invokes stepper.now.image.frame stepper.now.image.bytes.now work.old.store.now work.old.events.now work.old.header work.old.at (as_slot value) (slots_at scratch.old 0 k) tag work.new.store.now work.new.events.now result × Keeps work.old work.new }
 {
-    if value.sort == 2 {
+    if value.sort == Sort::Outside {
         let shown = last_event(tag, value.payload, k);
-        return finish_showing_from(store, events, at, shown, ended(header), scratch, k);
+        let next = ended(work.header);
+        return finish_showing_from(work, scratch, shown, next, k);
     }
-    let cell = cell_of(store, header, value);
+    let state = state_of(work);
+    let cell = cell_of(&state, value).ok_or(Stop::NoStep)?;
     let clause = entrance_of(stepper, cell, tag, k).ok_or(Stop::NoStep)?;
-    enter_clause(
-        stepper.image.bytes,
-        clause.row,
-        store,
-        events,
-        scratch,
-        header,
-        at,
-        cell,
-        tag,
-        clause.body,
-    )
+    enter_clause(&clause.row, work, scratch, cell, tag, clause.body)
 }
 
 // The source machine's: var and the args are looked up.
 pub fn source(
     stepper: &Stepper<'_>,
-    store: &mut [u8],
-    events: &mut [u8],
+    work: &mut Work<'_, '_>,
     scratch: &mut [u8],
-    header: Header,
-    at: usize,
 ) -> Result<Step, Stop>
-    requires { Given stepper.now stepper.now.image.bytes.now store.old events.old scratch.old header at 7 }
-    ensures { MakesAs source_machine stepper.now stepper.now.image.bytes.now store.old events.old header at store.new events.new result }
+    requires { Given stepper.now work.old 7 × (2080 ≤ length scratch.old) }
+    ensures { MakesAs source_machine stepper.now work.old work.new result × Keeps work.old work.new }
 {
-    let i = header.position as usize;
-    let from = 64 + 16 * header.heap as usize;
-    let n = header.entries as usize;
+    let i = work.header.position as usize;
+    let from = 64 + 16 * work.header.heap as usize;
+    let n = work.header.entries as usize;
     let var = first(&stepper.image, i, Kind::Invoke);
-    let value = slot_of(store, header, var.id.0);
+    let state = state_of(work);
+    let value = slot_of(&state, var.id.0).ok_or(Stop::NoStep)?;
     let tag = read_tag(&stepper.image, i);
     let row = list_row(&stepper.image, i, Kind::Invoke);
-    if !gather(stepper.image.bytes, row, store, from, n, scratch, 0) {
+    if !gather(&row, store_of(work), from, n, scratch, 0) {
         return Err(Stop::NoStep);
     }
-    source_enter(
-        stepper, store, events, scratch, header, at, value, tag, row.len,
-    )
+    source_enter(stepper, work, scratch, value, tag, row.places.len)
 }
 
 // The values of the args are the first k entries.
 fn linear_enter(
     stepper: &Stepper<'_>,
-    store: &mut [u8],
-    events: &mut [u8],
+    work: &mut Work<'_, '_>,
     scratch: &mut [u8],
-    header: Header,
-    at: usize,
     value: Slot,
     tag: u32,
     k: usize,
 ) -> Result<Step, Stop>
-    requires { Given stepper.now stepper.now.image.bytes.now store.old events.old scratch.old header at 7 × (k ≤ header.entries) }
-    ensures { Invokes stepper.now.image.frame stepper.now.image.bytes.now store.old events.old header at value (slots_at store.old (64 + 16 * header.heap) k) tag store.new events.new result }
+    requires { Given stepper.now work.old 7 × ((2080 ≤ length scratch.old) × (k ≤ work.old.header.entries)) }
+    ensures { Invokes stepper.now.image.frame stepper.now.image.bytes.now work.old.store.now work.old.events.now work.old.header work.old.at (as_slot value) (slots_at work.old.store.now (64 + 16 * work.old.header.heap) k) tag work.new.store.now work.new.events.now result × Keeps work.old work.new }
 {
-    let from = 64 + 16 * header.heap as usize;
-    if value.sort == 2 {
-        let last = last_event(tag, value.payload, k);
-        return finish_showing(store, events, at, last, ended(header), from, k);
+    let from = 64 + 16 * work.header.heap as usize;
+    if value.sort == Sort::Outside {
+        let shown = last_event(tag, value.payload, k);
+        let next = ended(work.header);
+        return finish_showing(work, shown, next, from, k);
     }
-    let cell = cell_of(store, header, value);
+    let state = state_of(work);
+    let cell = cell_of(&state, value).ok_or(Stop::NoStep)?;
     let clause = entrance_of(stepper, cell, tag, k).ok_or(Stop::NoStep)?;
-    fetch(store, from, k, scratch);
-    enter_clause(
-        stepper.image.bytes,
-        clause.row,
-        store,
-        events,
-        scratch,
-        header,
-        at,
-        cell,
-        tag,
-        clause.body,
-    )
+    fetch(store_of(work), from, k, scratch);
+    enter_clause(&clause.row, work, scratch, cell, tag, clause.body)
 }
 
 // The linear machine's: var is the last entry, and the args are those before it.
 pub fn linear(
     stepper: &Stepper<'_>,
-    store: &mut [u8],
-    events: &mut [u8],
+    work: &mut Work<'_, '_>,
     scratch: &mut [u8],
-    header: Header,
-    at: usize,
 ) -> Result<Step, Stop>
-    requires { Given stepper.now stepper.now.image.bytes.now store.old events.old scratch.old header at 7 }
-    ensures { MakesAs linear_machine stepper.now stepper.now.image.bytes.now store.old events.old header at store.new events.new result }
+    requires { Given stepper.now work.old 7 × (2080 ≤ length scratch.old) }
+    ensures { MakesAs linear_machine stepper.now work.old work.new result × Keeps work.old work.new }
 {
-    let heap = header.heap as usize;
-    let n = header.entries as usize;
+    let heap = work.header.heap as usize;
+    let n = work.header.entries as usize;
     if n == 0 {
         return Err(Stop::NoStep);
     }
     let k = n - 1;
-    let value = read(store, 64 + 16 * heap + 16 * k);
-    let tag = read_tag(&stepper.image, header.position as usize);
-    linear_enter(stepper, store, events, scratch, header, at, value, tag, k)
+    let value = read(store_of(work), 64 + 16 * heap + 16 * k).ok_or(Stop::NoStep)?;
+    let tag = read_tag(&stepper.image, work.header.position as usize);
+    linear_enter(stepper, work, scratch, value, tag, k)
 }

@@ -21,14 +21,13 @@ use Rattle.image_read_parts.specs.Parts.{list_of}
 use Rattle.image_read_nodes.specs.Nodes.{record_at, At, has_list}
 use Rattle.image_read_nodes.proofs.NodeLaws.{record_ok}
 use Rattle.image_read_nodes.proofs.ListLaws.{list-stands}
-use Rattle.step_slots.specs.declared.Slot.{Slot}
-use Rattle.step_slots.specs.Slots.{slot, value_slot}
+use Rattle.step_slots.specs.Slots.{Slot, slot, value_slot}
 use Rattle.step_spec.specs.Located.{Machine, held, Located, stmt_in, cell_in, project, next_place_lem}
 use Rattle.step_spec.specs.Store.{place_of, environment_of, ValueFits}
 use Rattle.step_spec.specs.Events.{event_bytes, event_head}
 use Rattle.step_header.specs.declared.Header.{Header}
-use Rattle.step_rows.specs.declared.Row.{Row}
-use Rattle.step_rows.specs.Rows.{RowOf}
+use Rattle.step_rows.specs.declared.row.Row.{Row}
+use Rattle.step_rows.specs.Rows.{ids_of}
 use Rattle.step_rows.proofs.RowLaws.{row-length}
 use Rattle.step_rule.specs.Rules.{ImageOf, Stored}
 use Rattle.step_rule.proofs.Views.{viewed}
@@ -41,10 +40,10 @@ use Rattle.step_statement_let.specs.Letting.{kept, cell_slot_lem}
 -- ── the statement ──
 
 -- a list has at most 128 bindings
-pub row-short : (g : Frame) (s : List ℕ) (i k : ℕ) {row : Row} → Ready g s → At g s i k → has_list k ≡ true → RowOf s row (ids (list_of (record_at g s i))) → row.len ≤ 128
-row-short g s i k ready a h w =
+pub row-short : (g : Frame) (s : List ℕ) (i k : ℕ) (row : Row) → Ready g s → At g s i k → has_list k ≡ true → ids_of row ≡ ids (list_of (record_at g s i)) → row.places.len ≤ 128
+row-short g s i k row ready a h w =
     let Γ = list_of (record_at g s i) in
-    omega (arith, row-length w, length-map Γ id_of, (list-stands g.id (record_at g s i) k a.kind h (record_ok g s i k ready a)).fits.0)
+    omega (arith, row-length row w, length-map Γ id_of, (list-stands g.id (record_at g s i) k a.kind h (record_ok g s i k ready a)).fits.0)
 
 -- it is a Let, and this is its record
 pub record Letting (t : Stmt) (r : Record) : Type 0 where

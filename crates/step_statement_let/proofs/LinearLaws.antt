@@ -18,8 +18,7 @@ use Rattle.image_spec.proofs.DirectoryLaws.{and_left}
 use Rattle.image_directory.specs.declared.Frame.{Frame}
 use Rattle.image_read_parts.specs.Parts.{list_of}
 use Rattle.image_read_nodes.specs.Nodes.{record_at, first_of, At}
-use Rattle.step_slots.specs.declared.Slot.{Slot}
-use Rattle.step_slots.specs.Slots.{slot_bytes, value_slot}
+use Rattle.step_slots.specs.Slots.{Slot, slot_bytes, value_slot}
 use Rattle.step_spec.specs.Located.{linear_machine, held, Located, stmt_in, cell_in, project, located_step}
 use Rattle.step_spec.specs.Store.{place_of, environment_of, ValueFits, EntryFits}
 use Rattle.step_spec.specs.Events.{event_head}
@@ -43,6 +42,12 @@ use Rattle.step_statement_let.specs.declared.let_.Parts.{Parts}
 use Rattle.step_statement_let.specs.Letting.{PartsOf, kept, cell_slot_lem, var_slot_lem, Adds}
 use Rattle.step_statement_let.proofs.LetLaws.{Letting, let_here, lead_let}
 
+-- what was packed from a state, of the store and the header that it has
+pub packed_as : {store store' out : List ℕ} {h h' : Header} (tag k : ℕ) → store ≡ store' → h ≡ h'
+    → out ≡ each slot_bytes (cell_slot_lem h tag ∷ map (under 0) (drop (h.entries - k) (entries_in store h)))
+    → out ≡ each slot_bytes (cell_slot_lem h' tag ∷ map (under 0) (drop (h'.entries - k) (entries_in store' h')))
+packed_as tag k e f w = w ∙ λ i. each slot_bytes (cell_slot_lem (f i) tag ∷ map (under 0) (drop ((f i).entries - k) (entries_in (e i) (f i))))
+
 module _ {P : Prog} {frame : Frame} {definitions : ℕ} {bytes store : List ℕ} {h : Header} {l : Located} (p : ImageOf P frame definitions bytes) (o : Stored linear_machine P store h l)
     (a : At frame bytes h.position 4) where
   abbrev r : Record
@@ -57,12 +62,12 @@ module _ {P : Prog} {frame : Frame} {definitions : ℕ} {bytes store : List ℕ}
   abbrev E : List Slot
   E = entries_in store h
 
-  module _ {parts : Parts} (q : PartsOf bytes r parts) where
+  module _ {parts : Parts} (q : PartsOf r parts) where
     abbrev k : ℕ
-    k = parts.args.len
+    k = parts.args.places.len
 
     many : length c.args ≡ k
-    many = sym (ap (λ (z : Record). length (list_of z)) c.holds) ∙ (sym (length-map (list_of r) id_of) ∙ row-length q.args)
+    many = sym (ap (λ (z : Record). length (list_of z)) c.holds) ∙ (sym (length-map (list_of r) id_of) ∙ row-length parts.args q.args)
 
     -- the list has as many entries
     pub has-args : k ≤ h.entries

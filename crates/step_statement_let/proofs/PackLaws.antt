@@ -10,8 +10,7 @@ use Rattle.syntax.specs.declared.names.VarId.{VarId}
 use Rattle.image_spec.specs.Parse.{each}
 use Rattle.image_write_parts.specs.Puts.{Puts}
 use Rattle.image_write_parts.proofs.Putting.{puts_then, puts-same, set_before}
-use Rattle.step_slots.specs.declared.Slot.{Slot}
-use Rattle.step_slots.specs.Slots.{slot_bytes, SlotOk}
+use Rattle.step_slots.specs.Slots.{Slot, slot_bytes, SlotOk}
 use Rattle.step_slots.specs.Views.{slots_at, all_slots}
 use Rattle.step_slots.proofs.SlotBytes.{slot-length, slots_length, slots-count}
 use Rattle.step_spec.proofs.Lists.{each-++, all_drop}

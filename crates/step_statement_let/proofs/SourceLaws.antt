@@ -18,8 +18,7 @@ use Rattle.image_spec.specs.Records.{Record}
 use Rattle.image_directory.specs.declared.Frame.{Frame}
 use Rattle.image_read_parts.specs.Parts.{list_of}
 use Rattle.image_read_nodes.specs.Nodes.{record_at, first_of, At}
-use Rattle.step_slots.specs.declared.Slot.{Slot}
-use Rattle.step_slots.specs.Slots.{slot_bytes}
+use Rattle.step_slots.specs.Slots.{Slot, slot_bytes}
 use Rattle.step_slots.proofs.SlotBytes.{slots-taken, slots-count}
 use Rattle.step_spec.specs.Located.{source_machine, held, Located, stmt_in, cell_in, project, located_step}
 use Rattle.step_spec.specs.Store.{place_of}
@@ -28,7 +27,7 @@ use Rattle.step_spec.proofs.Lists.{each-++}
 use Rattle.step_header.specs.declared.Header.{Header}
 use Rattle.step_header.specs.Headers.{entries_in}
 use Rattle.step_entries.specs.Named.{named, under}
-use Rattle.step_rows.specs.Rows.{ids_in}
+use Rattle.step_rows.specs.Rows.{ids_of}
 use Rattle.step_rows.proofs.RowLaws.{ids-length}
 use Rattle.step_write.specs.declared.Step.{Step}
 use Rattle.step_write.specs.declared.Stop.{Stop}
@@ -45,6 +44,11 @@ use Rattle.step_tags.specs.Tags.{tag_in}
 use Rattle.step_statement_let.specs.declared.let_.Parts.{Parts}
 use Rattle.step_statement_let.specs.Letting.{PartsOf, kept, cell_slot_lem, var_slot_lem, Packs, Adds}
 use Rattle.step_statement_let.proofs.LetLaws.{Letting, let_here, lead_let}
+
+-- what was packed from a state, of the store and the header that it has
+pub packs_as : {store store' out : List ℕ} {h h' : Header} {xs : List VarId} {parts : Parts} {b : Bool} → store ≡ store' → h ≡ h'
+    → Packs (entries_in store h) xs h parts out b → Packs (entries_in store' h') xs h' parts out b
+packs_as {out = out} {xs = xs} {parts} {b} e f w = subst (λ (z : List ℕ × Header). Packs (entries_in z.0 z.1) xs z.1 parts out b) (λ i. (e i, f i)) w
 
 module _ {P : Prog} {frame : Frame} {definitions : ℕ} {bytes store : List ℕ} {h : Header} {l : Located} (p : ImageOf P frame definitions bytes) (o : Stored source_machine P store h l)
     (a : At frame bytes h.position 4) where
@@ -68,12 +72,12 @@ module _ {P : Prog} {frame : Frame} {definitions : ℕ} {bytes store : List ℕ}
   works v e = source-works o (Let c.var c.ty c.tag c.args c.next) c.is
       ∙ ap (λ (w : Option (List Value)). or_halt w λ vs. shows (Let' (length K) c.tag.name) (at c.next ((c.var.id, cell (length K)) ∷ l.environment) (K ++ (xtor c.tag.name vs ∷ [])))) e
 
-  module _ {parts : Parts} (q : PartsOf bytes r parts) where
+  module _ {parts : Parts} (q : PartsOf r parts) where
     abbrev xs : List VarId
-    xs = ids_in bytes parts.args
+    xs = ids_of parts.args
 
     args_are : ids c.args ≡ xs
-    args_are = sym (q.args.ids ∙ ap (λ (z : Record). ids (list_of z)) c.holds)
+    args_are = sym (q.args ∙ ap (λ (z : Record). ids (list_of z)) c.holds)
 
     -- one of the args is absent
     pub source-halts : {scratch events : List ℕ} {at' : ℕ} {b : Bool} → Packs E xs h parts scratch b → b ≡ false
@@ -94,11 +98,11 @@ module _ {P : Prog} {frame : Frame} {definitions : ℕ} {bytes store : List ℕ}
 
     -- all are there
     pub source-makes : {scratch events store' events' : List ℕ} {at' : ℕ} {b : Bool} {m : Result Step Stop} → Packs E xs h parts scratch b → b ≡ true
-        → Adds store events h at' parts parts.args.len h.entries (take (16 * (parts.args.len + 2)) scratch ++ take (16 * h.entries) (drop (64 + 16 * h.heap) store)) store' events' m
+        → Adds store events h at' parts parts.args.places.len h.entries (take (16 * (parts.args.places.len + 2)) scratch ++ take (16 * h.entries) (drop (64 + 16 * h.heap) store)) store' events' m
         → Makes store events at' (resting (located_step source_machine P l)) store' events' m
     source-makes {scratch} {events} {at' = at'} w t d =
-        let k = parts.args.len in
-        let len = ids-length bytes parts.args in
+        let k = parts.args.places.len in
+        let len = ids-length parts.args.bytes.now parts.args.places in
         let G : Gathered (place_of l.cells) (length l.cells) E l.environment xs = gathered o xs (sym w.found ∙ t) in
         let x = c.var.id in
         let tag = c.tag.name in

@@ -6,11 +6,10 @@ use Rattle.image_spec.specs.Parse.{each}
 use Rattle.image_spec.specs.Records.{Record}
 use Rattle.image_read_parts.specs.Parts.{list_of}
 use Rattle.image_read_nodes.specs.Nodes.{first_of}
-use Rattle.step_slots.specs.declared.Slot.{Slot}
-use Rattle.step_slots.specs.Slots.{slot, slot_bytes}
+use Rattle.step_slots.specs.Slots.{Slot, slot, slot_bytes}
 use Rattle.step_spec.specs.Events.{event_head}
 use Rattle.step_header.specs.declared.Header.{Header}
-use Rattle.step_rows.specs.Rows.{RowOf}
+use Rattle.step_rows.specs.Rows.{ids_of}
 use Rattle.step_write.specs.declared.Step.{Step}
 use Rattle.step_write.specs.declared.Stop.{Stop}
 use Rattle.step_write.specs.Writing.{Finishes}
@@ -19,11 +18,11 @@ use Rattle.step_tags.specs.Tags.{tag_in}
 use Rattle.step_statement_let.specs.declared.let_.Parts.{Parts}
 
 -- the ID of its var, the name of its tag, and the row of its args, which are at most 128
-pub record PartsOf (bytes : List ℕ) (r : Record) (parts : Parts) : Type 0 where
+pub record PartsOf (r : Record) (parts : Parts) : Type 0 where
   pub id : parts.id ≡ (first_of r).id.0
   pub tag : parts.tag ≡ (tag_in r).name.0
-  pub args : RowOf bytes parts.args (ids (list_of r))
-  pub few : parts.args.len ≤ 128
+  pub args : ids_of parts.args ≡ ids (list_of r)
+  pub few : parts.args.places.len ≤ 128
 
 -- the header after it: the cell holds so many values, and so many entries stay beside var
 abbrev pub kept : Header → (held others : ℕ) → Header

@@ -8,8 +8,7 @@ use lib.ListN.{length, take, length-map}
 use lib.Seq.{sets, length-sets}
 use Rattle.syntax.specs.declared.names.VarId.{VarId}
 use Rattle.image_spec.specs.Parse.{each, All}
-use Rattle.step_slots.specs.declared.Slot.{Slot}
-use Rattle.step_slots.specs.Slots.{slot_bytes, SlotOk}
+use Rattle.step_slots.specs.Slots.{Slot, slot_bytes, SlotOk}
 use Rattle.step_slots.specs.Views.{slots_at, all_slots}
 use Rattle.step_slots.proofs.SlotBytes.{slots_length}
 use Rattle.step_entries.specs.Named.{named, under}

@@ -1,6 +1,6 @@
 -- Substitute: how many pairs it has, the statement by its record, and the linear machine's step. Assumes nothing.
 use Prim.Native.Nat.{ℕ, ◌+◌, ◌*◌, ◌≤◌}
-use mathlib.Core.Path.{◌≡◌, refl, sym, ap, ap₂, ◌∙◌}
+use mathlib.Core.Path.{◌≡◌, refl, sym, ap, ap₂, ◌∙◌, subst}
 use mathlib.Core.Bool.{Bool, true, false}
 use mathlib.Core.List.{List, [], map}
 use mathlib.Core.Option.{Option, none, some}
@@ -21,13 +21,13 @@ use Rattle.image_directory.specs.declared.Frame.{Frame}
 use Rattle.image_directory.specs.Slots.{Ready}
 use Rattle.image_read_nodes.specs.Nodes.{record_at, At}
 use Rattle.image_read_nodes.proofs.NodeLaws.{record_ok}
-use Rattle.step_slots.specs.declared.Slot.{Slot}
+use Rattle.step_slots.specs.Slots.{Slot}
 use Rattle.step_spec.specs.Located.{linear_machine, Located, stmt_in, cell_in, project, next_place_lem, located_step}
 use Rattle.step_spec.specs.Store.{place_of, environment_of}
 use Rattle.step_header.specs.declared.Header.{Header}
 use Rattle.step_header.specs.Headers.{entries_in}
 use Rattle.step_entries.specs.Named.{named, under}
-use Rattle.step_rows.specs.Rows.{ids_in}
+use Rattle.step_rows.specs.Rows.{ids_of}
 use Rattle.step_rows.specs.RecordRows.{pairs_of}
 use Rattle.step_rows.proofs.RowLaws.{row-length, ids-length}
 use Rattle.step_write.specs.declared.Step.{Step}
@@ -88,13 +88,18 @@ substituting (is_print next) k = absurd (omega arith)
 substituting is_exit k = absurd (omega arith)
 
 -- as many targets as sources
-pub same_count : {bytes : List ℕ} {r : Record} {parts : Parts} → PartsOf bytes r parts → parts.targets.len ≡ parts.sources.len
-same_count {r = r} q =
+pub same_count : {r : Record} {parts : Parts} → PartsOf r parts → parts.targets.places.len ≡ parts.sources.places.len
+same_count {r} {parts} q =
     let ps = pairs_of r in
     let Pair = ContextBinding × Identifier in
-    sym (row-length q.targets') ∙ (length-map ps (λ (p : Pair). p.0.var.id) ∙ (sym (length-map ps (λ (p : Pair). p.1.id)) ∙ row-length q.sources'))
+    sym (row-length parts.targets q.targets') ∙ (length-map ps (λ (p : Pair). p.0.var.id) ∙ (sym (length-map ps (λ (p : Pair). p.1.id)) ∙ row-length parts.sources q.sources'))
 
 -- ── the step ──
+
+-- what was packed from a state, of the store and the header that it has
+pub packs_as : {store store' out : List ℕ} {h h' : Header} {xs ys : List VarId} {b : Bool} → store ≡ store' → h ≡ h'
+    → Packs (entries_in store h) xs ys out b → Packs (entries_in store' h') xs ys out b
+packs_as {out = out} {xs = xs} {ys} {b} e f w = subst (λ (E : List Slot). Packs E xs ys out b) (λ i. entries_in (e i) (f i)) w
 
 module _ {P : Prog} {frame : Frame} {definitions : ℕ} {bytes store : List ℕ} {h : Header} {l : Located} (p : ImageOf P frame definitions bytes) (o : Stored linear_machine P store h l)
     (a : At frame bytes h.position 2) where
@@ -115,18 +120,18 @@ module _ {P : Prog} {frame : Frame} {definitions : ℕ} {bytes store : List ℕ}
   unfolding next_place_lem flatten_clauses
   next_place = rw c.is (omega (arith, (viewed o).position))
 
-  module _ {parts : Parts} (q : PartsOf bytes r parts) where
+  module _ {parts : Parts} (q : PartsOf r parts) where
     abbrev xs : List VarId
-    xs = ids_in bytes parts.targets
+    xs = ids_of parts.targets
 
     abbrev ys : List VarId
-    ys = ids_in bytes parts.sources
+    ys = ids_of parts.sources
 
     targets-are : targets c.pairs ≡ xs
-    targets-are = sym (q.targets'.ids ∙ ap (λ (z : Record). targets (pairs_of z)) c.holds)
+    targets-are = sym (q.targets' ∙ ap (λ (z : Record). targets (pairs_of z)) c.holds)
 
     sources-are : sources c.pairs ≡ ys
-    sources-are = sym (q.sources'.ids ∙ ap (λ (z : Record). sources (pairs_of z)) c.holds)
+    sources-are = sym (q.sources' ∙ ap (λ (z : Record). sources (pairs_of z)) c.holds)
 
     -- what the machine does with what the lookups give
     works : (v : Option (List Value)) → lookups ys l.environment ≡ v → linear_machine.step P (project P l) ≡ or_halt v λ vs. silent (at c.next (zip xs vs) K)
@@ -143,16 +148,16 @@ module _ {P : Prog} {frame : Frame} {definitions : ℕ} {bytes store : List ℕ}
 
     -- all are there
     pub linear-makes : {scratch events store' events' : List ℕ} {at' : ℕ} {b : Bool} {m : Result Step Stop} → Packs E xs ys scratch b → b ≡ true
-        → Replaces store events h at' parts.targets.len (take (16 * parts.targets.len) scratch) store' events' m
+        → Replaces store events h at' parts.targets.places.len (take (16 * parts.targets.places.len) scratch) store' events' m
         → Makes store events at' (resting (located_step linear_machine P l)) store' events' m
     unfolding environment_of
     linear-makes {scratch} {events} {at' = at'} w t d =
-        let k = parts.targets.len in
+        let k = parts.targets.places.len in
         let F = found_slots E ys in
         let of = place_of l.cells in
         let G : Gathered of (length l.cells) E l.environment ys = gathered o ys (sym w.found ∙ t) in
-        let len : length xs ≡ k = ids-length bytes parts.targets in
-        let many : length xs ≡ length F = len ∙ (same_count q ∙ (sym (ids-length bytes parts.sources) ∙ sym (length-map ys (λ (y : VarId). under 0 (named y.0 E))))) in
+        let len : length xs ≡ k = ids-length parts.targets.bytes.now parts.targets.places in
+        let many : length xs ≡ length F = len ∙ (same_count q ∙ (sym (ids-length parts.sources.bytes.now parts.sources.places) ∙ sym (length-map ys (λ (y : VarId). under 0 (named y.0 E))))) in
         let n : k ≡ length (renamed xs F) = sym (renamed-length xs F many ∙ len) in
         let slots : environment_of l.cells (zip xs G.found) ≡ renamed xs F = zipped of xs G.found ∙ ap (renamed xs) (sym G.slots) in
         let lead : Leads linear_machine P l store h [] (rebuilt h k) [] (renamed xs F) = lead_silent o c.next (zip xs G.found) (works (some G.found) G.looked) next_place n slots in

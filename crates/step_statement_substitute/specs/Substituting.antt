@@ -4,10 +4,9 @@ use Rattle.syntax.specs.declared.names.VarId.{VarId}
 use Rattle.model.specs.Linear.{targets, sources}
 use Rattle.image_spec.specs.Parse.{each}
 use Rattle.image_spec.specs.Records.{Record}
-use Rattle.step_slots.specs.declared.Slot.{Slot}
-use Rattle.step_slots.specs.Slots.{slot_bytes}
+use Rattle.step_slots.specs.Slots.{Slot, slot_bytes}
 use Rattle.step_header.specs.declared.Header.{Header}
-use Rattle.step_rows.specs.Rows.{RowOf}
+use Rattle.step_rows.specs.Rows.{ids_of}
 use Rattle.step_rows.specs.RecordRows.{pairs_of}
 use Rattle.step_write.specs.declared.Step.{Step}
 use Rattle.step_write.specs.declared.Stop.{Stop}
@@ -16,10 +15,10 @@ use Rattle.step_gather.specs.Gathering.{all_found_lem, found_slots, renamed}
 use Rattle.step_statement_substitute.specs.declared.substitute.Parts.{Parts}
 
 -- the rows of its targets and of its sources, which are at most 128
-pub record PartsOf (bytes : List ℕ) (r : Record) (parts : Parts) : Type 0 where
-  pub targets' : RowOf bytes parts.targets (targets (pairs_of r))
-  pub sources' : RowOf bytes parts.sources (sources (pairs_of r))
-  pub few : parts.targets.len ≤ 128
+pub record PartsOf (r : Record) (parts : Parts) : Type 0 where
+  pub targets' : ids_of parts.targets ≡ targets (pairs_of r)
+  pub sources' : ids_of parts.sources ≡ sources (pairs_of r)
+  pub few : parts.targets.places.len ≤ 128
 
 -- the header after it: so many entries, and the cells that were there
 abbrev pub rebuilt : Header → (entries : ℕ) → Header

@@ -1,31 +1,33 @@
 // substitute.rs: the list rebuilt from the pairs.
 ghost use Rattle.std.specs.Prelude.{◌≡◌, ◌+◌, ◌*◌, ◌≤◌, ◌<◌, ◌^◌, length, take};
 ghost use Rattle.step_spec.specs.Located.{linear_machine};
-ghost use Rattle.step_header.specs.Headers.{entries_in, Holds};
-ghost use Rattle.step_rows.specs.Rows.{ids_in, Inside};
 ghost use Rattle.step_rule.specs.Rules.{Given, MakesAs};
 ghost use Rattle.step_statement_substitute.specs.Substituting.{PartsOf, rebuilt, Packs, Replaces};
 ghost use Rattle.image_read_nodes.specs.Opened.{record_of, IsAt};
+ghost use Rattle.step_header.specs.States.{entries_of};
+ghost use Rattle.step_write.specs.Working.{Fit, Keeps};
+ghost use Rattle.step_rows.specs.Rows.{ids_of};
 
 use image_directory::image::Image;
 use step_gather::{gather, rename};
 use step_header::Header;
+use step_header::state::State;
 use step_places::stepper::Stepper;
-use step_rows::Row;
 use step_rows::records::{source_row, target_row};
-use step_write::{Step, Stop, finish_silent};
+use step_rows::row::Row;
+use step_write::{Step, Stop, Work, finish_silent, state_of};
 
 // What is read of a Substitute: the IDs that it gives, and those that it takes the values from.
 #[derive(Clone, Copy)]
-pub struct Parts {
-    pub targets: Row,
-    pub sources: Row,
+pub struct Parts<'a> {
+    pub targets: Row<'a>,
+    pub sources: Row<'a>,
 }
 
 // The parts of the Substitute at this place.
-fn read_parts(image: &Image<'_>, position: u32) -> Parts
+fn read_parts<'a>(image: &Image<'a>, position: u32) -> Parts<'a>
     requires { IsAt image.now position 2 }
-    ensures { PartsOf image.now.bytes.now (record_of image.now position) result }
+    ensures { PartsOf (record_of image.now position) result }
 {
     let i = position as usize;
     let targets = target_row(image, i);
@@ -34,16 +36,16 @@ fn read_parts(image: &Image<'_>, position: u32) -> Parts
 }
 
 // The values of the sources under the IDs of the targets, at the beginning of `scratch`; no, if one is absent.
-fn pack(image: &[u8], store: &[u8], header: Header, parts: Parts, scratch: &mut [u8]) -> bool
-    requires { Inside image.now parts.targets × (Inside image.now parts.sources × ((parts.targets.len ≡ parts.sources.len) × (Holds store.now header × (16 * parts.targets.len ≤ length scratch.old)))) }
-    ensures { Packs (entries_in store.now header) (ids_in image.now parts.targets) (ids_in image.now parts.sources) scratch.new result }
+fn pack(state: &State<'_>, parts: &Parts<'_>, scratch: &mut [u8]) -> bool
+    requires { (parts.now.targets.places.len ≡ parts.now.sources.places.len) × (16 * parts.now.targets.places.len ≤ length scratch.old) }
+    ensures { Packs (entries_of state.now) (ids_of parts.now.targets) (ids_of parts.now.sources) scratch.new result }
 {
-    let from = 64 + 16 * header.heap as usize;
-    let entries = header.entries as usize;
-    if !gather(image, parts.sources, store, from, entries, scratch, 0) {
+    let from = 64 + 16 * state.header.heap as usize;
+    let entries = state.header.entries as usize;
+    if !gather(&parts.sources, state.store, from, entries, scratch, 0) {
         return false;
     }
-    rename(image, parts.targets, scratch, 0);
+    rename(&parts.targets, scratch, 0);
     true
 }
 
@@ -62,37 +64,28 @@ fn after(header: Header, k: u64) -> Header
 }
 
 // The first k slots of `scratch` instead of the entries.
-fn replace(
-    store: &mut [u8],
-    events: &mut [u8],
-    scratch: &[u8],
-    header: Header,
-    at: usize,
-    k: usize,
-) -> Result<Step, Stop>
-    requires { Holds store.old header × ((header.position + 1 < 2 ^ 32) × ((at ≤ length events.old) × (16 * k ≤ length scratch.now))) }
-    ensures { Replaces store.old events.old header at k (take (16 * k) scratch.now) store.new events.new result }
+fn replace(work: &mut Work<'_, '_>, scratch: &[u8], k: usize) -> Result<Step, Stop>
+    requires { Fit work.old × ((16 * k ≤ length scratch.now) × (work.old.header.position + 1 < 2 ^ 32)) }
+    ensures { Replaces work.old.store.now work.old.events.now work.old.header work.old.at k (take (16 * k) scratch.now) work.new.store.now work.new.events.now result × Keeps work.old work.new }
 {
-    let from = 64 + 16 * header.heap as usize;
-    let next = after(header, k as u64);
-    finish_silent(store, events, at, next, from, scratch, k)
+    let from = 64 + 16 * work.header.heap as usize;
+    let next = after(work.header, k as u64);
+    finish_silent(work, scratch, next, from, k)
 }
 
 // The linear machine's. (The source machine has no rule.)
 pub fn linear(
     stepper: &Stepper<'_>,
-    store: &mut [u8],
-    events: &mut [u8],
+    work: &mut Work<'_, '_>,
     scratch: &mut [u8],
-    header: Header,
-    at: usize,
 ) -> Result<Step, Stop>
-    requires { Given stepper.now stepper.now.image.bytes.now store.old events.old scratch.old header at 2 }
-    ensures { MakesAs linear_machine stepper.now stepper.now.image.bytes.now store.old events.old header at store.new events.new result }
+    requires { Given stepper.now work.old 2 × (2080 ≤ length scratch.old) }
+    ensures { MakesAs linear_machine stepper.now work.old work.new result × Keeps work.old work.new }
 {
-    let parts = read_parts(&stepper.image, header.position);
-    if !pack(stepper.image.bytes, store, header, parts, scratch) {
+    let parts = read_parts(&stepper.image, work.header.position);
+    let state = state_of(work);
+    if !pack(&state, &parts, scratch) {
         return Err(Stop::NoStep);
     }
-    replace(store, events, scratch, header, at, parts.targets.len)
+    replace(work, scratch, parts.targets.places.len)
 }

@@ -13,7 +13,7 @@ use Rattle.model.specs.Machine.{Value, Entries, values, at, Outcome, shows, or_h
 use Rattle.model.specs.Linear.{last_of, before_last, first, last_value_lem, shows_unless_twice, linear_work}
 use Rattle.image_directory.specs.declared.Frame.{Frame}
 use Rattle.image_read_nodes.specs.Nodes.{record_at, At}
-use Rattle.step_slots.specs.declared.Slot.{Slot}
+use Rattle.step_slots.specs.Slots.{Slot}
 use Rattle.step_slots.specs.Views.{slot_at, slots_at}
 use Rattle.step_spec.specs.Located.{linear_machine, Located, stmt_in, is_stop, located_step}
 use Rattle.step_spec.specs.Store.{place_of, entry_slot, environment_of}

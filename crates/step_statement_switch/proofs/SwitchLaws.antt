@@ -5,59 +5,64 @@ use mathlib.Core.List.{List, ◌++◌}
 use mathlib.Core.Option.{Option}
 use native.Mathlib.Omega.{arith}
 use lib.ListN.{length, length-map}
-use Rattle.std.specs.Prelude.{Option as Maybe, Some, Result}
+use Rattle.std.specs.Prelude.{Option as Maybe, Some, Result, Err}
 use Rattle.syntax.specs.Context.{Context}
 use Rattle.syntax.specs.declared.names.Name.{Name}
 use Rattle.model.specs.Syntax.{Stmt, Clauses, Prog}
 use Rattle.model.specs.Machine.{Value, Entries, at, Outcome, shows, or_halt, Switch', find_clause_lem, matched}
 use Rattle.image_directory.specs.declared.Frame.{Frame}
 use Rattle.image_read_nodes.specs.Nodes.{record_at}
-use Rattle.step_slots.specs.declared.Slot.{Slot}
-use Rattle.step_slots.specs.Slots.{value_slot}
-use Rattle.step_slots.specs.Views.{slots_at}
+use Rattle.step_slots.specs.Slots.{Slot, value_slot}
+use Rattle.step_slots.specs.Views.{no_slot, slots_at}
 use Rattle.step_spec.specs.Located.{Machine, Located, stmt_in, project, located_step}
 use Rattle.step_spec.specs.Store.{place_of, environment_of}
 use Rattle.step_spec.specs.Events.{event_head, event_bytes}
 use Rattle.step_header.specs.declared.Header.{Header}
 use Rattle.step_places.specs.Searches.{name_of}
-use Rattle.step_rows.specs.declared.Row.{Row}
-use Rattle.step_rows.specs.Rows.{ids_in}
-use Rattle.step_cells.specs.declared.Cell.{Cell}
+use Rattle.step_rows.specs.declared.row.Row.{Row}
+use Rattle.step_rows.specs.Rows.{ids_of}
+use Rattle.step_cells.specs.Cells.{Cell, cell_in'}
 use Rattle.step_cells.proofs.CellLaws.{OfLet, Meets, cells_of, is_let, matched_let, no_let, lacks_halts}
 use Rattle.step_gather.specs.Gathering.{renamed}
 use Rattle.step_write.specs.declared.Step.{Step}
 use Rattle.step_write.specs.declared.Stop.{Stop}
+use Rattle.step_write.specs.declared.Stop.TheVariants.{NoStep}
 use Rattle.step_rule.specs.Rules.{ImageOf, Stored, resting, Makes}
 use Rattle.step_enter.specs.declared.Parameters.{Parameters}
 use Rattle.step_enter.specs.Entering.{Enters}
 use Rattle.step_enter.proofs.ParameterLaws.{Fitting, fitting, with_values, absent-halts, uneven_halts, enters_with}
 use Rattle.step_enter.proofs.Around.{Around, nothing_makes, enters-makes}
 use Rattle.step_statement_switch.proofs.TheSwitch.{Switching, clause-found, next_is_lem}
-use Rattle.step_statement_switch.specs.Switching.{ClauseFor, other-cell, no-clause, other-count, the_clause, SwitchesOn, not_switched, switched}
+use Rattle.step_statement_switch.specs.Switching.{ClauseFor, other-cell, no-clause, other-count, the_clause, SwitchesOn, not_switched, switched, Switches}
 
 -- ── what is read and written ──
 
 -- a clause that is entered has as many parameters as the cell has values
-pub record Enterable (bytes : List ℕ) (cell : Cell) (row : Row) : Type 0 where
-  pub fits : Fitting bytes row
-  pub even : row.len ≡ cell.len
+pub record Enterable (cell : Cell) (row : Row) : Type 0 where
+  pub fits : Fitting row
+  pub even : row.places.len ≡ cell.len
 
-pub enterable : {frame : Frame} {bytes : List ℕ} {i : ℕ} {cell : Cell} {r : Maybe Parameters} {p : Parameters} → r ≡ Some p → ClauseFor frame bytes i cell r → Enterable bytes cell p.row
+pub enterable : {frame : Frame} {bytes : List ℕ} {i : ℕ} {cell : Cell} {r : Maybe Parameters} {p : Parameters} → r ≡ Some p → ClauseFor frame bytes i cell r → Enterable cell p.row
 enterable e (other-cell n) = let z : ◌≡◌ {A = ℕ} 0 1 = cc (e) in absurd (omega arith)
 enterable e (no-clause s c) = let z : ◌≡◌ {A = ℕ} 0 1 = cc (e) in absurd (omega arith)
 enterable e (other-count s c n) = let z : ◌≡◌ {A = ℕ} 0 1 = cc (e) in absurd (omega arith)
-enterable {bytes = bytes} {cell = cell} {p = p} e (the_clause {p = other} s c n) =
+enterable {cell = cell} {p = p} e (the_clause {p = other} s c n) =
     let same : other ≡ p = cc (e) in
-    subst (λ (z : Parameters). Enterable bytes cell z.row) same record { fits = fitting refl c.reads; even = n }
+    subst (λ (z : Parameters). Enterable cell z.row) same record { fits = fitting refl c.reads; even = n }
 
 -- what was entered is what the contract says, with the event and the slots that the code has
 pub switched_as : {frame : Frame} {bytes store events shown store' events' : List ℕ} {h : Header} {at' j n : ℕ} {cell : Cell} {p : Parameters} (ts : List Slot) {m : Result Step Stop}
-    → ClauseFor frame bytes h.position cell (Some p) → shown ≡ event_head 5 1 cell.id 0 cell.number → ts ≡ slots_at store cell.from p.row.len
-    → Enters store events h at' p.body shown j n (renamed (ids_in bytes p.row) ts) store' events' m → SwitchesOn frame bytes store events h at' cell j n store' events' m
+    → ClauseFor frame bytes h.position cell (Some p) → shown ≡ event_head 5 1 cell.id 0 cell.number → ts ≡ slots_at store cell.from p.row.places.len
+    → Enters store events h at' p.body shown j n (renamed (ids_of p.row) ts) store' events' m → SwitchesOn frame bytes store events h at' cell j n store' events' m
 switched_as {frame} {bytes} {store} {events} {shown} {store'} {events'} {h} {at'} {j} {n} {cell} {p} ts {m} c v w f =
     let q : ts ≡ slots_at store cell.from cell.len = w ∙ ap (slots_at store cell.from) (enterable refl c).even in
-    let F : List ℕ → List Slot → Type 0 = λ (x : List ℕ) (y : List Slot). Enters store events h at' p.body x j n (renamed (ids_in bytes p.row) y) store' events' m in
+    let F : List ℕ → List Slot → Type 0 = λ (x : List ℕ) (y : List Slot). Enters store events h at' p.body x j n (renamed (ids_of p.row) y) store' events' m in
     switched c (subst (λ (x : List ℕ). F x (slots_at store cell.from cell.len)) v (subst (F shown) q f))
+
+-- what is no slot refers to no cell
+pub no-value : {frame : Frame} {bytes store events : List ℕ} {h : Header} {at' j n : ℕ} → Switches frame bytes store events h at' no_slot j n store events (Err NoStep)
+unfolding cell_in'
+no-value = not_switched (other-cell (λ e. omega (arith, e)))
 
 -- ── the step ──
 
@@ -101,6 +106,6 @@ module _ {M : Machine} {P : Prog} {frame : Frame} {definitions : ℕ} {bytes sto
         let of = place_of l.cells in
         let tag = name_of cell'.id in
         let g = enters_with (clause-found p o t cell'.id f.finds) f.reads c.fields (s.enter cell'.number tag) refl of (u ∙ held c) in
-        let v : environment_of l.cells g.new ≡ renamed (ids_in bytes clause.row) (slots_at store cell'.from cell'.len) = g.slots ∙ ap (renamed (ids_in bytes clause.row)) (sym c.holds.are) in
+        let v : environment_of l.cells g.new ≡ renamed (ids_of clause.row) (slots_at store cell'.from cell'.len) = g.slots ∙ ap (renamed (ids_of clause.row)) (sym c.holds.are) in
         enters-makes o (Switch' cell'.number tag) g.what.1 g.new around (s.shown cell'.number tag g.what g.new (with_let c ∙ g.is))
         (g.next ∙ next_is_lem p o t cell'.number cell'.id) refl v w

@@ -1,33 +1,28 @@
 // A step that leaves cells and environment as they are: what IfC, PrintI64 and Exit of either machine write.
 #![tactic(auto)]
 
-ghost use Rattle.std.specs.Prelude.{◌≤◌, length};
-ghost use Rattle.step_header.specs.Headers.{Holds};
+ghost use Rattle.step_write.specs.Working.{Fit, Keeps};
 ghost use Rattle.step_write.specs.Writing.{head_bytes};
 ghost use Rattle.step_stay.specs.Staying.{Stays};
 
 use step_header::Header;
-use step_write::{EventHead, Step, Stop, finish};
+use step_write::{EventHead, Step, Stop, Work, finish};
 
 pub fn stay(
-    store: &mut [u8],
-    events: &mut [u8],
-    scratch: &[u8],
-    header: Header,
-    at: usize,
+    work: &mut Work<'_, '_>,
     position: u32,
     ended: bool,
     event: EventHead,
 ) -> Result<Step, Stop>
-    requires { Holds store.old header × (at ≤ length events.old) }
-    ensures { Stays store.old events.old header at position ended (head_bytes event) store.new events.new result }
+    requires { Fit work.old }
+    ensures { Stays work.old.store.now work.old.events.now work.old.header work.old.at position ended (head_bytes event) work.new.store.now work.new.events.now result × Keeps work.old work.new }
 {
     let next = Header {
         position,
         ended,
         stopped: false,
-        ..header
+        ..work.header
     };
-    let end = 64 + 16 * (header.heap as usize + header.entries as usize);
-    finish(store, events, at, event, next, end, 0, scratch, 0)
+    let end = 64 + 16 * (work.header.heap as usize + work.header.entries as usize);
+    finish(work, &[], event, next, end, 0, 0)
 }

@@ -15,8 +15,7 @@ use Rattle.model.specs.Machine.{Given, integer, outside_number, value}
 use Rattle.image_spec.specs.Parse.{Parsed, got, only_if, times, whole, each, All}
 use Rattle.image_spec.specs.Image.{if_some}
 use Rattle.image_spec.proofs.DirectoryLaws.{and_left, and_right}
-use Rattle.step_slots.specs.declared.Slot.{Slot}
-use Rattle.step_slots.specs.Slots.{slot_bytes, SlotOk, slot_parser, value_slot}
+use Rattle.step_slots.specs.Slots.{Slot, slot_bytes, SlotOk, slot_parser, value_slot}
 use Rattle.step_slots.specs.Views.{slot_at, slots_at, is_slot, all_slots}
 use Rattle.step_slots.proofs.SlotLaws.{slots_parse}
 use Rattle.step_slots.proofs.SlotBytes.{standing, slots_length, slots-bytes, slots-count}

@@ -1,6 +1,6 @@
 -- The values of a start, as code tests them. (proofs/ValueLaws.antt: this is whether `givens` of step_spec/specs/Events.antt has them.)
 use Rattle.std.specs.Prelude.{ℕ, ◌*◌, Bool, ◌&&◌, ◌||◌, List, eqb, ltb, length}
-use Rattle.step_slots.specs.declared.Slot.{Slot}
+use Rattle.step_slots.specs.Slots.{Slot}
 use Rattle.step_slots.specs.Views.{slots_at}
 use Rattle.step_spec.specs.Store.{every_slot}
 

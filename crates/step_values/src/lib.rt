@@ -2,16 +2,23 @@
 #![tactic(auto)]
 
 ghost use Rattle.std.specs.Prelude.{◌≡◌, ◌*◌, ◌≤◌, length};
+ghost use Rattle.step_slots.specs.Slots.{as_slot};
 ghost use Rattle.step_slots.specs.Views.{slots_at};
 ghost use Rattle.step_spec.specs.Store.{every_slot};
 ghost use Rattle.step_values.specs.Values.{given_ok_lem, are_given_lem};
 
+use step_slots::sort::Sort;
 use step_slots::{Slot, read};
 
 fn given_ok(value: Slot) -> bool
-    ensures { result ≡ given_ok_lem value }
+    ensures { result ≡ given_ok_lem (as_slot value) }
 {
-    value.id == 0 && (value.sort == 0 || (value.sort == 2 && value.payload < 256))
+    let is_value = match value.sort {
+        Sort::Integer => true,
+        Sort::Outside => value.payload < 256,
+        _ => false,
+    };
+    value.id == 0 && is_value
 }
 
 fn every_given(values: &[u8], n: usize) -> bool
@@ -19,7 +26,10 @@ fn every_given(values: &[u8], n: usize) -> bool
     ensures { result ≡ every_slot given_ok_lem (slots_at values.now 0 n) }
 {
     for i in 0..n {
-        if !given_ok(read(values, 16 * i)) {
+        let Some(value) = read(values, 16 * i) else {
+            return false;
+        };
+        if !given_ok(value) {
             return false;
         }
     }

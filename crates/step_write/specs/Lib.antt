@@ -1,2 +1,3 @@
 -- What is written for a step.
 pub mod Writing
+pub mod Working

@@ -4,12 +4,15 @@
 ghost use Rattle.std.specs.Prelude.{◌≡◌, [], ◌++◌, ◌&&◌, ◌+◌, ◌-◌, ◌*◌, ◌≤◌, ◌<◌, ◌^◌, leb, length, take, drop};
 ghost use Rattle.std.proofs.lemmas.List.Edits.{sets};
 ghost use Rattle.image_write_parts.specs.Puts.{Puts};
-ghost use Rattle.step_slots.specs.Slots.{slot_bytes};
+ghost use Rattle.step_slots.specs.Slots.{slot_bytes, as_slot};
+ghost use Rattle.step_header.specs.Headers.{Holds};
+ghost use Rattle.step_write.specs.Working.{Keeps};
 ghost use Rattle.step_write.specs.Writing.{head_bytes, size, Ending, Sealed, Finishes};
 
 use image_kinds::kinds::Kind;
 use image_write_bytes::bytes::{copy, move_up};
 use image_write_parts::{put_byte, store_pair};
+use step_header::state::State;
 use step_header::{Header, put_header};
 use step_slots::{Slot, put_four, put_long, put_slot};
 
@@ -25,6 +28,35 @@ pub struct Step {
 pub enum Stop {
     NoStep,
     NoRoom,
+}
+
+// What a step is made in: a store and the header of the state in it, an event buffer and the place of the next event. (Each of the two has a lifetime
+// of its own, so that one can be taken out while the other is lent.)
+#[derive(Drop)]
+pub struct Work<'s, 'e> {
+    pub store: &'s mut [u8],
+    pub events: &'e mut [u8],
+    pub header: Header,
+    pub at: usize,
+}
+
+// The store, to be read.
+pub fn store_of<'a>(work: &'a Work<'_, '_>) -> &'a [u8]
+    ensures { result.now ≡ work.now.store.now }
+{
+    work.store
+}
+
+// The state in the store.
+pub fn state_of<'a>(work: &'a Work<'_, '_>) -> State<'a>
+    requires { Holds work.now.store.now work.now.header }
+    ensures stored { result.store.now ≡ work.now.store.now }
+    ensures headed { result.header ≡ work.now.header }
+{
+    State {
+        store: work.store,
+        header: work.header,
+    }
 }
 
 // The sixteen bytes that an event begins with.
@@ -66,91 +98,94 @@ fn insert(store: &mut [u8], at: usize, n: usize, slots: &[u8], k: usize)
     copy(slots, 0, 16 * k, store, at);
 }
 
-// The event and the header of a step whose slots are written.
-fn seal(store: &mut [u8], events: &mut [u8], at: usize, event: EventHead, header: Header) -> Step
-    requires { (64 ≤ length store.old) × (at + 16 ≤ length events.old) }
-    ensures { Sealed store.old events.old at (head_bytes event) header store.new events.new result }
+// Is there room for the state with this header, and for so many bytes of events?
+pub fn fits(work: &Work<'_, '_>, header: Header, bytes: usize) -> bool
+    requires { Ending work.now.store.now work.now.events.now work.now.at header }
+    ensures { result ≡ leb (size header) (length work.now.store.now) && leb bytes (length work.now.events.now - work.now.at) }
 {
-    let next = put_event(events, at, event);
-    put_header(store, header);
+    has_room(work.store.len(), header, work.events.len(), work.at, bytes)
+}
+
+// The event and the header of a step whose slots are written.
+fn seal(work: &mut Work<'_, '_>, event: EventHead, header: Header) -> Step
+    requires { (64 ≤ length work.old.store.now) × (work.old.at + 16 ≤ length work.old.events.now) }
+    ensures { Sealed work.old.store.now work.old.events.now work.old.at (head_bytes event) header work.new.store.now work.new.events.now result × Keeps work.old work.new }
+{
+    let at = work.at;
+    let next = put_event(work.events, at, event);
+    put_header(work.store, header);
     Step { header, at: next }
 }
 
-// A step to a state with this header: from byte `from` on the first k of `slots`, then the n slots that stand there.
+// A step to a state with this header: from byte `from` on the first k slots of scratch, then the n slots that stand there.
 pub fn finish(
-    store: &mut [u8],
-    events: &mut [u8],
-    at: usize,
+    work: &mut Work<'_, '_>,
+    scratch: &[u8],
     event: EventHead,
     header: Header,
     from: usize,
     n: usize,
-    slots: &[u8],
     k: usize,
 ) -> Result<Step, Stop>
-    requires { Ending store.old events.old at header × ((from + 16 * (k + n) ≤ size header) × (16 * k ≤ length slots.now)) }
-    ensures { Finishes store.old events.old at header (head_bytes event) from (take (16 * k) slots.now ++ take (16 * n) (drop from store.old)) store.new events.new result }
+    requires { Ending work.old.store.now work.old.events.now work.old.at header × ((from + 16 * (k + n) ≤ size header) × (16 * k ≤ length scratch.now)) }
+    ensures { Finishes work.old.store.now work.old.events.now work.old.at header (head_bytes event) from (take (16 * k) scratch.now ++ take (16 * n) (drop from work.old.store.now)) work.new.store.now work.new.events.now result × Keeps work.old work.new }
 {
-    if !has_room(store.len(), header, events.len(), at, 16) {
+    if !fits(work, header, 16) {
         return Err(Stop::NoRoom);
     }
-    insert(store, from, n, slots, k);
-    Ok(seal(store, events, at, event, header))
+    insert(work.store, from, n, scratch, k);
+    Ok(seal(work, event, header))
 }
 
 // The same, with the slot `last` behind those n.
 pub fn finish_before(
-    store: &mut [u8],
-    events: &mut [u8],
-    at: usize,
+    work: &mut Work<'_, '_>,
+    scratch: &[u8],
     event: EventHead,
     header: Header,
     from: usize,
     n: usize,
     last: Slot,
-    slots: &[u8],
     k: usize,
 ) -> Result<Step, Stop>
-    requires { Ending store.old events.old at header × ((from + 16 * (k + n + 1) ≤ size header) × (16 * k ≤ length slots.now)) }
-    ensures { Finishes store.old events.old at header (head_bytes event) from (take (16 * k) slots.now ++ (take (16 * n) (drop from store.old) ++ slot_bytes last)) store.new events.new result }
+    requires { Ending work.old.store.now work.old.events.now work.old.at header × ((from + 16 * (k + n + 1) ≤ size header) × (16 * k ≤ length scratch.now)) }
+    ensures { Finishes work.old.store.now work.old.events.now work.old.at header (head_bytes event) from (take (16 * k) scratch.now ++ (take (16 * n) (drop from work.old.store.now) ++ slot_bytes (as_slot last))) work.new.store.now work.new.events.now result × Keeps work.old work.new }
 {
-    if !has_room(store.len(), header, events.len(), at, 16) {
+    if !fits(work, header, 16) {
         return Err(Stop::NoRoom);
     }
-    insert(store, from, n, slots, k);
-    put_slot(store, from + 16 * (k + n), last);
-    Ok(seal(store, events, at, event, header))
+    insert(work.store, from, n, scratch, k);
+    put_slot(work.store, from + 16 * (k + n), last);
+    Ok(seal(work, event, header))
 }
 
-// A step to a state with this header: from byte `from` on the first k of `slots`, then the n slots that stand at `entries`, before them.
+// A step to a state with this header: from byte `from` on the first k slots of scratch, then the n slots that stand at `entries`, before them.
 pub fn finish_entering(
-    store: &mut [u8],
-    events: &mut [u8],
-    at: usize,
+    work: &mut Work<'_, '_>,
+    scratch: &[u8],
     event: EventHead,
     header: Header,
     from: usize,
-    slots: &[u8],
     k: usize,
     entries: usize,
     n: usize,
 ) -> Result<Step, Stop>
-    requires { Ending store.old events.old at header × ((from + 16 * (k + n) ≤ size header) × ((entries + 16 * n ≤ from) × (16 * k ≤ length slots.now))) }
-    ensures { Finishes store.old events.old at header (head_bytes event) from (take (16 * k) slots.now ++ take (16 * n) (drop entries store.old)) store.new events.new result }
+    requires { Ending work.old.store.now work.old.events.now work.old.at header × ((from + 16 * (k + n) ≤ size header) × ((entries + 16 * n ≤ from) × (16 * k ≤ length scratch.now))) }
+    ensures { Finishes work.old.store.now work.old.events.now work.old.at header (head_bytes event) from (take (16 * k) scratch.now ++ take (16 * n) (drop entries work.old.store.now)) work.new.store.now work.new.events.now result × Keeps work.old work.new }
 {
-    if !has_room(store.len(), header, events.len(), at, 16) {
+    if !fits(work, header, 16) {
         return Err(Stop::NoRoom);
     }
     let to = from + 16 * k;
-    move_up(store, entries, 16 * n, to - entries);
-    copy(slots, 0, 16 * k, store, from);
-    Ok(seal(store, events, at, event, header))
+    move_up(work.store, entries, 16 * n, to - entries);
+    copy(scratch, 0, 16 * k, work.store, from);
+    Ok(seal(work, event, header))
 }
 
 // Moves the n slots from at up to leave a cell before them that holds them too, and a variable.
 fn put_closure(store: &mut [u8], at: usize, n: usize, head: Slot, var: Slot)
     requires { at + 16 * (n + n + 2) ≤ length store.old }
-    ensures { store.new ≡ sets store.old at (slot_bytes head ++ (take (16 * n) (drop at store.old) ++ (slot_bytes var ++ take (16 * n) (drop at store.old)))) }
+    ensures { store.new ≡ sets store.old at (slot_bytes (as_slot head) ++ (take (16 * n) (drop at store.old) ++ (slot_bytes (as_slot var) ++ take (16 * n) (drop at store.old)))) }
 {
     move_up(store, at, 16 * n, 16 * (n + 2));
     move_up(store, at, 16 * n, 16);
@@ -160,9 +195,7 @@ fn put_closure(store: &mut [u8], at: usize, n: usize, head: Slot, var: Slot)
 
 // A step to a state with this header: from byte `from` on a cell that holds the n slots that stand there, a variable, and these slots.
 pub fn finish_holding(
-    store: &mut [u8],
-    events: &mut [u8],
-    at: usize,
+    work: &mut Work<'_, '_>,
     event: EventHead,
     header: Header,
     from: usize,
@@ -170,33 +203,34 @@ pub fn finish_holding(
     head: Slot,
     var: Slot,
 ) -> Result<Step, Stop>
-    requires { Ending store.old events.old at header × (from + 16 * (n + n + 2) ≤ size header) }
-    ensures { Finishes store.old events.old at header (head_bytes event) from (slot_bytes head ++ (take (16 * n) (drop from store.old) ++ (slot_bytes var ++ take (16 * n) (drop from store.old)))) store.new events.new result }
+    requires { Ending work.old.store.now work.old.events.now work.old.at header × (from + 16 * (n + n + 2) ≤ size header) }
+    ensures { Finishes work.old.store.now work.old.events.now work.old.at header (head_bytes event) from (slot_bytes (as_slot head) ++ (take (16 * n) (drop from work.old.store.now) ++ (slot_bytes (as_slot var) ++ take (16 * n) (drop from work.old.store.now)))) work.new.store.now work.new.events.now result × Keeps work.old work.new }
 {
-    if !has_room(store.len(), header, events.len(), at, 16) {
+    if !fits(work, header, 16) {
         return Err(Stop::NoRoom);
     }
-    put_closure(store, from, n, head, var);
-    Ok(seal(store, events, at, event, header))
+    put_closure(work.store, from, n, head, var);
+    Ok(seal(work, event, header))
 }
 
 // A step without an event.
 pub fn finish_silent(
-    store: &mut [u8],
-    events: &mut [u8],
-    at: usize,
+    work: &mut Work<'_, '_>,
+    scratch: &[u8],
     header: Header,
     from: usize,
-    slots: &[u8],
     k: usize,
 ) -> Result<Step, Stop>
-    requires { Ending store.old events.old at header × ((from + 16 * k ≤ size header) × (16 * k ≤ length slots.now)) }
-    ensures { Finishes store.old events.old at header [] from (take (16 * k) slots.now) store.new events.new result }
+    requires { Ending work.old.store.now work.old.events.now work.old.at header × ((from + 16 * k ≤ size header) × (16 * k ≤ length scratch.now)) }
+    ensures { Finishes work.old.store.now work.old.events.now work.old.at header [] from (take (16 * k) scratch.now) work.new.store.now work.new.events.now result × Keeps work.old work.new }
 {
-    if !has_room(store.len(), header, events.len(), at, 0) {
+    if !fits(work, header, 0) {
         return Err(Stop::NoRoom);
     }
-    copy(slots, 0, 16 * k, store, from);
-    put_header(store, header);
-    Ok(Step { header, at })
+    copy(scratch, 0, 16 * k, work.store, from);
+    put_header(work.store, header);
+    Ok(Step {
+        header,
+        at: work.at,
+    })
 }

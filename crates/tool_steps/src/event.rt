@@ -1,4 +1,5 @@
 // Events as lines. The words are those of the listing's line for the statement, with what the event shows in place of the variables.
+use crate::sort::Sort;
 use crate::value::Value;
 use std::io::{self, Write};
 use tool_listing::page::Page;
@@ -48,7 +49,7 @@ impl<'a> Event<'a> {
         let tag = reader.half()?;
         let count = reader.word()? as usize;
         let bits = reader.double()?;
-        let value = Value::of(second, bits);
+        let value = Value::of(Sort::of(second), bits);
         let arguments = Reader::new(reader.take(SLOT * count)?);
         Some(match kind {
             3 => Event::Call { label: tag },
@@ -65,7 +66,7 @@ impl<'a> Event<'a> {
             10 => Event::IfC { then: second == 1 },
             12 => Event::PrintI64 {
                 newline: second == 1,
-                value: Value::of(0, bits),
+                value: Value::Integer(bits.cast_signed()),
             },
             _ => Event::Exit(value),
         })
@@ -74,7 +75,7 @@ impl<'a> Event<'a> {
 
 // The value of a slot.
 fn argument(reader: &mut Reader<'_>) -> Option<Value> {
-    let sort = reader.byte()?;
+    let sort = Sort::of(reader.byte()?);
     reader.take(7)?;
     Some(Value::of(sort, reader.double()?))
 }

@@ -1,4 +1,5 @@
 // Stores, and their slots.
+use crate::sort::Sort;
 use crate::value::Value;
 use try_building::reader::Reader;
 
@@ -13,7 +14,7 @@ const SLOT: usize = 16;
 #[derive(Clone, Copy, Debug, PartialEq, Eq)]
 pub enum Slot {
     // A value, with the entry's ID. The bits of a cell are the place of its own slot.
-    Held { sort: u8, bits: u64, id: u32 },
+    Held { sort: Sort, bits: u64, id: u32 },
     // The own slot of a cell that a Let made, with a tag.
     Let { cell: u64, tag: u32 },
     // The own slot of a cell that a Create made, with the place of its record.
@@ -22,20 +23,20 @@ pub enum Slot {
 
 impl Slot {
     fn read(reader: &mut Reader<'_>) -> Option<Slot> {
-        let sort = reader.byte()?;
+        let sort = Sort::of(reader.byte()?);
         reader.take(3)?;
         let number = reader.word()?;
         let bits = reader.double()?;
         Some(match sort {
-            3 => Slot::Let {
+            Sort::LetCell => Slot::Let {
                 cell: bits,
                 tag: number,
             },
-            4 => Slot::Create {
+            Sort::CreateCell => Slot::Create {
                 cell: bits,
                 record: number,
             },
-            _ => Slot::Held {
+            Sort::Integer | Sort::Cell | Sort::Outside => Slot::Held {
                 sort,
                 bits,
                 id: number,
@@ -107,7 +108,11 @@ impl<'a> Store<'a> {
     pub fn value(self, slot: Slot) -> Value {
         match slot {
             Slot::Let { cell, .. } | Slot::Create { cell, .. } => Value::Cell(cell),
-            Slot::Held { sort: 1, bits, .. } => Value::Cell(self.number_of(bits)),
+            Slot::Held {
+                sort: Sort::Cell,
+                bits,
+                ..
+            } => Value::Cell(self.number_of(bits)),
             Slot::Held { sort, bits, .. } => Value::of(sort, bits),
         }
     }

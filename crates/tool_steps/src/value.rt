@@ -1,4 +1,5 @@
 // Values as text.
+use crate::sort::Sort;
 use std::fmt;
 
 // A cell is shown by its number.
@@ -10,12 +11,12 @@ pub enum Value {
 }
 
 impl Value {
-    // The value of a sort with these bits.
-    pub fn of(sort: u8, bits: u64) -> Value {
+    // The value of a sort with these bits. No value has the sort of a cell's own slot.
+    pub fn of(sort: Sort, bits: u64) -> Value {
         match sort {
-            0 => Value::Integer(bits.cast_signed()),
-            1 => Value::Cell(bits),
-            _ => Value::Outside(bits),
+            Sort::Integer => Value::Integer(bits.cast_signed()),
+            Sort::Cell => Value::Cell(bits),
+            Sort::Outside | Sort::LetCell | Sort::CreateCell => Value::Outside(bits),
         }
     }
 }

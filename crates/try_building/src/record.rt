@@ -82,47 +82,68 @@ impl<'a> Record<'a> {
     pub fn of(bytes: &'a [u8]) -> Option<Record<'a>> {
         let mut reader = Reader::new(bytes);
         match reader.byte()? {
+            1 => Record::read_definition(&mut reader),
+            2 => Record::read_substitute(&mut reader),
+            3 => Record::read_call(&mut reader),
             4 => Record::read_let(&mut reader),
             5 => Record::read_switch(&mut reader),
             6 => Record::read_create(&mut reader),
             7 => Record::read_invoke(&mut reader),
+            8 => Record::read_literal(&mut reader),
             9 => Record::read_op(&mut reader),
             10 => Record::read_ifc(&mut reader),
-            kind => Record::read_short(kind, &mut reader),
+            11 => Record::read_clause(&mut reader),
+            12 => Record::read_print(&mut reader),
+            13 => Record::read_exit(&mut reader),
+            _ => None,
         }
     }
 
-    // A record of at most two parts.
-    fn read_short(kind: u8, reader: &mut Reader<'a>) -> Option<Record<'a>> {
-        match kind {
-            1 => Some(Record::Definition {
-                label: Identifier::read(reader)?,
-                parameters: List::read(reader)?,
-            }),
-            2 => Some(Record::Substitute {
-                pairs: List::read(reader)?,
-            }),
-            3 => Some(Record::Call {
-                label: Identifier::read(reader)?,
-                arguments: List::read(reader)?,
-            }),
-            8 => Some(Record::Literal {
-                value: reader.signed()?,
-                variable: Identifier::read(reader)?,
-            }),
-            11 => Some(Record::Clause {
-                tag: Identifier::read(reader)?,
-                parameters: List::read(reader)?,
-            }),
-            12 => Some(Record::PrintI64 {
-                newline: mark(reader)?,
-                variable: Identifier::read(reader)?,
-            }),
-            13 => Some(Record::Exit {
-                variable: Identifier::read(reader)?,
-            }),
-            _ => None,
-        }
+    fn read_definition(reader: &mut Reader<'a>) -> Option<Record<'a>> {
+        Some(Record::Definition {
+            label: Identifier::read(reader)?,
+            parameters: List::read(reader)?,
+        })
+    }
+
+    fn read_substitute(reader: &mut Reader<'a>) -> Option<Record<'a>> {
+        Some(Record::Substitute {
+            pairs: List::read(reader)?,
+        })
+    }
+
+    fn read_call(reader: &mut Reader<'a>) -> Option<Record<'a>> {
+        Some(Record::Call {
+            label: Identifier::read(reader)?,
+            arguments: List::read(reader)?,
+        })
+    }
+
+    fn read_literal(reader: &mut Reader<'a>) -> Option<Record<'a>> {
+        Some(Record::Literal {
+            value: reader.signed()?,
+            variable: Identifier::read(reader)?,
+        })
+    }
+
+    fn read_clause(reader: &mut Reader<'a>) -> Option<Record<'a>> {
+        Some(Record::Clause {
+            tag: Identifier::read(reader)?,
+            parameters: List::read(reader)?,
+        })
+    }
+
+    fn read_print(reader: &mut Reader<'a>) -> Option<Record<'a>> {
+        Some(Record::PrintI64 {
+            newline: mark(reader)?,
+            variable: Identifier::read(reader)?,
+        })
+    }
+
+    fn read_exit(reader: &mut Reader<'a>) -> Option<Record<'a>> {
+        Some(Record::Exit {
+            variable: Identifier::read(reader)?,
+        })
     }
 
     fn read_let(reader: &mut Reader<'a>) -> Option<Record<'a>> {

@@ -4,8 +4,8 @@ use mathlib.Core.Bool.{false≢true}
 use Rattle.syntax.specs.Sets.{distinct}
 use Rattle.step_call.proofs.is_sure.Goals as goal
 
-pub returns-then-stepper : goal.returns-then-stepper
-returns-then-stepper c = λ _ t. ap distinct (sym c.entries_row.ensures.ids) ∙ (sym c.distinct.ensures ∙ t)
+pub returns-in-Source : goal.returns-in-Source
+returns-in-Source c = λ _ t. absurd (false≢true t)
 
-pub returns-else-stepper : goal.returns-else-stepper
-returns-else-stepper c = λ e _. absurd (false≢true (sym c.if-stepper.false ∙ e))
+pub returns-in-Linear : goal.returns-in-Linear
+returns-in-Linear c = λ _ t. ap distinct (sym c.entries_row.ensures) ∙ (sym c.distinct.ensures ∙ t)

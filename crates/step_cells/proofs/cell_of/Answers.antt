@@ -1,21 +1,38 @@
-use mathlib.Core.Path.{refl, ◌∙◌}
-use native.Mathlib.Omega.{arith}
-use Rattle.step_cells.proofs.HeldLaws.{no-reference, past-reference, reference}
+-- `cell_of` meets its contract. Assumes nothing.
+use mathlib.Core.Path.{◌≡◌, refl, sym, ◌∙◌}
+use mathlib.Core.Bool.{Bool, true, false, not, true≢false, false≢true}
+use Rattle.step_slots.specs.declared.sort.Sort.TheVariants.{Cell}
+use Rattle.step_slots.specs.Slots.{as_slot}
+use Rattle.step_slots.proofs.SortLaws.{codes_same, codes_differ, none_there}
+use Rattle.step_cells.proofs.HeldLaws.{no-reference, past-reference, own-slot, reference}
 use Rattle.step_cells.proofs.cell_of.Goals as goal
-use Rattle.step_cells.proofs.cell_of.Goals.{then-value-ne1-via-then-value-ne1, then-value-ne1-via-else-value-ne1+then-heap-at}
+use Rattle.step_cells.proofs.cell_of.Goals.{then-ne-via-then-ne, then-ne-via-else-ne+then-heap-at}
 
-pub returns-then-value-ne1 : goal.returns-then-value-ne1
-returns-then-value-ne1 c =
-    let a = c.args in
-    c.no_cell.ensures ∙ elim c.then-value-ne1.branch [
-      | then-value-ne1-via-then-value-ne1 w ↦ no-reference _ a.value w.if-value-ne1.true
-      | then-value-ne1-via-else-value-ne1+then-heap-at w ↦ past-reference a.store.now a.header a.value refl refl w.if-heap-at.true
+unlike : {b t : Bool} → t ≡ not b → t ≡ true → b ≡ false
+unlike {b = true} e h = absurd (false≢true (sym e ∙ h))
+unlike {b = false} e h = refl
+
+alike : {b t : Bool} → t ≡ not b → t ≡ false → b ≡ true
+alike {b = true} e h = refl
+alike {b = false} e h = absurd (true≢false (sym e ∙ h))
+
+pub returns-then-ne : goal.returns-then-ne
+returns-then-ne c =
+    let s = c.args.state.now in
+    let t = c.args.value in
+    elim c.then-ne.branch [
+      | then-ne-via-then-ne w ↦ no-reference _ (as_slot t) (codes_differ t.sort Cell refl (unlike c.ne.ensures w.if-ne.true))
+      | then-ne-via-else-ne+then-heap-at w ↦ past-reference s.store.now s.header (as_slot t) refl refl w.if-heap-at.true
     ]
 
-pub held_count-len-requires : goal.held_count-len-requires
-held_count-len-requires c = (omega (arith, c.requires.inside), (c.if-heap-at.false, c.requires.heap))
+pub returns-in_err-own : goal.returns-in_err-own
+returns-in_err-own c =
+    let s = c.args.state.now in
+    absurd (true≢false (sym (own-slot s.store.now s.header.heap c.args.value.payload c.if-heap-at.false s.holds.heap) ∙ none_there c.in_err-own.ensures))
 
 pub returns : goal.returns
 returns c =
-    let a = c.args in
-    reference a.store.now a.header a.value refl refl c.if-value-ne1.false c.if-heap-at.false c.read-own.ensures c.held_count-len.ensures
+    let s = c.args.state.now in
+    let t = c.args.value in
+    reference s.store.now s.header (as_slot t) refl refl (codes_same t.sort Cell refl (alike c.ne.ensures c.if-ne.false)) c.if-heap-at.false
+    {own = as_slot c.in_ok-own.own} c.in_ok-own.ensures c.held_count-len.ensures

@@ -1,6 +1,5 @@
 -- `erase` meets its contract. Assumes nothing.
 use Rattle.step_gather.proofs.Renaming.{put-zeros}
-use borrow.Author.Rules.{rules}
 use Rattle.step_gather.proofs.erase.Goals as goal
 
 pub returns : goal.returns

@@ -1,9 +1,5 @@
 use Rattle.image_write_parts.proofs.Putting.{puts_then}
 use Rattle.image_spec.specs.Parse.{field}
-use borrow.Author.Rules.{rules}
-use Rattle.step_header.proofs.put_zeros.Reads as reads
-use Rattle.step_header.proofs.put_zeros.Lts as lts
-use Rattle.step_slots.proofs.put_long.Reads as put-long-reads
 use Rattle.step_header.proofs.put_zeros.Goals as goal
 
 pub returns : goal.returns

@@ -1,7 +1,5 @@
-use mathlib.Core.Path.{◌≡◌, refl, ap, sym, ◌∙◌}
+use mathlib.Core.Path.{◌≡◌, refl, ◌∙◌}
 use mathlib.Core.Bool.{false, ◌&&◌}
-use mathlib.Core.Bool.{and_comm}
-use mathlib.Core.Logic.{◌⊎◌}
 use Rattle.step_header.proofs.HeaderLaws.{no_ended, no_stopped, header_parse}
 use Rattle.step_header.proofs.read_header.Goals as goal
 use Rattle.step_header.proofs.read_header.Goals.{After-all_zero-long_zeros, else-short_zeros-via-then-short_zeros+else-long_zeros, else-short_zeros-via-else-short_zeros}

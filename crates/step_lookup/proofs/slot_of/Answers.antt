@@ -2,7 +2,4 @@ use native.Mathlib.Omega.{arith}
 use Rattle.step_lookup.proofs.slot_of.Goals as goal
 
 pub find-requires : goal.find-requires
-find-requires c = (omega (arith, c.requires.inside), c.requires.entries)
-
-pub returns : goal.returns
-returns c = c.find.ensures
+find-requires c = let h = c.args.state.now.holds in (omega (arith, h.inside), h.entries)

@@ -6,12 +6,11 @@ use Rattle.image_kinds.specs.Codes.{code_of}
 use Rattle.image_read_nodes.specs.Nodes.{At}
 use Rattle.step_order.proofs.InOrderLaws.{orders}
 use Rattle.step_order.proofs.StopLaws.{reads-stored, in_order-stops, out-of_order_stops}
-use borrow.Author.Rules.{rules}
 use Rattle.step_order.proofs.stops.Goals as goal
 use Rattle.step_order.proofs.stops.Goals.{After-parts_of-kind}
 
 -- the record at the position has the kind that was read
-placed : (c : After-parts_of-kind) → let a = c.args in At a.stepper.now.image.frame a.stepper.now.image.bytes.now a.header.position (code_of c.parts_of-kind.result.kind)
+placed : (c : After-parts_of-kind) → let a = c.args in At a.stepper.now.image.frame a.stepper.now.image.bytes.now a.state.now.header.position (code_of c.parts_of-kind.result.kind)
 placed c = let a = c.args in subst (λ (i : ℕ). At a.stepper.now.image.frame a.stepper.now.image.bytes.now i (code_of c.parts_of-kind.result.kind)) c.long.ensures c.parts_of-kind.ensures.at
 
 pub in_order-requires : goal.in_order-requires

@@ -1,10 +1,9 @@
 -- `stops_entering` meets its contract. Assumes nothing.
 use Rattle.step_order.proofs.StopLaws.{reads-stored, others-go}
-use borrow.Author.Rules.{rules}
 use Rattle.step_order.proofs.stops_entering.Goals as goal
 
 pub returns-in-Call : goal.returns-in-Call
-returns-in-Call c = c.call.ensures c.args.store.now
+returns-in-Call c = c.call.ensures c.args.state.now.store.now
 
 pub returns-in_default : goal.returns-in_default
 returns-in_default c = record { is = λ P l p o e g. others-go p (reads-stored o e g) c.args.kind c.requires.0 c.in_default.not-Call c.in_default.not-Switch c.in_default.not-Invoke }

@@ -1,17 +1,9 @@
 -- `behind` meets its contract. Assumes nothing.
-use borrow.Author.Rules.{rules}
-use Prim.Native.Nat.{◌*◌, ◌≤◌}
-use native.Mathlib.Omega.{arith}
-use native.Mathlib.Nat.{mul-le-mul_left}
+use mathlib.Core.Path.{subst, sym}
+use Rattle.step_rows.specs.Placing.{Inside}
+use Rattle.step_rows.specs.declared.places.Places.{Places}
+use Rattle.step_rows.proofs.RowLaws.{inside-behind}
 use Rattle.step_rows.proofs.behind.Goals as goal
-use Rattle.step_rows.proofs.behind.Goals.{Start}
 
--- the elements before place k are no more than all
-before : (c : Start) → c.args.row.stride * c.args.k ≤ c.args.row.stride * c.args.row.len
-before c = mul-le-mul_left c.args.row.stride c.requires.0
-
-pub overflow_mul-result : goal.overflow_mul-result
-overflow_mul-result c = omega (arith, before (goal.at.overflow_mul-result c).Start)
-
-pub overflow_add-result : goal.overflow_add-result
-overflow_add-result c = omega (arith, before (goal.at.overflow_add-result c).Start)
+pub invariant_of-result : goal.invariant_of-result
+invariant_of-result c = record { inside = subst (λ (p : Places). Inside c.args.row.now.bytes.now p) (sym c.places_behind.ensures) (inside-behind c.args.row.now.bytes.now c.args.row.now.places c.args.k c.args.row.now.inside c.requires) }

@@ -12,20 +12,24 @@ full_is : (c : After-eq) → c.eq.result ≡ is_full c.in-Err.stop
 full_is c = search rules
 
 pub returns-in-Err : goal.returns-in-Err
-returns-in-Err c =
-    let a = c.args in
-    going-stops (lawful_in a.stepper.now.linear) a.stepper.now a.stepper.now.image.bytes.now a.steps a.store.now a.events.now a.header c.loop-made.invariant.0 c.loop-made-test.true _ refl
-    c.in-Err.stop (full_is (goal.at.returns-in-Err c).After-eq) (advances_as c.advance.ensures c.in-Err.is)
+returns-in-Err c = (
+  let a = c.args in
+      going-stops (lawful_in a.stepper.now.machine) a.stepper.now a.stepper.now.image.bytes.now a.steps a.work.now.store.now a.work.now.events.now a.work.now.header c.loop-made.invariant.0 c.loop-made-test.true _ refl
+      c.in-Err.stop (full_is (goal.at.returns-in-Err c).After-eq) (advances_as c.advance.ensures.0 c.in-Err.is),
+  search rules,
+)
 
 pub loop-made-preserved : goal.loop-made-preserved
 loop-made-preserved c =
     let a = c.args in
     let i = c.loop-made.invariant in
-    let e = advances_as c.advance.ensures c.in-Ok.is in
-    let g = going_next (lawful_in a.stepper.now.linear) a.stepper.now a.stepper.now.image.bytes.now a.steps a.store.now a.events.now a.header i.0 c.loop-made-test.true e in
-    (g, (advance_sure e i.0.lives i.1.0, (search rules, (search rules, search rules))))
+    let e = advances_as c.advance.ensures.0 c.in-Ok.is in
+    let g = going_next (lawful_in a.stepper.now.machine) a.stepper.now a.stepper.now.image.bytes.now a.steps a.work.now.store.now a.work.now.events.now a.work.now.header i.0 c.loop-made-test.true e in
+    (g, (advance_sure e i.0.lives i.1.0, search rules))
 
 pub returns : goal.returns
-returns c =
-    let a = c.args in
-    going-all (lawful_in a.stepper.now.linear) a.stepper.now a.stepper.now.image.bytes.now a.steps a.store.now a.events.now a.header _ (omega (arith, c.loop-made.auto.made-end, c.loop-made-test.false)) c.loop-made-test.false c.loop-made.invariant.0
+returns c = (
+  let a = c.args in
+      going-all (lawful_in a.stepper.now.machine) a.stepper.now a.stepper.now.image.bytes.now a.steps a.work.now.store.now a.work.now.events.now a.work.now.header _ (omega (arith, c.loop-made.auto.made-end, c.loop-made-test.false)) c.loop-made-test.false c.loop-made.invariant.0,
+  search rules,
+)

@@ -1,6 +1,7 @@
 -- `run` meets its contract. Assumes nothing.
 use mathlib.Core.Path.{◌≡◌}
 use lib.ListN.{length}
+use Rattle.step_write.specs.Working.{Keeps}
 use Rattle.step_order.specs.Sure.{SureIn}
 use Rattle.step_turn.proofs.RestLaws.{lawful_in}
 use Rattle.step_run.proofs.LoopLaws.{Going}
@@ -8,5 +9,5 @@ use Rattle.step_run.proofs.run.Given as goal
 
 abbrev pub invariant-loop-made : goal.invariant-loop-made
 invariant-loop-made l =
-    Going (lawful_in l.stepper.linear) l.stepper l.stepper.image.bytes.now l.steps l.initial.store l.initial.events l.initial.here l.made l.store l.events l.here l.at
-    × (SureIn l.stepper l.sure l.store l.here × ((length l.store ≡ length l.initial.store) × ((length l.events ≡ length l.initial.events) × (length l.scratch ≡ length l.initial.scratch))))
+    Going (lawful_in l.stepper.machine) l.stepper l.stepper.image.bytes.now l.steps l.initial.work.store.now l.initial.work.events.now l.initial.work.header l.made l.work.store.now l.work.events.now l.work.header l.work.at
+    × (SureIn l.stepper l.sure l.work.store.now l.work.header × ((length l.scratch ≡ length l.initial.scratch) × Keeps l.initial.work l.work))

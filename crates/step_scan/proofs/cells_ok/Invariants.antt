@@ -1,5 +1,6 @@
+use Rattle.step_slots.specs.Sorts.{own_code}
 use Rattle.step_scan.proofs.PassLaws.{Left}
 use Rattle.step_scan.proofs.cells_ok.Given as goal
 
 abbrev pub invariant-loop-i : goal.invariant-loop-i
-invariant-loop-i l = Left l.image.frame l.image.bytes.now l.store l.cells l.heap l.k l.f l.i
+invariant-loop-i l = Left l.image.frame l.image.bytes.now l.store l.cells l.heap l.k (own_code l.own) l.i

@@ -1,12 +1,16 @@
 use mathlib.Core.Path.{sym, ap, ◌∙◌}
-use borrow.Author.Tests.{le-ltb}
 use lib.Dec.{leb}
-use Rattle.step_slots.specs.declared.Slot.{Slot}
+use Rattle.step_slots.specs.Slots.{Slot}
 use Rattle.step_scan.proofs.PassLaws.{cell_at, cell-past}
 use Rattle.step_scan.proofs.is_cell.Goals as goal
 
-pub returns-then-i-heap : goal.returns-then-i-heap
-returns-then-i-heap c = let a = c.args in ap (λ (t : Slot). leb 3 t.sort) c.read.ensures ∙ sym (cell_at a.store.now 64 a.heap a.p c.if-i-heap.true)
+pub returns-then-heap-i : goal.returns-then-heap-i
+returns-then-heap-i c = let a = c.args in sym (cell-past a.store.now 64 a.heap a.p c.if-heap-i.true)
 
-pub returns-else-i-heap : goal.returns-else-i-heap
-returns-else-i-heap c = let a = c.args in le-ltb a.p a.heap c.if-i-heap.false ∙ sym (cell-past a.store.now 64 a.heap a.p c.if-i-heap.false)
+pub returns-in-Some : goal.returns-in-Some
+returns-in-Some c =
+    let a = c.args in
+    c.begins_cell.ensures ∙ (ap (λ (t : Slot). leb 3 t.sort) c.in-Some.ensures ∙ sym (cell_at a.store.now 64 a.heap a.p c.if-heap-i.false))
+
+pub returns-in-None : goal.returns-in-None
+returns-in-None c = let a = c.args in ap (λ (t : Slot). leb 3 t.sort) c.in-None.ensures ∙ sym (cell_at a.store.now 64 a.heap a.p c.if-heap-i.false)

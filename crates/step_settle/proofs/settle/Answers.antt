@@ -1,33 +1,26 @@
-use mathlib.Core.Path.{◌≡◌, refl, sym, ◌∙◌}
-use mathlib.Core.Bool.{Bool, true, false, not, false≢true}
+-- `settle` meets its contract. Assumes nothing.
+use mathlib.Core.Path.{sym, ◌∙◌}
 use Rattle.step_spec.specs.Located.{project}
 use Rattle.step_spec.proofs.NeverStops.{source-never-stops}
 use Rattle.step_rule.proofs.Views.{views}
-use Rattle.step_settle.proofs.SettleLaws.{settles_as, settles-same, settles-stopped, ended-goes}
+use Rattle.step_settle.proofs.SettleLaws.{settles_as, settles-same, settles-stopped, is_source, is-linear, ended-goes}
 use Rattle.step_settle.proofs.settle.Goals as goal
-use Rattle.step_settle.proofs.settle.Goals.{else-not-header-via-then-not-header+then-stepper+else-stops, else-not-header-via-then-not-header+else-stepper, else-not-header-via-else-not-header}
+use Rattle.step_settle.proofs.settle.Goals.{then-header-via-then-header, then-header-via-else-header+then-eq}
 
-clear : (b : Bool) → not b ≡ true → b ≡ false
-clear false e = refl
-clear true e = absurd (false≢true e)
-
-set : (b : Bool) → not b ≡ false → b ≡ true
-set true e = refl
-set false e = absurd (false≢true (sym e))
+pub returns-then-header : goal.returns-then-header
+returns-then-header c =
+    let k = c.args.stepper.now.machine in
+    elim c.then-header.branch [
+      | then-header-via-then-header w ↦ settles-same (λ P l p o s. ended-goes k o w.if-header.true)
+      | then-header-via-else-header+then-eq w ↦ settles_as (is_source k w.eq.ensures w.if-eq.true) (settles-same (λ P l p o s. source-never-stops P (project P l)))
+    ]
 
 pub returns-then-stops : goal.returns-then-stops
 returns-then-stops c =
-    settles_as c.if-stepper.true
-    (settles-stopped (λ P l p o s. sym (c.stops.ensures.is P l p o (sym (views o).ended ∙ clear _ c.if-not-header.true) s) ∙ c.if-stops.true) c.stop.ensures.0 c.stop.ensures.1)
+    settles_as (is-linear c.args.stepper.now.machine c.eq.ensures c.if-eq.false)
+    (settles-stopped (λ P l p o s. sym (c.stops.ensures.is P l p o (sym (views o).ended ∙ c.if-header.false) s) ∙ c.if-stops.true) c.stop.ensures.0 c.stop.ensures.1)
 
 pub returns : goal.returns
 returns c =
-    let a = c.args in
-    elim c.else-not-header.branch [
-      | else-not-header-via-then-not-header+then-stepper+else-stops w ↦
-          settles_as w.if-stepper.true
-          (settles-same (λ P l p o s. sym (w.stops.ensures.is P l p o (sym (views o).ended ∙ clear _ w.if-not-header.true) s) ∙ w.if-stops.false))
-      | else-not-header-via-then-not-header+else-stepper w ↦
-          settles_as w.if-stepper.false (settles-same (λ P l p o s. source-never-stops P (project P l)))
-      | else-not-header-via-else-not-header w ↦ settles-same (λ P l p o s. ended-goes a.stepper.now.linear o (set _ w.if-not-header.false))
-    ]
+    settles_as (is-linear c.args.stepper.now.machine c.eq.ensures c.if-eq.false)
+    (settles-same (λ P l p o s. sym (c.stops.ensures.is P l p o (sym (views o).ended ∙ c.if-header.false) s) ∙ c.if-stops.false))

@@ -1,15 +1,23 @@
 -- `finish_showing` meets its contract. Assumes nothing.
-use mathlib.Core.Path.{refl}
+use mathlib.Core.Path.{◌≡◌, refl}
+use borrow.Author.Rules.{rules}
 use Rattle.step_show.proofs.ShownLaws.{showing_full, showing_finishes}
 use Rattle.step_show.proofs.finish_showing.Goals as goal
 
-pub returns-then-not-has_room : goal.returns-then-not-has_room
-returns-then-not-has_room c =
-    let a = c.args in
-    showing_full a.store.now a.events.now a.at a.event a.header a.store.now a.from a.n c.has_room.result c.has_room.ensures c.if-not-has_room.true
+pub returns-then-not-fits : goal.returns-then-not-fits
+returns-then-not-fits c = (
+  let a = c.args in
+      showing_full a.work.now.store.now a.work.now.events.now a.work.now.at a.event a.header a.work.now.store.now a.from a.n c.fits.result c.fits.ensures c.if-not-fits.true,
+  search rules,
+)
 
 pub returns : goal.returns
-returns c =
-    let a = c.args in
-    showing_finishes a.store.now a.events.now a.at a.event a.header a.store.now a.from a.n c.has_room.result c.has_room.ensures c.if-not-has_room.false
-    refl c.put_event-values.ensures c.show-next.ensures c.put_header.ensures.holds
+returns c = (
+  let a = c.args in
+      let e : c.take-events.result.now ≡ c.put_event-values.new.events = search rules in
+      let s : c.store_of-store.result.now ≡ a.work.now.store.now = search rules in
+      let p = rw (e, s) at c.show-next.ensures in
+      showing_finishes a.work.now.store.now a.work.now.events.now a.work.now.at a.event a.header a.work.now.store.now a.from a.n c.fits.result c.fits.ensures c.if-not-fits.false
+      refl c.put_event-values.ensures p c.put_header.ensures.holds,
+  search rules,
+)

@@ -2,10 +2,6 @@ use Rattle.image_spec.specs.Parse.{field}
 use Rattle.image_write_parts.proofs.Putting.{puts_as, puts_then}
 use Rattle.step_slots.proofs.PutLaws.{pairs}
 use mathlib.Core.Path.{sym}
-use borrow.Author.Rules.{rules}
-use Rattle.step_slots.proofs.put_four.Reads as reads
-use Rattle.step_slots.proofs.put_four.Lts as lts
-use Rattle.image_write_parts.proofs.store_pair.Reads as store-pair-reads
 use Rattle.step_slots.proofs.put_four.Goals as goal
 
 pub returns : goal.returns

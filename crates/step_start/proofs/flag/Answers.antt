@@ -1,17 +1,17 @@
 -- `flag` meets its contract. Assumes nothing.
-use mathlib.Core.Path.{◌≡◌, sym, ◌∙◌}
-use mathlib.Core.Bool.{true, false≢true}
+use mathlib.Core.Path.{sym, ◌∙◌}
+use mathlib.Core.Bool.{false≢true}
+use Rattle.step_ask.proofs.KindLaws.{is-source, is-linear}
 use Rattle.step_start.proofs.FlagLaws.{flags-settled, flags-stopped, flags_clear}
-use borrow.Author.Rules.{rules}
 use Rattle.step_start.proofs.flag.Goals as goal
 
 pub settle-requires : goal.settle-requires
 settle-requires c =
-    let p = c.requires.1 in
+    let p = c.requires in
     (p.0, (p.1, λ _ t. absurd (false≢true t)))
 
-pub returns-then-not-stepper : goal.returns-then-not-stepper
-returns-then-not-stepper c = flags_clear (search rules)
+pub returns-then-eq : goal.returns-then-eq
+returns-then-eq c = flags_clear (is-source c.args.stepper.now.machine c.eq.ensures c.if-eq.true)
 
 pub returns-then-distinct : goal.returns-then-distinct
 returns-then-distinct c =
@@ -19,5 +19,5 @@ returns-then-distinct c =
 
 pub returns-else-distinct : goal.returns-else-distinct
 returns-else-distinct c =
-    let linear : c.args.stepper.now.linear ≡ true = search rules in
+    let linear = is-linear c.args.stepper.now.machine c.eq.ensures c.if-eq.false in
     flags-stopped linear (sym c.distinct.ensures ∙ c.if-distinct.false) c.stop.ensures.0

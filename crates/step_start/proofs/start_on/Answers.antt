@@ -15,7 +15,7 @@ pub returns-in_err-i : goal.returns-in_err-i
 returns-in_err-i c =
     let e : c.from_residual.result ≡ Err NoState = search rules in
     let a = c.args in
-    rw e (record { starts = λ P p o. starts_nowhere c.find_definition.ensures p (search rules) (machine_for a.linear) a.values.now a.store.now })
+    rw e (record { starts = λ P p o. starts_nowhere c.find_definition.ensures p (search rules) (machine_for a.machine) a.values.now a.store.now })
 
 pub returns : goal.returns
 returns c = record { starts = starts-there c.find_definition.ensures (search rules) c.start_in.ensures }

@@ -6,13 +6,16 @@ use Rattle.step_settle.proofs.Reading.{reads-holds, reads-inside}
 use Rattle.step_turn.proofs.RestLaws.{ended-rests, stopped-rests, asked-stopped, asked-holds, asked-step}
 use Rattle.step_turn.proofs.SureLaws.{asked_sure}
 use Rattle.step_turn.proofs.advance.Goals as goal
-use Rattle.step_turn.proofs.advance.Goals.{then-header-via-then-header, then-header-via-else-header+then-header-2}
+use Rattle.step_turn.proofs.advance.Goals.{then-work-via-then-work, then-work-via-else-work+then-work-2}
 
-pub returns-then-header : goal.returns-then-header
-returns-then-header c = elim c.then-header.branch [
-  | then-header-via-then-header w ↦ ended-rests w.if-header.true
-  | then-header-via-else-header+then-header-2 w ↦ stopped-rests w.if-header-2.true
-]
+pub returns-then-work : goal.returns-then-work
+returns-then-work c = (
+  elim c.then-work.branch [
+    | then-work-via-then-work w ↦ ended-rests w.if-work.true
+    | then-work-via-else-work+then-work-2 w ↦ stopped-rests w.if-work-2.true
+  ],
+  search rules,
+)
 
 pub parts_of-follows-requires : goal.parts_of-follows-requires
 parts_of-follows-requires c =
@@ -23,19 +26,21 @@ parts_of-follows-requires c =
 pub statement-requires : goal.statement-requires
 statement-requires c =
     let p = c.requires in
-    record { record' = c.parts_of-follows.ensures.at; holds = reads-holds p.1.0.living.reads; place = p.0.place; scratch' = p.0.room }
+    (record { record' = c.parts_of-follows.ensures.at; fit = record { holds = reads-holds p.1.0.living.reads; place = p.0.place } }, p.0.room)
 
 pub returns-in_err-step : goal.returns-in_err-step
-returns-in_err-step c =
-    let e : c.from_residual.result ≡ Err c.in_err-step.field-0.0 = search rules in
-    rw e (asked-stopped c.if-header.false c.if-header-2.false c.statement.ensures c.in_err-step.was)
+returns-in_err-step c = (
+  let e : c.from_residual.result ≡ Err c.in_err-step.field-0.0 = search rules in
+      rw e (asked-stopped c.if-work.false c.if-work-2.false c.statement.ensures.0 c.in_err-step.was),
+  search rules,
+)
 
 pub settle-requires : goal.settle-requires
 settle-requires c =
     let p = c.requires in
-    let h = asked-holds c.if-header.false c.if-header-2.false c.statement.ensures c.in_ok-step.was c.args.stepper.now.image.ready p.1.0 in
-    let f = asked_sure c.if-header.false c.if-header-2.false c.statement.ensures c.in_ok-step.was p.1.0 p.1.1 in
+    let h = asked-holds c.if-work.false c.if-work-2.false c.statement.ensures.0 c.in_ok-step.was c.args.stepper.now.image.ready p.1.0 in
+    let f = asked_sure c.if-work.false c.if-work-2.false c.statement.ensures.0 c.in_ok-step.was p.1.0 p.1.1 in
     (h.0, (h.1, f))
 
 pub returns : goal.returns
-returns c = asked-step c.if-header.false c.if-header-2.false c.statement.ensures c.in_ok-step.was c.settle.ensures
+returns c = (asked-step c.if-work.false c.if-work-2.false c.statement.ensures.0 c.in_ok-step.was c.settle.ensures, search rules)

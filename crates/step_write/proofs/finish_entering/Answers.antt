@@ -1,3 +1,4 @@
+use borrow.Author.Rules.{rules}
 use mathlib.Core.Path.{◌≡◌, sym, ap, ◌∙◌}
 use mathlib.Core.List.{List}
 use Prim.Native.Nat.{ℕ, ◌+◌, ◌-◌, ◌*◌}
@@ -9,16 +10,18 @@ use Rattle.step_write.specs.Writing.{finished-full}
 use Rattle.step_write.proofs.FinishLaws.{finishes}
 use Rattle.step_write.proofs.finish_entering.Goals as goal
 
-pub returns-then-not-has_room : goal.returns-then-not-has_room
-returns-then-not-has_room c = finished-full (sym c.has_room.ensures ∙ c.if-not-has_room.true)
+pub returns-then-not-fits : goal.returns-then-not-fits
+returns-then-not-fits c = (finished-full (sym c.fits.ensures ∙ c.if-not-fits.true), search rules)
 
 pub returns : goal.returns
-returns c =
-    let a = c.args in
-    let front = take (16 * a.k) a.slots.now in
-    let held = take (16 * a.n) (drop a.entries a.store.now) in
-    let k : a.entries + (a.from + 16 * a.k - a.entries) ≡ a.from + 16 * a.k = omega (arith, c.requires.1.1.0) in
-    let e = c.copy.ensures.holds
-    ∙ (ap (λ (z : List ℕ). sets z a.from front) (c.move_up.ensures ∙ ap (λ (i : ℕ). sets a.store.now i held) k)
-    ∙ sets_reserved front a.store.now a.from (16 * a.k) held (length-take-le (16 * a.k) a.slots.now c.requires.1.1.1)) in
-    finishes c.has_room.result c.has_room.ensures c.if-not-has_room.false e c.seal.ensures
+returns c = (
+  let a = c.args in
+      let front = take (16 * a.k) a.scratch.now in
+      let held = take (16 * a.n) (drop a.entries a.work.now.store.now) in
+      let k : a.entries + (a.from + 16 * a.k - a.entries) ≡ a.from + 16 * a.k = omega (arith, c.requires.1.1.0) in
+      let e = c.copy.ensures.holds
+      ∙ (ap (λ (z : List ℕ). sets z a.from front) (c.move_up.ensures ∙ ap (λ (i : ℕ). sets a.work.now.store.now i held) k)
+      ∙ sets_reserved front a.work.now.store.now a.from (16 * a.k) held (length-take-le (16 * a.k) a.scratch.now c.requires.1.1.1)) in
+      finishes c.fits.result c.fits.ensures c.if-not-fits.false e c.seal.ensures.0,
+  search rules,
+)

@@ -4,11 +4,6 @@ use mathlib.Core.List.{List}
 use lib.ListN.{take, drop}
 use lib.Seq.{sets, length-take-le}
 use Rattle.image_write_parts.proofs.Putting.{sets_reserved}
-use borrow.Author.Rules.{rules}
-use Rattle.step_write.proofs.insert.Reads as reads
-use Rattle.step_write.proofs.insert.Lts as lts
-use Rattle.image_write_bytes.proofs.bytes.copy.Reads as copy-reads
-use Rattle.image_write_bytes.proofs.bytes.move_up.Reads as move-up-reads
 use Rattle.step_write.proofs.insert.Goals as goal
 
 pub returns : goal.returns

@@ -4,13 +4,8 @@ use mathlib.Core.List.{List}
 use native.Mathlib.Omega.{arith}
 use lib.ListN.{length, take, drop}
 use lib.Seq.{sets}
-use Rattle.step_slots.specs.Slots.{slot_bytes}
+use Rattle.step_slots.specs.Slots.{slot_bytes, as_slot}
 use Rattle.step_write.proofs.Regions.{taken-before, taken-length, closure-bytes}
-use borrow.Author.Rules.{rules}
-use Rattle.step_write.proofs.put_closure.Reads as reads
-use Rattle.step_write.proofs.put_closure.Lts as lts
-use Rattle.image_write_bytes.proofs.bytes.move_up.Reads as move-up-reads
-use Rattle.step_slots.proofs.put_slot.Reads as put-slot-reads
 use Rattle.step_write.proofs.put_closure.Goals as goal
 
 pub returns : goal.returns
@@ -23,6 +18,6 @@ returns c =
     let e₂ = c.move_up-2.ensures
     ∙ ap (λ (z : List ℕ). sets z (a.at + 16) (take (16 * a.n) (drop a.at z))) e₁
     ∙ ap (λ (z : List ℕ). sets (sets s (a.at + 16 * (a.n + 2)) X) (a.at + 16) z) (taken-before X (16 * a.n) a.at s (a.at + 16 * (a.n + 2)) (omega arith)) in
-    let e₃ = c.put_slot.ensures.holds ∙ ap (λ (z : List ℕ). sets z a.at (slot_bytes a.head)) e₂ in
-    c.put_slot-2.ensures.holds ∙ (ap (λ (z : List ℕ). sets z (a.at + 16 * (a.n + 1)) (slot_bytes a.var)) e₃
-    ∙ closure-bytes s (slot_bytes a.head) X (slot_bytes a.var) a.at a.n refl x refl)
+    let e₃ = c.put_slot.ensures.holds ∙ ap (λ (z : List ℕ). sets z a.at (slot_bytes (as_slot a.head))) e₂ in
+    c.put_slot-2.ensures.holds ∙ (ap (λ (z : List ℕ). sets z (a.at + 16 * (a.n + 1)) (slot_bytes (as_slot a.var))) e₃
+    ∙ closure-bytes s (slot_bytes (as_slot a.head)) X (slot_bytes (as_slot a.var)) a.at a.n refl x refl)

@@ -1,21 +1,19 @@
 -- `call` meets its contract. Assumes nothing.
 use Prim.Native.Nat.{ℕ}
-use mathlib.Core.Path.{◌≡◌, refl, sym, ap, ◌∙◌, subst}
-use mathlib.Core.Bool.{Bool, not}
+use mathlib.Core.Path.{refl, sym, ap, ◌∙◌, subst}
+use mathlib.Core.Bool.{not}
 use mathlib.Core.List.{List}
 use native.Mathlib.Omega.{arith}
-use Rattle.syntax.specs.Sets.{distinct}
 use Rattle.model.specs.Syntax.{Prog}
 use Rattle.model.specs.Machine.{values}
 use Rattle.image_read_nodes.specs.Nodes.{record_at, At, first_of}
 use Rattle.step_spec.specs.Located.{Machine, Located, is_stop}
-use Rattle.step_rows.specs.Rows.{ids_in}
+use Rattle.step_rows.specs.Rows.{ids_of}
 use Rattle.step_rule.specs.Rules.{ProgramOf, Stored}
 use Rattle.step_order.specs.Stopping.{work_at}
 use borrow.Author.Tests.{ne_eqb}
 use Rattle.step_order.proofs.EnterLaws.{Enters, missing, fewer, as_many}
 use Rattle.step_order.proofs.StopLaws.{reads-stored, values-count, call_enters}
-use borrow.Author.Rules.{rules}
 use Rattle.step_order.proofs.entering.call.Goals as goal
 use Rattle.step_order.proofs.entering.call.Goals.{After-find_label}
 
@@ -39,15 +37,15 @@ pub returns-then-parameters-header : goal.returns-then-parameters-header
 returns-then-parameters-header c = λ store. record {
   is = λ P l p o e g.
       let w = reads-stored o e g in
-      as_many (enters (goal.at.returns-then-parameters-header c).After-find_label p w) c.in-Some.is c.list_row-parameters.ensures (c.if-parameters-header.true ∙ sym (values-count w))
-      (ids_in c.args.stepper.now.image.bytes.now c.list_row-parameters.result) (λ new k. k) (ap not c.distinct.ensures);
+      as_many (enters (goal.at.returns-then-parameters-header c).After-find_label p w) c.in-Some.is c.list_row-parameters.result c.list_row-parameters.ensures (c.if-parameters-header.true ∙ sym (values-count w))
+      (ids_of c.list_row-parameters.result) (λ new k. k) (ap not c.distinct.ensures);
 }
 
 pub returns-else-parameters-header : goal.returns-else-parameters-header
 returns-else-parameters-header c = λ store. record {
   is = λ P l p o e g.
       let w = reads-stored o e g in
-      ne_eqb _ _ c.if-parameters-header.false ∙ fewer (enters (goal.at.returns-else-parameters-header c).After-find_label p w) c.in-Some.is c.list_row-parameters.ensures (λ n. c.if-parameters-header.false (n ∙ values-count w));
+      ne_eqb _ _ c.if-parameters-header.false ∙ fewer (enters (goal.at.returns-else-parameters-header c).After-find_label p w) c.in-Some.is c.list_row-parameters.result c.list_row-parameters.ensures (λ n. c.if-parameters-header.false (n ∙ values-count w));
 }
 
 pub returns-in-None : goal.returns-in-None

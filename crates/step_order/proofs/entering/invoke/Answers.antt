@@ -1,81 +1,87 @@
 -- `invoke` meets its contract. Assumes nothing.
-use Prim.Native.Nat.{ℕ, ◌-◌}
-use mathlib.Core.Path.{◌≡◌, refl, sym, ap, ap₂, ◌∙◌, subst}
-use mathlib.Core.Bool.{false≢true}
+use Prim.Native.Nat.{ℕ}
+use mathlib.Core.Path.{◌≡◌, refl, sym, ap₂, ◌∙◌, subst}
 use mathlib.Core.List.{List, ◌++◌, map-append}
 use lib.ListN.{length}
+use native.Mathlib.Omega.{arith}
 use Rattle.syntax.specs.declared.names.VarId.{VarId}
 use Rattle.model.specs.Syntax.{Prog}
 use Rattle.model.specs.Machine.{values}
 use Rattle.model.specs.Linear.{before_last, last_value_lem}
 use Rattle.image_read_nodes.specs.Nodes.{record_at, At}
 use Rattle.step_spec.specs.Located.{Machine, Located, is_stop}
-use Rattle.step_rows.specs.Rows.{ids_in}
+use Rattle.step_rows.specs.Placing.{ids_in}
+use Rattle.step_rows.specs.Rows.{ids_of}
 use Rattle.step_rule.specs.Rules.{ProgramOf, Stored}
+use Rattle.step_slots.specs.declared.sort.Sort.TheVariants.{CreateCell}
+use Rattle.step_slots.proofs.SortLaws.{codes_same, codes_differ}
+use Rattle.step_cells.specs.Cells.{as_cell}
 use Rattle.step_cells.proofs.CellLaws.{OfCreate}
 use Rattle.step_order.specs.Stopping.{TagOf, work_at}
+use Rattle.step_order.proofs.ListLaws.{alike, unlike}
 use Rattle.step_order.proofs.PartLaws.{held-inside, held-keys}
 use borrow.Author.Tests.{ne_eqb}
 use Rattle.step_order.proofs.EnterLaws.{Enters, missing, fewer, as_many}
 use Rattle.step_order.proofs.StopLaws.{reads-stored, fewer-values, last-create, invoke-goes, invoke-enters}
-use borrow.Author.Rules.{rules}
 use Rattle.step_order.proofs.entering.invoke.Goals as goal
 use Rattle.step_order.proofs.entering.invoke.Goals.{After-clause_of, After-saturating_sub-values}
 
 -- the last value is a Create's cell
 the_create : (c : After-clause_of) {M : Machine} {P : Prog} {l : Located} →
     let a = c.args in
-    Stored M P a.store.now a.header l → OfCreate P a.store.now a.header l (last_value_lem l.environment) c.last_cell-cell.result
-the_create c o = last-create o c.last_cell-cell.ensures c.if-cell-ne4.false
+    Stored M P a.state.now.store.now a.state.now.header l → OfCreate P a.state.now.store.now a.state.now.header l (last_value_lem l.environment) (as_cell c.in-Some.cell)
+the_create c o = last-create o c.in-Some.ensures (codes_same c.in-Some.cell.sort CreateCell refl (alike c.ne.ensures c.if-ne.false))
 
 -- the machine enters what the search answers, by the tag that was read
 enters : (c : After-clause_of) {M : Machine} {P : Prog} {l : Located} →
     let a = c.args in
-    ProgramOf P a.stepper.now a.stepper.now.image.bytes.now → (o : Stored M P a.store.now a.header l)
+    ProgramOf P a.stepper.now a.stepper.now.image.bytes.now → (o : Stored M P a.state.now.store.now a.state.now.header l)
     → Enters a.stepper.now.image.frame a.stepper.now.image.bytes.now c.clause_of.result (values (before_last 1 l.environment)) (λ new. new ++ (the_create c o).entries) (is_stop (work_at P l))
 enters c p o =
-    invoke-enters p o c.last_cell-cell.ensures c.requires.0 c.args.stepper.now.image.ready (subst (λ (i : ℕ). TagOf (record_at c.args.stepper.now.image.frame c.args.stepper.now.image.bytes.now i) c.tag.result) c.long.ensures c.tag.ensures) (the_create c o) c.long-2.ensures c.from.ensures c.clause_of.ensures
+    invoke-enters p o c.in-Some.ensures c.requires c.args.stepper.now.image.ready (subst (λ (i : ℕ). TagOf (record_at c.args.stepper.now.image.frame c.args.stepper.now.image.bytes.now i) c.tag.result) c.long.ensures c.tag.ensures) (the_create c o) c.long-2.ensures c.from.ensures c.clause_of.ensures
 
 -- how many values there are for its parameters
 counted : (c : After-saturating_sub-values) {M : Machine} {P : Prog} {l : Located} →
     let a = c.args in
-    Stored M P a.store.now a.header l → length (values (before_last 1 l.environment)) ≡ c.saturating_sub-values.result
+    Stored M P a.state.now.store.now a.state.now.header l → length (values (before_last 1 l.environment)) ≡ c.saturating_sub-values.result
 counted c o = fewer-values o ∙ sym c.saturating_sub-values.ensures
 
-pub returns-then-cell-ne4 : goal.returns-then-cell-ne4
-returns-then-cell-ne4 c = record {
+pub returns-in_default : goal.returns-in_default
+returns-in_default c = record { is = λ P l p o e g. invoke-goes p (reads-stored o e g) c.in_default.ensures c.requires (λ q. omega (arith, q)) }
+
+pub returns-then-ne : goal.returns-then-ne
+returns-then-ne c = record {
   is = λ P l p o e g.
       let w = reads-stored o e g in
-      invoke-goes p w c.last_cell-cell.ensures c.requires.0 c.if-cell-ne4.true;
+      invoke-goes p w c.in-Some.ensures c.requires (codes_differ c.in-Some.cell.sort CreateCell refl (unlike c.ne.ensures c.if-ne.true));
 }
 
 pub tag-requires : goal.tag-requires
-tag-requires c = subst (λ (i : ℕ). At c.args.stepper.now.image.frame c.args.stepper.now.image.bytes.now i 7) (sym c.long.ensures) c.requires.0
+tag-requires c = subst (λ (i : ℕ). At c.args.stepper.now.image.frame c.args.stepper.now.image.bytes.now i 7) (sym c.long.ensures) c.requires
 
-pub list_row-parameters-requires : goal.list_row-parameters-requires
-list_row-parameters-requires c = (c.clause_of.ensures.at _ c.in-Some.is, refl)
+pub list_row-requires : goal.list_row-requires
+list_row-requires c = (c.clause_of.ensures.at _ c.in-Some-clause_of.is, refl)
 
 pub returns-else-parameters-values : goal.returns-else-parameters-values
 returns-else-parameters-values c = record {
   is = λ P l p o e g.
       let w = reads-stored o e g in
-      ne_eqb _ _ c.if-parameters-values.false ∙ fewer (enters (goal.at.returns-else-parameters-values c).After-clause_of p w) c.in-Some.is c.list_row-parameters.ensures (λ m. c.if-parameters-values.false (m ∙ counted (goal.at.returns-else-parameters-values c).After-saturating_sub-values w));
+      ne_eqb _ _ c.if-parameters-values.false ∙ fewer (enters (goal.at.returns-else-parameters-values c).After-clause_of p w) c.in-Some-clause_of.is c.list_row.result c.list_row.ensures (λ m. c.if-parameters-values.false (m ∙ counted (goal.at.returns-else-parameters-values c).After-saturating_sub-values w));
 }
 
-pub repeats-requires : goal.repeats-requires
-repeats-requires c =
-    (c.list_row-parameters.ensures.inside, (held-inside c.args.store.now c.args.header c.requires.1 c.last_cell-cell.ensures c.slot_row-held.ensures, λ t. absurd (false≢true t)))
+pub invariant_of-held : goal.invariant_of-held
+invariant_of-held c = let s = c.args.state.now in record { inside = held-inside s.store.now s.header s.holds c.in-Some.ensures c.slot_places.ensures }
 
 pub returns-then-parameters-values : goal.returns-then-parameters-values
 returns-then-parameters-values c = record {
   is = λ P l p o e g.
       let a = c.args in
       let w = reads-stored o e g in
-      let xs = ids_in a.stepper.now.image.bytes.now c.list_row-parameters.result in
-      let ys = ids_in a.store.now c.slot_row-held.result in
+      let xs = ids_of c.list_row.result in
+      let ys = ids_in a.state.now.store.now c.slot_places.result in
       let m = the_create (goal.at.returns-then-parameters-values c).After-clause_of w in
-      as_many (enters (goal.at.returns-then-parameters-values c).After-clause_of p w) c.in-Some.is c.list_row-parameters.ensures (c.if-parameters-values.true ∙ sym (counted (goal.at.returns-then-parameters-values c).After-saturating_sub-values w)) (xs ++ ys)
-      (λ new q. map-append _ new m.entries ∙ ap₂ {C = List VarId} (λ (a b : List VarId). a ++ b) q (sym (held-keys w m c.slot_row-held.ensures))) c.repeats.ensures;
+      as_many (enters (goal.at.returns-then-parameters-values c).After-clause_of p w) c.in-Some-clause_of.is c.list_row.result c.list_row.ensures (c.if-parameters-values.true ∙ sym (counted (goal.at.returns-then-parameters-values c).After-saturating_sub-values w)) (xs ++ ys)
+      (λ new q. map-append _ new m.entries ∙ ap₂ {C = List VarId} (λ (a b : List VarId). a ++ b) q (sym (held-keys w m c.slot_places.ensures))) c.repeats.ensures;
 }
 
 pub returns-in-None : goal.returns-in-None

@@ -1,75 +1,70 @@
 -- `switch` meets its contract. Assumes nothing.
-use mathlib.Core.Path.{refl, sym, ap₂, ◌∙◌, subst}
+use mathlib.Core.Path.{refl, sym, ap₂, ◌∙◌}
 use mathlib.Core.List.{List, ◌++◌, map-append}
+use native.Mathlib.Omega.{arith}
 use Rattle.syntax.specs.declared.names.VarId.{VarId}
 use Rattle.model.specs.Syntax.{Prog}
 use Rattle.model.specs.Linear.{before_last, last_value_lem}
 use Rattle.step_spec.specs.Located.{Machine, Located, is_stop}
-use Rattle.step_rows.specs.declared.Row.{Row}
-use Rattle.step_rows.specs.Rows.{ids_in, Inside}
+use Rattle.step_rows.specs.Rows.{ids_of}
 use Rattle.step_rule.specs.Rules.{ProgramOf, Stored}
+use Rattle.step_slots.specs.declared.sort.Sort.TheVariants.{LetCell}
+use Rattle.step_slots.proofs.SortLaws.{codes_same, codes_differ}
+use Rattle.step_cells.specs.Cells.{as_cell}
 use Rattle.step_cells.proofs.CellLaws.{OfLet}
 use Rattle.step_order.specs.Stopping.{work_at}
-use Rattle.step_order.specs.Sure.{Sure}
-use Rattle.step_order.proofs.ListLaws.{inside-front, sure_front, sure_row}
+use Rattle.step_order.proofs.ListLaws.{alike, unlike, sure_front, sure_row}
 use borrow.Author.Tests.{ne_eqb}
 use Rattle.step_order.proofs.EnterLaws.{Enters, missing, fewer, as_many}
 use Rattle.step_order.proofs.StopLaws.{reads-stored, fields-count, front-keys, last_let, switch-goes, switch-enters}
-use borrow.Author.Rules.{rules}
 use Rattle.step_order.proofs.entering.switch.Goals as goal
 use Rattle.step_order.proofs.entering.switch.Goals.{After-clause_of}
 
 -- the last value is a Let's cell
 the_let : (c : After-clause_of) {M : Machine} {P : Prog} {l : Located} →
     let a = c.args in
-    Stored M P a.store.now a.header l → OfLet P a.store.now a.header l (last_value_lem l.environment) c.last_cell-cell.result
-the_let c o = last_let o c.last_cell-cell.ensures c.if-cell-ne3.false
+    Stored M P a.state.now.store.now a.state.now.header l → OfLet P a.state.now.store.now a.state.now.header l (last_value_lem l.environment) (as_cell c.in-Some.cell)
+the_let c o = last_let o c.in-Some.ensures (codes_same c.in-Some.cell.sort LetCell refl (alike c.ne.ensures c.if-ne.false))
 
 -- the machine enters what the search answers
 enters : (c : After-clause_of) {M : Machine} {P : Prog} {l : Located} →
     let a = c.args in
-    ProgramOf P a.stepper.now a.stepper.now.image.bytes.now → (o : Stored M P a.store.now a.header l)
+    ProgramOf P a.stepper.now a.stepper.now.image.bytes.now → (o : Stored M P a.state.now.store.now a.state.now.header l)
     → Enters a.stepper.now.image.frame a.stepper.now.image.bytes.now c.clause_of.result (the_let c o).fields (λ new. before_last 1 l.environment ++ new) (is_stop (work_at P l))
-enters c p o = switch-enters p o c.last_cell-cell.ensures c.requires.0 (the_let c o) c.long.ensures c.clause_of.ensures
+enters c p o = switch-enters p o c.in-Some.ensures c.requires.0 (the_let c o) c.long.ensures c.clause_of.ensures
 
-pub returns-then-cell-ne3 : goal.returns-then-cell-ne3
-returns-then-cell-ne3 c = record {
+pub returns-in_default : goal.returns-in_default
+returns-in_default c = record { is = λ P l p o e g. switch-goes p (reads-stored o e g) c.in_default.ensures c.requires.0 (λ q. omega (arith, q)) }
+
+pub returns-then-ne : goal.returns-then-ne
+returns-then-ne c = record {
   is = λ P l p o e g.
       let w = reads-stored o e g in
-      switch-goes p w c.last_cell-cell.ensures c.requires.0 c.if-cell-ne3.true;
+      switch-goes p w c.in-Some.ensures c.requires.0 (codes_differ c.in-Some.cell.sort LetCell refl (unlike c.ne.ensures c.if-ne.true));
 }
 
 pub list_row-parameters-requires : goal.list_row-parameters-requires
-list_row-parameters-requires c = (c.clause_of.ensures.at _ c.in-Some.is, refl)
+list_row-parameters-requires c = (c.clause_of.ensures.at _ c.in-Some-clause_of.is, refl)
 
 pub returns-else-parameters-cell : goal.returns-else-parameters-cell
 returns-else-parameters-cell c = record {
   is = λ P l p o e g.
       let w = reads-stored o e g in
-      ne_eqb _ _ c.if-parameters-cell.false ∙ fewer (enters (goal.at.returns-else-parameters-cell c).After-clause_of p w) c.in-Some.is c.list_row-parameters.ensures (λ n. c.if-parameters-cell.false (n ∙ fields-count (the_let (goal.at.returns-else-parameters-cell c).After-clause_of w)));
+      ne_eqb _ _ c.if-parameters-cell.false ∙ fewer (enters (goal.at.returns-else-parameters-cell c).After-clause_of p w) c.in-Some-clause_of.is c.list_row-parameters.result c.list_row-parameters.ensures (λ n. c.if-parameters-cell.false (n ∙ fields-count (the_let (goal.at.returns-else-parameters-cell c).After-clause_of w)));
 }
 
-pub entries_row-requires : goal.entries_row-requires
-entries_row-requires c = c.requires.1.0
-
-pub repeats-requires : goal.repeats-requires
-repeats-requires c =
-    let a = c.args in
-    let row = c.entries_row.result in
-    let i = inside-front a.store.now row 1 c.entries_row.ensures.inside in
-    let f = sure_front a.store.now row 1 (sure_row a.store.now row c.entries_row.ensures c.requires.1.1) in
-    let k = subst (λ (r : Row). Inside a.store.now r × Sure a.sure (ids_in a.store.now r)) (sym c.front-others.ensures) (i, f) in
-    (k.0, (c.list_row-parameters.ensures.inside, k.1))
+pub invariant_of-others : goal.invariant_of-others
+invariant_of-others c = record { knows = sure_front c.front.ensures (sure_row c.entries_row.ensures c.requires.1) }
 
 pub returns-then-parameters-cell : goal.returns-then-parameters-cell
 returns-then-parameters-cell c = record {
   is = λ P l p o e g.
       let a = c.args in
       let w = reads-stored o e g in
-      let xs = ids_in a.store.now c.front-others.result in
-      let ys = ids_in a.stepper.now.image.bytes.now c.list_row-parameters.result in
-      let q = front-keys w c.entries_row.ensures c.front-others.ensures in
-      as_many (enters (goal.at.returns-then-parameters-cell c).After-clause_of p w) c.in-Some.is c.list_row-parameters.ensures (c.if-parameters-cell.true ∙ sym (fields-count (the_let (goal.at.returns-then-parameters-cell c).After-clause_of w))) (xs ++ ys)
+      let xs = ids_of c.front.result in
+      let ys = ids_of c.list_row-parameters.result in
+      let q = front-keys w c.entries_row.ensures c.front.ensures in
+      as_many (enters (goal.at.returns-then-parameters-cell c).After-clause_of p w) c.in-Some-clause_of.is c.list_row-parameters.result c.list_row-parameters.ensures (c.if-parameters-cell.true ∙ sym (fields-count (the_let (goal.at.returns-then-parameters-cell c).After-clause_of w))) (xs ++ ys)
       (λ new m. map-append _ (before_last 1 l.environment) new ∙ ap₂ {C = List VarId} (λ (a b : List VarId). a ++ b) (sym q) m) c.repeats.ensures;
 }
 

@@ -2,7 +2,8 @@
 use mathlib.Core.Path.{sym, ap, ◌∙◌}
 use mathlib.Core.Bool.{not}
 use Rattle.syntax.specs.Sets.{elem}
-use Rattle.step_rows.specs.Rows.{identified, ids_in}
+use Rattle.step_rows.specs.Placing.{identified}
+use Rattle.step_rows.specs.Rows.{ids_of}
 use Rattle.step_rows.proofs.DistinctLaws.{distinct-last}
 use Rattle.step_order.proofs.ListLaws.{and_both, and_not}
 use Rattle.step_order.proofs.list.adds.Goals as goal
@@ -11,10 +12,10 @@ use Rattle.step_order.proofs.list.adds.Goals as goal
 pub returns-then-is_distinct : goal.returns-then-is_distinct
 returns-then-is_distinct c =
     let a = c.args in
-    and_both c.is_distinct.ensures c.if-is_distinct.true (ap not c.has.ensures) ∙ sym (distinct-last (ids_in a.store.now a.row) (identified a.id))
+    and_both c.is_distinct.ensures c.if-is_distinct.true (ap not c.has.ensures) ∙ sym (distinct-last (ids_of a.list.now.row) (identified a.id))
 
 pub returns-else-is_distinct : goal.returns-else-is_distinct
 returns-else-is_distinct c =
     let a = c.args in
-    let l = ids_in a.store.now a.row in
+    let l = ids_of a.list.now.row in
     c.if-is_distinct.false ∙ and_not c.is_distinct.ensures (not (elem (identified a.id) l)) c.if-is_distinct.false ∙ sym (distinct-last l (identified a.id))

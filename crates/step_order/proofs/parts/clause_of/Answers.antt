@@ -4,7 +4,6 @@ use mathlib.Core.Path.{subst}
 use native.Mathlib.Omega.{arith}
 use Rattle.step_places.specs.Searches.{FindsClause}
 use Rattle.step_order.proofs.PartLaws.{no_place}
-use borrow.Author.Rules.{rules}
 use Rattle.step_order.proofs.parts.clause_of.Goals as goal
 
 pub returns-then-stepper-i : goal.returns-then-stepper-i

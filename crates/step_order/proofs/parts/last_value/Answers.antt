@@ -8,9 +8,9 @@ use Rattle.step_order.proofs.parts.last_value.Goals as goal
 pub returns-then-entries-eq0 : goal.returns-then-entries-eq0
 returns-then-entries-eq0 c =
     let a = c.args in
-    last_none a.store.now (64 + 16 * a.header.heap) a.header.entries c.if-entries-eq0.true
+    last_none a.state.now.store.now (64 + 16 * a.state.now.header.heap) a.state.now.header.entries c.if-entries-eq0.true
 
 pub returns : goal.returns
 returns c =
     let a = c.args in
-    c.read.ensures ∙ last-read a.store.now (64 + 16 * a.header.heap) a.header.entries (omega (arith, c.if-entries-eq0.false))
+    c.read.ensures ∙ last-read a.state.now.store.now (64 + 16 * a.state.now.header.heap) a.state.now.header.entries (omega (arith, c.if-entries-eq0.false))

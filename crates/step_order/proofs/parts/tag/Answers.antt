@@ -1,7 +1,6 @@
 -- `tag` meets its contract. Assumes nothing.
 use Rattle.image_read_nodes.proofs.NodeLaws.{identifier-room}
 use Rattle.step_order.proofs.PartLaws.{tag-there, tag_is}
-use borrow.Author.Rules.{rules}
 use Rattle.step_order.proofs.parts.tag.Goals as goal
 
 pub identifier-requires : goal.identifier-requires

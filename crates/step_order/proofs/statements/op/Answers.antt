@@ -1,15 +1,12 @@
 -- `op` meets its contract. Assumes nothing.
 use mathlib.Core.Path.{◌≡◌, sym, ◌∙◌}
 use mathlib.Core.Bool.{◌&&◌}
-use mathlib.Core.List.{List}
 use Rattle.syntax.specs.Sets.{elem}
-use Rattle.syntax.specs.declared.names.VarId.{VarId}
 use Rattle.image_read_nodes.specs.Nodes.{record_at}
-use Rattle.step_rows.specs.Rows.{ids_in}
+use Rattle.step_rows.specs.Rows.{ids_of}
 use Rattle.step_order.specs.Orderly.{added, orderly}
 use Rattle.step_order.proofs.ListLaws.{and_both, and_not}
 use Rattle.step_order.proofs.OrderlyLaws.{op_is}
-use borrow.Author.Rules.{rules}
 use Rattle.step_order.proofs.statements.op.Goals as goal
 use Rattle.step_order.proofs.statements.op.Goals.{After-op-statement, Joined-has, then-has, else-has}
 
@@ -17,20 +14,20 @@ use Rattle.step_order.proofs.statements.op.Goals.{After-op-statement, Joined-has
 is : (c : After-op-statement) →
     let a = c.args in
     let o = c.op-statement.result in
-    let l = ids_in a.store.now a.row in
+    let l = ids_of a.list.now.row in
     orderly (record_at a.image.now.frame a.image.now.bytes.now a.i) l ≡ ((elem o.fst.id l && elem o.snd.id l) && added l o.var.id)
-is c = let a = c.args in op_is (record_at a.image.now.frame a.image.now.bytes.now a.i) (ids_in a.store.now a.row) c.op-statement.ensures
+is c = let a = c.args in op_is (record_at a.image.now.frame a.image.now.bytes.now a.i) (ids_of a.list.now.row) c.op-statement.ensures
 
 -- the operands are there
 present : (c : Joined-has) →
     let a = c.args in
     let o = c.op-statement.result in
-    c.if-has.value ≡ (elem o.fst.id (ids_in a.store.now a.row) && elem o.snd.id (ids_in a.store.now a.row))
+    c.if-has.value ≡ (elem o.fst.id (ids_of a.list.now.row) && elem o.snd.id (ids_of a.list.now.row))
 present c = elim c.if-has.branch [
   | then-has w ↦ w.value-is ∙ and_both c.has.ensures w.if-has.true w.has-then-has.ensures
   | else-has w ↦
       let a = c.args in
-      w.value-is ∙ (w.if-has.false ∙ and_not c.has.ensures (elem c.op-statement.result.snd.id (ids_in a.store.now a.row)) w.if-has.false)
+      w.value-is ∙ (w.if-has.false ∙ and_not c.has.ensures (elem c.op-statement.result.snd.id (ids_of a.list.now.row)) w.if-has.false)
 ]
 
 pub returns-then-has-2 : goal.returns-then-has-2
@@ -39,5 +36,5 @@ returns-then-has-2 c =
 
 pub returns-else-has-2 : goal.returns-else-has-2
 returns-else-has-2 c =
-    let b = added (ids_in c.args.store.now c.args.row) c.op-statement.result.var.id in
+    let b = added (ids_of c.args.list.now.row) c.op-statement.result.var.id in
     c.if-has-2.false ∙ (and_not (present (goal.at.returns-else-has-2 c).Joined-has) b c.if-has-2.false ∙ sym (is (goal.at.returns-else-has-2 c).After-op-statement))

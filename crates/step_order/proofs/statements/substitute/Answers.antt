@@ -5,11 +5,10 @@ use Rattle.syntax.specs.Sets.{distinct}
 use Rattle.syntax.specs.declared.names.VarId.{VarId}
 use Rattle.model.specs.Linear.{present, targets, sources}
 use Rattle.image_read_nodes.specs.Nodes.{record_at}
-use Rattle.step_rows.specs.Rows.{ids_in}
+use Rattle.step_rows.specs.Rows.{ids_of}
 use Rattle.step_rows.specs.RecordRows.{pairs_of}
 use Rattle.step_order.proofs.ListLaws.{and_both, and_not}
 use Rattle.step_order.proofs.OrderlyLaws.{substitute_is}
-use borrow.Author.Rules.{rules}
 use Rattle.step_order.proofs.statements.substitute.Goals as goal
 use Rattle.step_order.proofs.statements.substitute.Goals.{After-distinct}
 
@@ -17,18 +16,18 @@ use Rattle.step_order.proofs.statements.substitute.Goals.{After-distinct}
 asked : (c : After-distinct) →
     let a = c.args in
     c.distinct.result ≡ distinct (targets (pairs_of (record_at a.image.now.frame a.image.now.bytes.now a.i)))
-asked c = c.distinct.ensures ∙ ap distinct c.target_row-targets.ensures.ids
+asked c = c.distinct.ensures ∙ ap distinct c.target_row-targets.ensures
 
 pub returns-then-distinct : goal.returns-then-distinct
 returns-then-distinct c =
     let a = c.args in
-    let l = ids_in a.store.now a.row in
-    and_both (asked (goal.at.returns-then-distinct c).After-distinct) c.if-distinct.true (c.all_present.ensures ∙ ap (λ (xs : List VarId). present xs l) c.source_row.ensures.ids)
-    ∙ sym (substitute_is (record_at a.image.now.frame a.image.now.bytes.now a.i) l c.requires.0.kind)
+    let l = ids_of a.row.now in
+    and_both (asked (goal.at.returns-then-distinct c).After-distinct) c.if-distinct.true (c.all_present.ensures ∙ ap (λ (xs : List VarId). present xs l) c.source_row.ensures)
+    ∙ sym (substitute_is (record_at a.image.now.frame a.image.now.bytes.now a.i) l c.requires.kind)
 
 pub returns-else-distinct : goal.returns-else-distinct
 returns-else-distinct c =
     let a = c.args in
-    let l = ids_in a.store.now a.row in
+    let l = ids_of a.row.now in
     let r = record_at a.image.now.frame a.image.now.bytes.now a.i in
-    c.if-distinct.false ∙ and_not (asked (goal.at.returns-else-distinct c).After-distinct) (present (sources (pairs_of r)) l) c.if-distinct.false ∙ sym (substitute_is r l c.requires.0.kind)
+    c.if-distinct.false ∙ and_not (asked (goal.at.returns-else-distinct c).After-distinct) (present (sources (pairs_of r)) l) c.if-distinct.false ∙ sym (substitute_is r l c.requires.kind)

@@ -1,9 +1,8 @@
 -- `environment_row` meets its contract. Assumes nothing.
-use borrow.Author.Rules.{rules}
 use native.Mathlib.Omega.{arith}
 use Rattle.image_read_nodes.specs.Nodes.{record_at}
 use Rattle.step_rows.specs.RecordRows.{environment_of}
-use Rattle.step_rows.proofs.RecordRowLaws.{Environs, environment-there, environment-inside, absent-row, listed-room, listed-row}
+use Rattle.step_rows.proofs.RecordRowLaws.{Environs, environment-there, environment-inside, absent-row, listed-room, listed-places, listed-row}
 use Rattle.step_rows.proofs.records.environment_row.Goals as goal
 use Rattle.step_rows.proofs.records.environment_row.Goals.{After-tail_at-at}
 
@@ -22,9 +21,12 @@ returns-then-image-at-eq0 c = absent-row c.args.image.now.frame.id (there (goal.
 pub overflow_add-at : goal.overflow_add-at
 overflow_add-at c = omega (arith, environment-inside c.args.image.now.frame.id (there (goal.at.overflow_add-at c).After-tail_at-at))
 
-pub counted_row-requires : goal.counted_row-requires
-counted_row-requires c = listed-room c.args.image.now.frame.id (there (goal.at.counted_row-requires c).After-tail_at-at) c.if-image-at-eq0.false
+pub counted-requires : goal.counted-requires
+counted-requires c = listed-room c.args.image.now.frame.id (there (goal.at.counted-requires c).After-tail_at-at) c.if-image-at-eq0.false
+
+pub invariant_of-result : goal.invariant_of-result
+invariant_of-result c =
+    record { inside = listed-places c.args.image.now.frame.id (there (goal.at.invariant_of-result c).After-tail_at-at) c.if-image-at-eq0.false c.args.image.now.ready.id.1 c.counted.ensures }
 
 pub returns : goal.returns
-returns c =
-    listed-row c.args.image.now.frame.id (there (goal.at.returns c).After-tail_at-at) c.if-image-at-eq0.false c.args.image.now.ready.id.1 c.counted_row.ensures
+returns c = listed-row c.args.image.now.frame.id (there (goal.at.returns c).After-tail_at-at) c.if-image-at-eq0.false c.counted.ensures

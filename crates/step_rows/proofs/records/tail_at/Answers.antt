@@ -1,5 +1,4 @@
 -- `tail_at` meets its contract. Assumes nothing.
-use borrow.Author.Rules.{rules}
 use native.Mathlib.Omega.{arith}
 use Rattle.image_kinds.specs.Codes.{code_of}
 use Rattle.step_rows.proofs.RecordRowLaws.{tail-stands, tail-inside}

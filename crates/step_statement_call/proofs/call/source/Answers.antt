@@ -19,22 +19,22 @@ use Rattle.step_enter.proofs.EnterLaws.{list-short}
 use Rattle.step_enter.proofs.ParameterLaws.{fitting}
 use Rattle.step_statement_call.proofs.TheCall.{label-read, the_call}
 use Rattle.step_statement_call.proofs.CallLaws.{Laid, absent-makes, uneven_makes, call-makes}
-use Rattle.step_statement_call.proofs.SourceLaws.{AllFound, missing-makes, all_found}
+use Rattle.step_statement_call.proofs.SourceLaws.{gathers_in, AllFound, missing-makes, all_found}
 use Rattle.step_statement_call.proofs.call.source.Goals as goal
 use Rattle.step_statement_call.proofs.call.source.Goals.{After-list_row-args, Else-not-gather, In_ok-called}
 
-few : (c : After-list_row-args) → c.list_row-args.result.len ≤ 128
-few c = list-short c.args.stepper.now.image.ready c.requires.record' refl c.list_row-args.ensures
+few : (c : After-list_row-args) → c.list_row-args.result.places.len ≤ 128
+few c = list-short c.list_row-args.result c.args.stepper.now.image.ready c.requires.0.record' refl c.list_row-args.ensures
 
 -- the machine's step, where all args are there
 all : (c : Else-not-gather)
-    → (P : Prog) (l : Located) (p : ProgramOf P c.args.stepper.now c.args.stepper.now.image.bytes.now) (o : Stored source_machine P c.args.store.now c.args.header l)
-    → AllFound P l (the_call p o c.requires.record').label.name (slots_at c.gather.new.out 0 c.list_row-args.result.len) c.list_row-args.result.len
+    → (P : Prog) (l : Located) (p : ProgramOf P c.args.stepper.now c.args.stepper.now.image.bytes.now) (o : Stored source_machine P c.args.work.now.store.now c.args.work.now.header l)
+    → AllFound P l (the_call p o c.requires.0.record').label.name (slots_at c.gather.new.out 0 c.list_row-args.result.places.len) c.list_row-args.result.places.len
 all c P l p o =
-    let t = the_call p o c.requires.record' in
-    let n : c.list_row-args.result.len ≤ 128 = list-short c.args.stepper.now.image.ready c.requires.record' refl c.list_row-args.ensures in
-    let are = c.list_row-args.ensures.ids ∙ ap (λ (r : Record). ids (list_of r)) t.holds in
-    all_found o t.label t.args t.is are c.gather.ensures (ids-length c.args.stepper.now.image.bytes.now c.list_row-args.result) c.if-not-gather.false (omega (arith, n, c.requires.scratch'))
+    let t = the_call p o c.requires.0.record' in
+    let n : c.list_row-args.result.places.len ≤ 128 = list-short c.list_row-args.result c.args.stepper.now.image.ready c.requires.0.record' refl c.list_row-args.ensures in
+    let are = c.list_row-args.ensures ∙ ap (λ (r : Record). ids (list_of r)) t.holds in
+    all_found o t.label t.args t.is are (gathers_in _ _ c.store_of.ensures c.gather.ensures) (ids-length c.list_row-args.result.bytes.now c.list_row-args.result.places) c.if-not-gather.false (omega (arith, n, c.requires.1))
 
 -- the definition is found
 found : (c : In_ok-called) → c.definition_of.result ≡ Some c.in_ok-called.called
@@ -43,46 +43,57 @@ found c = search rules
 pub gather-requires : goal.gather-requires
 gather-requires c =
     let g = c.requires in
-    (c.list_row-args.ensures.inside, (omega (arith, g.holds.inside), (g.holds.entries, omega (arith, few (goal.at.gather-requires c).After-list_row-args, g.scratch'))))
+    rw c.store_of.ensures (omega (arith, g.0.fit.holds.inside), (g.0.fit.holds.entries, omega (arith, few (goal.at.gather-requires c).After-list_row-args, g.1)))
 
 pub returns-then-not-gather : goal.returns-then-not-gather
-returns-then-not-gather c = record {
-  makes = λ P l p o.
-      let t = the_call p o c.requires.record' in
-      missing-makes o t.label t.args t.is (c.list_row-args.ensures.ids ∙ ap (λ (r : Record). ids (list_of r)) t.holds) c.gather.ensures c.if-not-gather.true;
-}
+returns-then-not-gather c = (
+  record {
+    makes = λ P l p o.
+        let t = the_call p o c.requires.0.record' in
+        missing-makes o t.label t.args t.is (c.list_row-args.ensures ∙ ap (λ (r : Record). ids (list_of r)) t.holds) (gathers_in _ _ c.store_of.ensures c.gather.ensures) c.if-not-gather.true;
+  },
+  search rules,
+)
 
 pub returns-in_err-called : goal.returns-in_err-called
-returns-in_err-called c =
-    let n : c.definition_of.result ≡ None = search rules in
-    let e : c.from_residual.result ≡ Err NoStep = search rules in
-    rw e record {
-      makes = λ P l p o.
-          absent-makes o p (all (goal.at.returns-in_err-called c).Else-not-gather P l p o).calls (label-read (the_call p o c.requires.record') c.label_of-label.ensures) c.definition_of.ensures n;
-    }
+returns-in_err-called c = (
+  let n : c.definition_of.result ≡ None = search rules in
+      let e : c.from_residual.result ≡ Err NoStep = search rules in
+      rw e record {
+        makes = λ P l p o.
+            absent-makes o p (all (goal.at.returns-in_err-called c).Else-not-gather P l p o).calls (label-read (the_call p o c.requires.0.record') c.label_of-label.ensures) c.definition_of.ensures n;
+      },
+  search rules,
+)
 
-pub returns-then-row-args : goal.returns-then-row-args
-returns-then-row-args c = record {
-  makes = λ P l p o.
-      uneven_makes o p (all (goal.at.returns-then-row-args c).Else-not-gather P l p o).calls (label-read (the_call p o c.requires.record') c.label_of-label.ensures) c.definition_of.ensures
-      (found (goal.at.returns-then-row-args c).In_ok-called) c.if-row-args.true;
-}
+pub returns-then-called-args : goal.returns-then-called-args
+returns-then-called-args c = (
+  record {
+    makes = λ P l p o.
+        uneven_makes o p (all (goal.at.returns-then-called-args c).Else-not-gather P l p o).calls (label-read (the_call p o c.requires.0.record') c.label_of-label.ensures) c.definition_of.ensures
+        (found (goal.at.returns-then-called-args c).In_ok-called) c.if-called-args.true;
+  },
+  search rules,
+)
 
 pub jump-requires : goal.jump-requires
 jump-requires c =
     let g = c.requires in
     let f = fitting (found (goal.at.jump-requires c).In_ok-called) c.definition_of.ensures.reads in
-    let k = ids-length c.args.stepper.now.image.bytes.now c.list_row-args.result in
-    let stand : all_slots (slots_at c.gather.new.out 0 c.in_ok-called.called.row.len) ≡ true =
-    ap (λ (i : ℕ). all_slots (slots_at c.gather.new.out 0 i)) (c.if-row-args.false ∙ sym k)
-    ∙ gathered-slots c.gather.ensures (slots-ok _ _ _ g.holds.entries) c.if-not-gather.false (omega (arith, k, few (goal.at.jump-requires c).After-list_row-args, g.scratch')) in
-    (f.inside, (g.holds, (g.place, (omega (arith, f.short, c.gather.auto.out, g.scratch'), stand))))
+    let k = ids-length c.list_row-args.result.bytes.now c.list_row-args.result.places in
+    let stand : all_slots (slots_at c.gather.new.out 0 c.in_ok-called.called.row.places.len) ≡ true =
+    ap (λ (i : ℕ). all_slots (slots_at c.gather.new.out 0 i)) (c.if-called-args.false ∙ sym k)
+    ∙ gathered-slots (gathers_in _ _ c.store_of.ensures c.gather.ensures) (slots-ok _ _ _ g.0.fit.holds.entries) c.if-not-gather.false (omega (arith, k, few (goal.at.jump-requires c).After-list_row-args, g.1)) in
+    (g.0.fit, (omega (arith, f.short, c.gather.auto.out, g.1), stand))
 
 pub returns : goal.returns
-returns c = record {
-  makes = λ P l p o.
-      let f = all (goal.at.returns c).Else-not-gather P l p o in
-      let n = c.if-row-args.false in
-      let v = subst (λ (i : ℕ). Laid l f.found (slots_at c.gather.new.out 0 i)) (sym n) f.laid in
-      call-makes o p f.calls (label-read (the_call p o c.requires.record') c.label_of-label.ensures) c.definition_of.ensures (found (goal.at.returns c).In_ok-called) n v c.jump.ensures;
-}
+returns c = (
+  record {
+    makes = λ P l p o.
+        let f = all (goal.at.returns c).Else-not-gather P l p o in
+        let n = c.if-called-args.false in
+        let v = subst (λ (i : ℕ). Laid l f.found (slots_at c.gather.new.out 0 i)) (sym n) f.laid in
+        call-makes o p f.calls (label-read (the_call p o c.requires.0.record') c.label_of-label.ensures) c.definition_of.ensures (found (goal.at.returns c).In_ok-called) n v c.jump.ensures.0;
+  },
+  search rules,
+)

@@ -9,11 +9,11 @@ use Rattle.step_statement_ifc.proofs.ifc.second.Goals as goal
 pub returns-in-None : goal.returns-in-None
 unfolding second_in
 returns-in-None c =
-    let a = c.args in
-    sym (ap (λ (x : Option Identifier). second_in (entries_in a.store.now a.header) (option_of x)) c.in-None.is)
+    let s = c.args.state.now in
+    sym (ap (λ (x : Option Identifier). second_in (entries_in s.store.now s.header) (option_of x)) c.in-None.is)
 
 pub returns-in-Some : goal.returns-in-Some
 unfolding second_in
 returns-in-Some c =
-    let a = c.args in
-    c.integer_of.ensures ∙ sym (ap (λ (x : Option Identifier). second_in (entries_in a.store.now a.header) (option_of x)) c.in-Some.is)
+    let s = c.args.state.now in
+    c.integer_of.ensures ∙ sym (ap (λ (x : Option Identifier). second_in (entries_in s.store.now s.header) (option_of x)) c.in-Some.is)

@@ -1,20 +1,37 @@
 -- `entrance_of` meets its contract. Assumes nothing.
+use mathlib.Core.Path.{◌≡◌, refl, sym, ◌∙◌}
+use mathlib.Core.Bool.{Bool, true, false, not, true≢false, false≢true}
+use Rattle.step_slots.specs.declared.sort.Sort.TheVariants.{CreateCell}
+use Rattle.step_slots.specs.Sorts.{sort_code}
+use Rattle.step_slots.proofs.SortLaws.{codes_same, codes_differ}
 use Rattle.step_statement_invoke.specs.Invoking.{no-closure, no_record, no-clause, other-count, a-clause}
 use Rattle.step_statement_invoke.proofs.invoke.entrance_of.Goals as goal
-use Rattle.step_statement_invoke.proofs.invoke.entrance_of.Goals.{then-cell-ne4-via-then-cell-ne4, then-cell-ne4-via-else-cell-ne4+then-stepper-cell}
+use Rattle.step_statement_invoke.proofs.invoke.entrance_of.Goals.{then-ne-via-then-ne, then-ne-via-else-ne+then-stepper-cell, Else-ne}
 
-pub returns-then-cell-ne4 : goal.returns-then-cell-ne4
-returns-then-cell-ne4 c =
-    elim c.then-cell-ne4.branch [
-      | then-cell-ne4-via-then-cell-ne4 w ↦ no-closure w.if-cell-ne4.true
-      | then-cell-ne4-via-else-cell-ne4+then-stepper-cell w ↦ no_record w.if-cell-ne4.false w.if-stepper-cell.true
+unlike : {b t : Bool} → t ≡ not b → t ≡ true → b ≡ false
+unlike {b = true} e h = absurd (false≢true (sym e ∙ h))
+unlike {b = false} e h = refl
+
+alike : {b t : Bool} → t ≡ not b → t ≡ false → b ≡ true
+alike {b = true} e h = refl
+alike {b = false} e h = absurd (true≢false (sym e ∙ h))
+
+-- the cell is a closure's
+closure : (c : Else-ne) → sort_code c.args.cell.sort ≡ 4
+closure c = codes_same c.args.cell.sort CreateCell refl (alike c.ne.ensures c.if-ne.false)
+
+pub returns-then-ne : goal.returns-then-ne
+returns-then-ne c =
+    elim c.then-ne.branch [
+      | then-ne-via-then-ne w ↦ no-closure (codes_differ c.args.cell.sort CreateCell refl (unlike c.ne.ensures w.if-ne.true))
+      | then-ne-via-else-ne+then-stepper-cell w ↦ no_record (codes_same c.args.cell.sort CreateCell refl (alike c.ne.ensures w.if-ne.false)) w.if-stepper-cell.true
     ]
 
 pub returns-in_err-clause : goal.returns-in_err-clause
-returns-in_err-clause c = rw c.from_residual.ensures (no-clause c.if-cell-ne4.false c.in_err-clause.ensures)
+returns-in_err-clause c = rw c.from_residual.ensures (no-clause (closure (goal.at.returns-in_err-clause c).Else-ne) c.in_err-clause.ensures)
 
 pub returns-then-clause-k : goal.returns-then-clause-k
-returns-then-clause-k c = other-count c.if-cell-ne4.false c.in_ok-clause.ensures c.if-clause-k.true
+returns-then-clause-k c = other-count (closure (goal.at.returns-then-clause-k c).Else-ne) c.in_ok-clause.ensures c.if-clause-k.true
 
 pub returns : goal.returns
-returns c = a-clause c.if-cell-ne4.false c.in_ok-clause.ensures c.if-clause-k.false
+returns c = a-clause (closure (goal.at.returns c).Else-ne) c.in_ok-clause.ensures c.if-clause-k.false

@@ -1,64 +1,103 @@
 -- `source` meets its contract. Assumes nothing.
+use Rattle.std.specs.Prelude.{Some, None, Err}
 use Prim.Native.Nat.{ℕ, ◌+◌, ◌*◌, ◌≤◌}
-use mathlib.Core.Path.{refl, sym, ap, ◌∙◌}
+use mathlib.Core.Path.{◌≡◌, refl, sym, ap, ◌∙◌, subst}
+use mathlib.Core.List.{List}
 use native.Mathlib.Omega.{arith}
 use borrow.Author.Rules.{rules}
 use lib.ListN.{length}
-use Rattle.syntax.specs.declared.names.Identifier.{Identifier}
-use Rattle.step_slots.specs.Views.{slots_at, all_slots}
+use Rattle.image_read_nodes.specs.Nodes.{record_at, first_of}
+use Rattle.step_slots.specs.Slots.{as_slot}
+use Rattle.step_slots.specs.Views.{found_slot, slots_at, all_slots}
 use Rattle.step_header.specs.Headers.{entries_in}
 use Rattle.step_entries.specs.Named.{named}
-use Rattle.step_rows.specs.Rows.{ids_in}
+use Rattle.step_rows.specs.Rows.{ids_of}
 use Rattle.step_rows.proofs.RowLaws.{ids-length}
+use Rattle.step_gather.specs.Gathering.{Gathers}
 use Rattle.step_gather.proofs.GatheredSlots.{slots-ok, gathered-stand, gathered-slots}
+use Rattle.step_write.specs.declared.Stop.TheVariants.{NoStep}
 use Rattle.step_enter.proofs.EnterLaws.{list-short}
-use Rattle.step_statement_invoke.proofs.SourceLaws.{Looked, source-makes, source_none}
+use Rattle.step_statement_invoke.proofs.SourceLaws.{Looked, named_in, unseen-makes, source-makes, source_none}
 use Rattle.step_statement_invoke.proofs.invoke.source.Goals as goal
-use Rattle.step_statement_invoke.proofs.invoke.source.Goals.{After-list_row-row}
+use Rattle.step_statement_invoke.proofs.invoke.source.Goals.{After-slot_of, After-list_row-row, After-gather}
+
+-- what is found is the value of var
+asked : (c : After-slot_of) →
+    let a = c.args in
+    found_slot c.slot_of.result ≡ named (first_of (record_at a.stepper.now.image.frame a.stepper.now.image.bytes.now a.work.now.header.position)).id.0 (entries_in a.work.now.store.now a.work.now.header)
+asked c = let e = c.state_of-state.ensures in named_in e.stored e.headed c.first-var.ensures c.slot_of.ensures
+
+-- what is gathered is from the entries
+gathers : (c : After-gather) → let w = c.args.work.now in Gathers (entries_in w.store.now w.header) (ids_of c.list_row-row.result) c.args.scratch.now 0 c.gather.new.out c.gather.result
+gathers c =
+    let w = c.args.work.now in
+    subst (λ (s : List ℕ). Gathers (slots_at s (64 + 16 * w.header.heap) w.header.entries) (ids_of c.list_row-row.result) c.args.scratch.now 0 c.gather.new.out c.gather.result) c.store_of.ensures c.gather.ensures
 
 -- what was read and looked up
 looked : (c : After-list_row-row) →
     let a = c.args in
-    Looked a.stepper.now.image.frame a.stepper.now.image.bytes.now a.header.position (entries_in a.store.now a.header) c.slot_of-value.result c.read_tag-tag.result c.list_row-row.result
-looked c = record {
-  found = c.slot_of-value.ensures ∙ ap (λ (x : Identifier). named x.id.0 (entries_in c.args.store.now c.args.header)) c.first-var.ensures;
-  tagged = c.read_tag-tag.ensures;
-  args = c.list_row-row.ensures;
-}
+    Looked a.stepper.now.image.frame a.stepper.now.image.bytes.now a.work.now.header.position (entries_in a.work.now.store.now a.work.now.header) (as_slot c.in_ok-value.value) c.read_tag-tag.result
+    c.list_row-row.result
+looked c =
+    let s : c.slot_of.result ≡ Some c.in_ok-value.value = search rules in
+    let e = c.state_of-state.ensures in
+    record {
+      found = ap found_slot (sym s) ∙ named_in e.stored e.headed c.first-var.ensures c.slot_of.ensures;
+      tagged = c.read_tag-tag.ensures;
+      args = c.list_row-row.ensures;
+    }
 
 -- the args are few
-few : (c : After-list_row-row) → c.list_row-row.result.len ≤ 128
-few c = list-short c.args.stepper.now.image.ready c.requires.record' refl c.list_row-row.ensures
+few : (c : After-list_row-row) → c.list_row-row.result.places.len ≤ 128
+few c = list-short c.list_row-row.result c.args.stepper.now.image.ready c.requires.0.record' refl c.list_row-row.ensures
 
 -- there is room for their values
-room : (c : After-list_row-row) → let a = c.args in 0 + 16 * length (ids_in a.stepper.now.image.bytes.now c.list_row-row.result) ≤ length a.scratch.now
-room c = omega (arith, few c, ids-length c.args.stepper.now.image.bytes.now c.list_row-row.result, c.requires.scratch')
+room : (c : After-list_row-row) → 0 + 16 * length (ids_of c.list_row-row.result) ≤ length c.args.scratch.now
+room c = omega (arith, few c, ids-length c.list_row-row.result.bytes.now c.list_row-row.result.places, c.requires.1)
+
+pub returns-in_err-value : goal.returns-in_err-value
+returns-in_err-value c = (
+  let n : c.slot_of.result ≡ None = search rules in
+      let e : c.from_residual.result ≡ Err NoStep = search rules in
+      rw e record { makes = λ P l p o. unseen-makes p o c.requires.0.record' (ap found_slot (sym n) ∙ asked (goal.at.returns-in_err-value c).After-slot_of) },
+  search rules,
+)
 
 pub gather-requires : goal.gather-requires
 gather-requires c =
     let g = c.requires in
-    (c.list_row-row.ensures.inside, (omega (arith, g.holds.inside), (g.holds.entries, omega (arith, few (goal.at.gather-requires c).After-list_row-row, g.scratch'))))
+    rw c.store_of.ensures (omega (arith, g.0.fit.holds.inside), (g.0.fit.holds.entries, omega (arith, few (goal.at.gather-requires c).After-list_row-row, g.1)))
 
 pub returns-then-not-gather : goal.returns-then-not-gather
-returns-then-not-gather c = record {
-  makes = λ P l p o.
-      source_none p o c.args.stepper.now.image.ready c.requires.record' (looked (goal.at.returns-then-not-gather c).After-list_row-row) (sym c.gather.ensures.found ∙ c.if-not-gather.true);
-}
+returns-then-not-gather c = (
+  record {
+    makes = λ P l p o.
+        source_none p o c.args.stepper.now.image.ready c.requires.0.record' (looked (goal.at.returns-then-not-gather c).After-list_row-row) (sym (gathers (goal.at.returns-then-not-gather c).After-gather).found ∙ c.if-not-gather.true);
+  },
+  search rules,
+)
 
 pub source_enter-requires : goal.source_enter-requires
 source_enter-requires c =
     let k = c.requires in
     let w = (goal.at.source_enter-requires c).After-list_row-row in
-    let slots = gathered-slots c.gather.ensures (slots-ok _ _ _ k.holds.entries) c.if-not-gather.false (room w) in (
-      record { record' = k.record'; holds = k.holds; place = k.place; scratch' = search rules },
-      (few w, ap (λ (i : ℕ). all_slots (slots_at c.gather.new.out 0 i)) (sym (ids-length c.args.stepper.now.image.bytes.now c.list_row-row.result)) ∙ slots),
+    let slots = gathered-slots (gathers (goal.at.source_enter-requires c).After-gather) (slots-ok _ _ _ k.0.fit.holds.entries) c.if-not-gather.false (room w) in (
+      k.0,
+      (
+        omega (arith, k.1, c.gather.auto.out),
+        (few w, ap (λ (i : ℕ). all_slots (slots_at c.gather.new.out 0 i)) (sym (ids-length c.list_row-row.result.bytes.now c.list_row-row.result.places)) ∙ slots),
+      ),
     )
 
 pub returns : goal.returns
-returns c = record {
-  makes = λ P l p o.
-      let w = (goal.at.returns c).After-list_row-row in
-      let n = ids-length c.args.stepper.now.image.bytes.now c.list_row-row.result in
-      let are = ap (slots_at c.gather.new.out 0) (sym n) ∙ gathered-stand c.gather.ensures (slots-ok _ _ _ c.requires.holds.entries) c.if-not-gather.false (room w) in
-      source-makes p o c.args.stepper.now.image.ready c.requires.record' (looked w) (sym c.gather.ensures.found ∙ c.if-not-gather.false) are c.source_enter.ensures;
-}
+returns c = (
+  record {
+    makes = λ P l p o.
+        let w = (goal.at.returns c).After-list_row-row in
+        let g = gathers (goal.at.returns c).After-gather in
+        let n = ids-length c.list_row-row.result.bytes.now c.list_row-row.result.places in
+        let are = ap (slots_at c.gather.new.out 0) (sym n) ∙ gathered-stand g (slots-ok _ _ _ c.requires.0.fit.holds.entries) c.if-not-gather.false (room w) in
+        source-makes p o c.args.stepper.now.image.ready c.requires.0.record' (looked w) (sym g.found ∙ c.if-not-gather.false) are c.source_enter.ensures.0;
+  },
+  search rules,
+)

@@ -1,41 +1,79 @@
 -- `source_enter` meets its contract. Assumes nothing.
 use Rattle.std.specs.Prelude.{Some, None, Err}
-use mathlib.Core.Path.{◌≡◌, refl, ap}
+use mathlib.Core.Path.{◌≡◌, refl, sym, ap, ◌∙◌}
 use borrow.Author.Rules.{rules}
+use Rattle.step_slots.specs.declared.sort.Sort.TheVariants.{Outside}
+use Rattle.step_slots.specs.Slots.{as_slot}
+use Rattle.step_slots.specs.Sorts.{sort_code}
 use Rattle.step_slots.specs.Views.{slots_at}
 use Rattle.step_slots.proofs.SlotBytes.{slots-count}
+use Rattle.step_slots.proofs.SortLaws.{codes_same, codes_differ}
+use Rattle.step_header.specs.Headers.{heap_in}
+use Rattle.step_cells.specs.Cells.{as_cell, found_cell, cell_in'}
 use Rattle.step_write.specs.declared.Stop.TheVariants.{NoStep}
 use Rattle.step_statement_invoke.proofs.EntranceLaws.{Entered, entered_by, can_enter}
-use Rattle.step_statement_invoke.proofs.EnteringLaws.{outside_as, nothing_as, closure_as}
+use Rattle.step_statement_invoke.proofs.EnteringLaws.{outside_as, referred_in, no-cell_as, nothing_as, closure_as}
 use Rattle.step_statement_invoke.proofs.invoke.source_enter.Goals as goal
-use Rattle.step_statement_invoke.proofs.invoke.source_enter.Goals.{In_ok-clause}
+use Rattle.step_statement_invoke.proofs.invoke.source_enter.Goals.{Else-eq, After-cell_of, In_ok-cell, In_ok-clause}
+
+-- the value is no outside number
+inside : (c : Else-eq) → sort_code c.args.value.sort ≡ 2 → ⊥
+inside c = codes_differ c.args.value.sort Outside c.eq.ensures c.if-eq.false
+
+-- what is found is the cell of the value
+asked : (c : After-cell_of) → found_cell c.cell_of.result ≡ cell_in' (heap_in c.args.work.now.store.now c.args.work.now.header) (as_slot c.args.value)
+asked c = let e = c.state_of-state.ensures in referred_in (as_slot c.args.value) e.stored e.headed c.cell_of.ensures
+
+-- the cell is that of the value
+referred : (c : In_ok-cell) → as_cell c.in_ok-cell.cell ≡ cell_in' (heap_in c.args.work.now.store.now c.args.work.now.header) (as_slot c.args.value)
+referred c =
+    let s : c.cell_of.result ≡ Some c.in_ok-cell.cell = search rules in
+    let e = c.state_of-state.ensures in
+    ap found_cell (sym s) ∙ referred_in (as_slot c.args.value) e.stored e.headed c.cell_of.ensures
 
 -- the clause is found
 found : (c : In_ok-clause) → c.entrance_of.result ≡ Some c.in_ok-clause.clause
 found c = search rules
 
-entered : (c : In_ok-clause) → let a = c.args in Entered a.stepper.now.image.frame a.stepper.now.image.bytes.now c.cell_of-cell.result a.tag a.k c.in_ok-clause.clause
+entered : (c : In_ok-clause) → let a = c.args in Entered a.stepper.now.image.frame a.stepper.now.image.bytes.now (as_cell c.in_ok-cell.cell) a.tag a.k c.in_ok-clause.clause
 entered c = entered_by c.entrance_of.ensures (found c)
 
-pub returns-then-value-eq2 : goal.returns-then-value-eq2
-returns-then-value-eq2 c =
-    let a = c.args in
-    outside_as a.k c.if-value-eq2.true c.ended.ensures c.last_event-shown.ensures (slots-count a.scratch.now 0 a.k) refl c.finish_showing_from.ensures
+pub returns-then-eq : goal.returns-then-eq
+returns-then-eq c = (
+  let a = c.args in
+      outside_as a.k (codes_same a.value.sort Outside c.eq.ensures c.if-eq.true) c.ended-next.ensures c.last_event-shown.ensures (slots-count a.scratch.now 0 a.k) refl c.finish_showing_from.ensures.0,
+  search rules,
+)
+
+pub returns-in_err-cell : goal.returns-in_err-cell
+returns-in_err-cell c = (
+  let n : c.cell_of.result ≡ None = search rules in
+      let e : c.from_residual.result ≡ Err NoStep = search rules in
+      rw e (no-cell_as (ap found_cell (sym n) ∙ asked (goal.at.returns-in_err-cell c).After-cell_of) (inside (goal.at.returns-in_err-cell c).Else-eq)),
+  search rules,
+)
 
 pub returns-in_err-clause : goal.returns-in_err-clause
-returns-in_err-clause c =
-    let a = c.args in
-    let n : c.entrance_of.result ≡ None = search rules in
-    let e : c.from_residual.result ≡ Err NoStep = search rules in
-    rw e (nothing_as c.entrance_of.ensures c.cell_of-cell.ensures (slots-count a.scratch.now 0 a.k) n c.if-value-eq2.false)
+returns-in_err-clause c = (
+  let a = c.args in
+      let n : c.entrance_of.result ≡ None = search rules in
+      let e : c.from_residual-in_err-clause.result ≡ Err NoStep = search rules in
+      let g = goal.at.returns-in_err-clause c in
+      rw e (nothing_as c.entrance_of.ensures (referred g.In_ok-cell) (slots-count a.scratch.now 0 a.k) n (inside g.Else-eq)),
+  search rules,
+)
 
 pub enter_clause-requires : goal.enter_clause-requires
 enter_clause-requires c =
-    let g = c.requires.0 in
-    can_enter (entered (goal.at.enter_clause-requires c).In_ok-clause) c.args.value g.holds c.cell_of-cell.ensures g.place g.scratch' c.requires.1.1
+    let p = c.requires in
+    let g = goal.at.enter_clause-requires c in
+    can_enter (entered g.In_ok-clause) (as_slot c.args.value) p.0.fit (referred g.In_ok-cell) p.1.0 p.1.1.1
 
 pub returns : goal.returns
-returns c =
-    let a = c.args in
-    let w = (goal.at.returns c).In_ok-clause in
-    closure_as c.entrance_of.ensures c.cell_of-cell.ensures (slots-count a.scratch.now 0 a.k) (found w) (ap (slots_at a.scratch.now 0) (entered w).count) c.enter_clause.ensures
+returns c = (
+  let a = c.args in
+      let g = goal.at.returns c in
+      let w = g.In_ok-clause in
+      closure_as c.entrance_of.ensures (referred g.In_ok-cell) (slots-count a.scratch.now 0 a.k) (found w) (ap (slots_at a.scratch.now 0) (entered w).count) c.enter_clause.ensures.0,
+  search rules,
+)

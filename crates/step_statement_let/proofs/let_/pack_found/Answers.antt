@@ -15,5 +15,5 @@ returns c =
     let var = puts_as (ap slot_bytes c.var_slot.ensures) c.put_slot-2.ensures in
     record {
       found = sym e ∙ c.gather.ensures.found;
-      put = λ _. packed (cell_slot_lem a.header a.parts.tag) (var_slot_lem a.header a.parts.id) a.parts.args.len (ids-length a.image.now a.parts.args) c.requires.1.1 head c.gather.ensures e var;
+      put = λ _. packed (cell_slot_lem a.state.now.header a.parts.now.tag) (var_slot_lem a.state.now.header a.parts.now.id) a.parts.now.args.places.len (ids-length a.parts.now.args.bytes.now a.parts.now.args.places) c.requires head c.gather.ensures e var;
     }

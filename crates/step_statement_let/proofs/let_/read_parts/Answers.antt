@@ -11,5 +11,5 @@ returns c =
       id = ap (λ (x : Identifier). x.id.0) c.first-var.ensures;
       tag = c.from.ensures ∙ ap (λ (x : Identifier). x.name.0) c.tag_of-tag.ensures;
       args = c.list_row-args.ensures;
-      few = row-short a.image.now.frame a.image.now.bytes.now a.position 4 a.image.now.ready c.requires refl c.list_row-args.ensures;
+      few = row-short a.image.now.frame a.image.now.bytes.now a.position 4 c.list_row-args.result a.image.now.ready c.requires refl c.list_row-args.ensures;
     }

@@ -14,5 +14,5 @@ returns c =
     record {
       targets' = c.target_row-targets.ensures;
       sources' = c.source_row-sources.ensures;
-      few = omega (arith, row-length c.target_row-targets.ensures, length-map ps (λ p. p.0.var.id), pairs-short a.image.now.frame a.image.now.bytes.now a.position a.image.now.ready c.requires);
+      few = omega (arith, row-length c.target_row-targets.result c.target_row-targets.ensures, length-map ps (λ p. p.0.var.id), pairs-short a.image.now.frame a.image.now.bytes.now a.position a.image.now.ready c.requires);
     }

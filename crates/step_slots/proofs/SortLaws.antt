@@ -1,0 +1,96 @@
+-- The sorts by name and by byte, the test whether two are one, and slots with a sort by name. In order: a byte belongs to one sort; the test of two
+-- sorts is that of their bytes; what is found where there is a slot, and where there is none. Assumes nothing.
+use Rattle.std.specs.Prelude.{Option, Some, None}
+use Prim.Native.Nat.{ℕ, ◌≤◌}
+use mathlib.Core.List.{List, [], ◌∷◌}
+use mathlib.Core.Path.{◌≡◌, refl, ap, sym, ◌∙◌}
+use mathlib.Core.Bool.{Bool, true, false, true≢false}
+use native.Mathlib.Omega.{arith}
+use borrow.Author.Rules.{rules}
+use borrow.Author.Tests.{le-leb}
+use lib.ListN.{get_or}
+use lib.Dec.{eqb}
+use denote.Enum.Declared.{tag_of}
+use denote.Enum.Bare.{sameb, same_true, same_false}
+use Rattle.step_slots.specs.contracts.sort.Sort.{the_type as sort_type}
+use Rattle.step_slots.specs.declared.sort.Sort.{Sort}
+use Rattle.step_slots.specs.declared.sort.Sort.TheVariants.{Integer, Cell, Outside, LetCell, CreateCell}
+use Rattle.step_slots.specs.declared.Slot as code
+use Rattle.step_slots.specs.Sorts.{sort_code}
+use Rattle.step_slots.specs.Slots.{Slot, as_slot}
+use Rattle.step_slots.specs.Views.{found_slot, is_slot}
+
+-- ── a byte belongs to one sort ──
+
+abbrev sorts : List Sort
+sorts = Integer ∷ Cell ∷ Outside ∷ LetCell ∷ CreateCell ∷ []
+
+coded : (s : Sort) → get_or sorts (sort_code s) Integer ≡ s
+coded Integer = refl
+coded Cell = refl
+coded Outside = refl
+coded LetCell = refl
+coded CreateCell = refl
+
+pub same-sort : (a b : Sort) → sort_code a ≡ sort_code b → a ≡ b
+same-sort a b e = sym (coded a) ∙ (ap (λ k. get_or sorts k Integer) e ∙ coded b)
+
+pub sort-differs : (a b : Sort) → (a ≡ b → ⊥) → sort_code a ≡ sort_code b → ⊥
+sort-differs a b h e = h (same-sort a b e)
+
+pub sort-below : (s : Sort) → sort_code s ≤ 4
+sort-below Integer = omega arith
+sort-below Cell = omega arith
+sort-below Outside = omega arith
+sort-below LetCell = omega arith
+sort-below CreateCell = omega arith
+
+-- the byte that `as u8` gives
+pub sort-number : (s : Sort) → tag_of sort_type s ≡ sort_code s
+sort-number Integer = refl
+sort-number Cell = refl
+sort-number Outside = refl
+sort-number LetCell = refl
+sort-number CreateCell = refl
+
+-- ── the test of two sorts is that of their bytes ──
+
+pub same-codes : (a b : Sort) → sameb sort_type a b ≡ eqb (sort_code a) (sort_code b)
+same-codes a b = rw (sort-number a, sort-number b) refl
+
+pub codes_same : (a b : Sort) {t : Bool} → t ≡ sameb sort_type a b → t ≡ true → sort_code a ≡ sort_code b
+codes_same a b e h = ap sort_code (same_true sort_type (search rules) a b (sym e ∙ h))
+
+pub codes_differ : (a b : Sort) {t : Bool} → t ≡ sameb sort_type a b → t ≡ false → sort_code a ≡ sort_code b → ⊥
+codes_differ a b e h q = same_false sort_type a b (sym e ∙ h) (same-sort a b q)
+
+-- ── slots with a sort by name ──
+
+pub slot-is : (t : code.Slot) → is_slot (as_slot t) ≡ true
+slot-is t = le-leb (sort_code t.sort) 4 (sort-below t.sort)
+
+abbrev made : Sort → ℕ → ℕ → code.Slot
+made s i p = record { sort = s; id = i; payload = p }
+
+-- two of the same view are one
+pub same_slot : (a b : code.Slot) → as_slot a ≡ as_slot b → a ≡ b
+same_slot a b e =
+    let s : a.sort ≡ b.sort = same-sort a.sort b.sort (ap (λ (t : Slot). t.sort) e) in
+    let i : a.id ≡ b.id = ap (λ (t : Slot). t.id) e in
+    let p : a.payload ≡ b.payload = ap (λ (t : Slot). t.payload) e in
+    ap (λ (x : Sort). made x a.id a.payload) s ∙ (ap (λ (x : ℕ). made b.sort x a.payload) i ∙ ap (λ (x : ℕ). made b.sort b.id x) p)
+
+-- what is found is a slot exactly if there is one
+pub found-is : (o : Option code.Slot) (t : code.Slot) → o ≡ Some t → is_slot (found_slot o) ≡ true
+found-is o t e = rw e (slot-is t)
+
+pub found_none : (o : Option code.Slot) → is_slot (found_slot o) ≡ false → o ≡ None
+found_none None h = refl
+found_none (Some t) h = absurd (true≢false (sym (slot-is t) ∙ h))
+
+-- .. so at a place where the view is known
+pub none_there : {t : Slot} → found_slot None ≡ t → is_slot t ≡ false
+none_there e = rw (← e) refl
+
+pub some_there : (s : code.Slot) {t : Slot} → found_slot (Some s) ≡ t → is_slot t ≡ true
+some_there s e = rw (← e) (slot-is s)
