@@ -35,7 +35,9 @@ use Rattle.image_places_spec.specs.Views.{record_of, clauses_in, bodies_of, bind
 use Rattle.image_places_spec.specs.Places.{Begins, stmt_at, clauses_at, StmtStands, ClausesStand, BodiesStand}
 use Rattle.image_places_spec.proofs.PlaceLaws.{stmt_is, clauses-are, stmt-parts, body-parts, head-within}
 use Rattle.image_write_parts.specs.Puts.{Puts}
-use Rattle.image_write_parts.proofs.Putting.{puts_then}
+use Rattle.image_write_parts.specs.Written.{Wrote}
+use Rattle.image_write_parts.specs.declared.writer.Writer.{Writer}
+use Rattle.image_write_parts.proofs.WriterLaws.{wrote_as, wrote_next}
 use Rattle.scope_spec.specs.Flat.{all_records_lem, small_record_lem}
 use Rattle.scope_spec.specs.Rooms.{in_room, RoomFor, RoomForClauses}
 use Rattle.scope_spec.specs.Marking.{mark_stmt, mark_clauses, keep, marked_from}
@@ -44,7 +46,7 @@ use Rattle.scope_spec.proofs.FlatLaws.{question7-flat}
 use Rattle.scope_spec.proofs.Inside.{Inside, inside, asked-parts}
 use Rattle.scope_spec.proofs.IdsFit.{stmt-ids-fit, clauses-ids-fit, two_bytes}
 use Rattle.scope_spec.proofs.MarkLaws.{FitRow, Marks, all_uses, all_uses_clauses, marks_stmt, marks_clauses, marked-ascending}
-use Rattle.image_read_nodes.specs.Nodes.{record_at, At}
+use Rattle.image_read_parts.specs.Indexed.{record_at, At}
 use Rattle.scope_check.specs.Deciding.{program_in}
 use Rattle.scope_check.proofs.ReplyLaws.{opened-replies, closed-replies}
 use Rattle.annotate.specs.Annotating.{annotated_kind, Annotated, Limited, Settled}
@@ -237,25 +239,25 @@ marked-few n (m ∷ row) = go (eqb m 0) (marked-few (suc n) row)
     go true h = omega arith
     go false h = omega arith
 
-ids_short : (w : ℕ) → w ≤ 2 → (xs : List VarId) → length (each (λ (x : VarId). field w x.0) xs) ≤ 2 * length xs
+ids_short : (w : ℕ) → w ≤ 8 → (xs : List VarId) → length (each (λ (x : VarId). field w x.0) xs) ≤ 8 * length xs
 ids_short w h [] = omega arith
 ids_short w h (x ∷ xs) = omega (arith, length-append (field w x.0) (each (λ (y : VarId). field w y.0) xs), field-length w x.0, ids_short w h xs)
 
 -- what a row of k marks says takes few bytes
-pub set-short : (w : ℕ) (row : List ℕ) (k : ℕ) → w ≤ 2 → length row ≡ k → length (set_bytes w (marked_from 0 row)) ≤ 2 + 2 * k
+pub set-short : (w : ℕ) (row : List ℕ) (k : ℕ) → w ≤ 8 → length row ≡ k → length (set_bytes w (marked_from 0 row)) ≤ 2 + 8 * k
 set-short w row k h e =
     omega (arith, length-append (field 2 (length (marked_from 0 row))) (each (λ (x : VarId). field w x.0) (marked_from 0 row)), field-length 2 (length (marked_from 0 row)), ids_short w h (marked_from 0 row), marked-few 0 row)
 
-pub put_one : (w : ℕ) (L : List (List VarId)) (xs ys : List VarId) {before after : List ℕ} {at k : ℕ} → Puts before after at k (set_bytes w xs) → xs ≡ ys → L ≡ ys ∷ [] → Puts before after at k (each (set_bytes w) L)
-put_one w L xs ys {before} {after} {at} {k} p e q = subst (Puts before after at k) (ap (set_bytes w) e ∙ sym (append-nil (set_bytes w ys)) ∙ ap (each (set_bytes w)) (sym q)) p
+pub wrote_one : {u v : Writer} (L : List (List VarId)) (xs ys : List VarId) → Wrote u v (set_bytes u.id xs) → xs ≡ ys → L ≡ ys ∷ [] → Wrote u v (each (set_bytes u.id) L)
+wrote_one {u} L xs ys p e q = wrote_as (ap (set_bytes u.id) e ∙ sym (append-nil (set_bytes u.id ys)) ∙ ap (each (set_bytes u.id)) (sym q)) p
 
-pub put_two : (w : ℕ) (L : List (List VarId)) (xs ys us vs : List VarId) {before mid after : List ℕ} {at m k : ℕ} → Puts before mid at m (set_bytes w xs) → Puts mid after m k (set_bytes w us)
-    → xs ≡ ys → us ≡ vs → L ≡ ys ∷ vs ∷ [] → Puts before after at k (each (set_bytes w) L)
-put_two w L xs ys us vs {before} {mid} {after} {at} {m} {k} p r e f q =
-    subst (Puts before after at k)
-    (ap (λ (z : List VarId). set_bytes w z ++ set_bytes w us) e ∙ ap (λ (z : List VarId). set_bytes w ys ++ set_bytes w z) f
-    ∙ ap (λ (z : List ℕ). set_bytes w ys ++ z) (sym (append-nil (set_bytes w vs))) ∙ ap (each (set_bytes w)) (sym q))
-    (puts_then p r)
+pub wrote_two : {u v w : Writer} (L : List (List VarId)) (xs ys us vs : List VarId) → Wrote u v (set_bytes u.id xs) → Wrote v w (set_bytes v.id us)
+    → xs ≡ ys → us ≡ vs → L ≡ ys ∷ vs ∷ [] → Wrote u w (each (set_bytes u.id) L)
+wrote_two {u} L xs ys us vs p r e f q =
+    wrote_as
+    (ap (λ (z : List VarId). set_bytes u.id z ++ set_bytes u.id us) e ∙ ap (λ (z : List VarId). set_bytes u.id ys ++ set_bytes u.id z) f
+    ∙ ap (λ (z : List ℕ). set_bytes u.id ys ++ z) (sym (append-nil (set_bytes u.id vs))) ∙ ap (each (set_bytes u.id)) (sym q))
+    (wrote_next (λ (k : ℕ). set_bytes k us) p r)
 
 -- ── the questions ──
 

@@ -8,24 +8,24 @@ use Rattle.image_spec.specs.Answers.{Answer}
 use Rattle.image_directory.specs.Slots.{records_in}
 use Rattle.image_directory.specs.declared.Frame.{Frame}
 use Rattle.image_places_spec.specs.Places.{stmt_at, StmtStands}
-use Rattle.image_write_parts.specs.Puts.{Puts}
+use Rattle.image_write_parts.specs.Written.{Wrote}
+use Rattle.image_write_parts.specs.declared.writer.Writer.{Writer}
 use Rattle.scope_spec.specs.Rooms.{in_room}
 use Rattle.scope_spec.specs.Calls.{set_bytes, has_annotation_lem}
 use Rattle.scope_spec.specs.Marking.{marked_from}
-use Rattle.image_read_nodes.specs.Nodes.{record_at}
+use Rattle.image_read_parts.specs.Indexed.{record_at}
 use Rattle.scope_check.specs.Definitions.{Defined}
 use Rattle.scope_check.specs.Deciding.{program_in}
 use Rattle.annotate_uses.specs.Sources.{Source}
-use Rattle.annotate.specs.declared.annotate.Written.{Written}
 
 -- has a record of the kind an annotation?
 abbrev pub annotated_kind : ℕ → Bool
 annotated_kind k = (leb 4 k && leb k 6) || ((leb 8 k && leb k 9) || eqb k 12)
 
 -- the set that a row marks is written, and the walk has come to this place
-pub record Wrote (r : Written) (before after : List ℕ) (at place w : ℕ) (row : List ℕ) : Type 0 where
-  pub next : r.next ≡ place
-  pub puts : Puts before after at r.end (set_bytes w (marked_from 0 row))
+pub record WroteSet (w w' : Writer) (next place : ℕ) (row : List ℕ) : Type 0 where
+  pub next_is : next ≡ place
+  pub wrote : Wrote w w' (set_bytes w.id (marked_from 0 row))
 
 -- a statement with an annotation stands at i, and the questions 6 and 7 were asked of it
 pub record Annotated (g : Frame) (s : List ℕ) (i : ℕ) : Type 0 where

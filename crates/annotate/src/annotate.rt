@@ -4,21 +4,21 @@ ghost use Rattle.model.specs.FreeVars.{annotations};
 ghost use Rattle.model.specs.Questions.{question7};
 ghost use Rattle.image_spec.specs.Parse.{each};
 ghost use Rattle.image_spec.specs.Shape.{flatten, flatten_clauses, max_depth};
+ghost use Rattle.image_kinds.specs.Codes.{code_of};
+ghost use Rattle.image_directory.specs.Images.{records_of};
 ghost use Rattle.image_open.specs.Opening.{Known};
 ghost use Rattle.image_places_spec.specs.Places.{stmt_at, clauses_at, StmtStands, ClausesStand};
-ghost use Rattle.image_write_parts.specs.Puts.{Puts};
+ghost use Rattle.image_write_parts.specs.Written.{Wrote};
 ghost use Rattle.scope_spec.specs.Calls.{set_bytes, placing, annotating, annotate_of, Replies};
 ghost use Rattle.scope_spec.specs.Marking.{mark_stmt, mark_clauses};
 ghost use Rattle.scope_spec.specs.Rooms.{RoomFor, RoomForClauses};
 ghost use Rattle.scope_check.specs.Definitions.{Defined};
 ghost use Rattle.scope_check.specs.Deciding.{program_in};
-ghost use Rattle.annotate_uses.specs.Sources.{Source};
-ghost use Rattle.annotate.specs.Annotating.{annotated_kind, Wrote, Annotated, Limited, Settled};
-ghost use Rattle.image_directory.specs.Images.{records_of};
-ghost use Rattle.image_kinds.specs.Codes.{code_of};
+ghost use Rattle.annotate.specs.Annotating.{annotated_kind, WroteSet, Annotated, Limited, Settled};
 
 use crate::walk::{clauses, statement};
 use annotate_marks::put_set;
+use annotate_uses::counted::Counted;
 use image_directory::image::Image;
 use image_kinds::kinds::Kind;
 use image_open::open;
@@ -26,18 +26,13 @@ use image_open::opened::Opened;
 use image_read_nodes::parts_of;
 use image_spec::{Accepted, Answer, Layout, Refusal};
 use image_write_bytes::bytes::clear;
+use image_write_parts::writer::Writer;
 use scope_check::check::within_limits;
 use scope_check::definitions::walk_definitions;
 use scope_records::flat::{Alone, all_records};
 use syntax::sets::IdSet;
 
-// The index that the walk has come to, and the place past what was written.
-#[derive(Clone, Copy)]
-pub struct Written {
-    pub next: usize,
-    pub end: usize,
-}
-
+// (A name, and no pattern where it is asked: the definition has the name too, and the two are proved equal here once.)
 fn has_annotation(kind: Kind) -> bool
     ensures { result ≡ annotated_kind (code_of kind) }
 {
@@ -47,48 +42,54 @@ fn has_annotation(kind: Kind) -> bool
     )
 }
 
-// Writes the free variables of the statement at index i.
-fn put_statement(image: &Image<'_>, i: usize, row: &mut [u8], out: &mut [u8], at: usize) -> Written
-    requires { Source image.now.frame image.now.bytes.now × (StmtStands 127 (records_of image.now) i (stmt_at 127 (records_of image.now) i) × (RoomFor [] (stmt_at 127 (records_of image.now) i) × ((length row.old ≡ 65536) × (at + 1000000 < 2 ^ 64)))) }
-    ensures { Wrote result out.old out.new at (i + length (flatten (stmt_at 127 (records_of image.now) i))) image.now.frame.id (mark_stmt (stmt_at 127 (records_of image.now) i) [] (replicate (length row.old) 0)) }
+// Writes the free variables of the statement at index i, and answers the index behind it.
+// (`i`, `row` and `writer`, here and below: an index, room for one set, cleared before each, and what all sets are written in.)
+fn put_statement(source: &Counted<'_>, i: usize, row: &mut [u8], writer: &mut Writer<'_>) -> usize
+    requires { StmtStands 127 (records_of source.now.image) i (stmt_at 127 (records_of source.now.image) i) × (RoomFor [] (stmt_at 127 (records_of source.now.image) i) × ((length row.old ≡ 65536) × (writer.old.at + 1000000 < 2 ^ 64))) }
+    ensures { WroteSet writer.old writer.new result (i + length (flatten (stmt_at 127 (records_of source.now.image) i))) (mark_stmt (stmt_at 127 (records_of source.now.image) i) [] (replicate (length row.old) 0)) }
 {
     clear(row);
-    let next = statement(image, Layout::DEPTH_BELOW, i, IdSet::empty(), row);
-    let end = put_set(row, out, at, image.frame.id);
-    Written { next, end }
+    let next = statement(source, Layout::DEPTH_BELOW, i, IdSet::empty(), row);
+    put_set(row, writer);
+    next
 }
 
-// Writes the free variables of the n clauses from index i on.
+// Writes the free variables of the n clauses from index i on, and answers the index behind them.
 fn put_clauses(
-    image: &Image<'_>,
+    source: &Counted<'_>,
     n: usize,
     i: usize,
     row: &mut [u8],
-    out: &mut [u8],
-    at: usize,
-) -> Written
-    requires { Source image.now.frame image.now.bytes.now × (ClausesStand 127 n (records_of image.now) i (clauses_at 127 n (records_of image.now) i) × (RoomForClauses [] (clauses_at 127 n (records_of image.now) i) × ((length row.old ≡ 65536) × (at + 1000000 < 2 ^ 64)))) }
-    ensures { Wrote result out.old out.new at (i + length (flatten_clauses (clauses_at 127 n (records_of image.now) i))) image.now.frame.id (mark_clauses (clauses_at 127 n (records_of image.now) i) [] (replicate (length row.old) 0)) }
+    writer: &mut Writer<'_>,
+) -> usize
+    requires { ClausesStand 127 n (records_of source.now.image) i (clauses_at 127 n (records_of source.now.image) i) × (RoomForClauses [] (clauses_at 127 n (records_of source.now.image) i) × ((length row.old ≡ 65536) × (writer.old.at + 1000000 < 2 ^ 64))) }
+    ensures { WroteSet writer.old writer.new result (i + length (flatten_clauses (clauses_at 127 n (records_of source.now.image) i))) (mark_clauses (clauses_at 127 n (records_of source.now.image) i) [] (replicate (length row.old) 0)) }
 {
     clear(row);
-    let next = clauses(image, Layout::DEPTH_BELOW, n, i, IdSet::empty(), row);
-    let end = put_set(row, out, at, image.frame.id);
-    Written { next, end }
+    let next = clauses(source, Layout::DEPTH_BELOW, n, i, IdSet::empty(), row);
+    put_set(row, writer);
+    next
 }
 
 // Writes the annotation of the record at index i: the set of its clauses, then the set of its next.
-fn put_annotation(image: &Image<'_>, i: usize, row: &mut [u8], out: &mut [u8]) -> usize
-    requires { Annotated image.now.frame image.now.bytes.now i × (length row.old ≡ 65536) }
-    ensures { Puts out.old out.new 0 result (each (set_bytes image.now.frame.id) (annotations (stmt_at max_depth (records_of image.now) i))) }
+// (`image` and `i`: the kind is read here together with the number of clauses, so a `RecordAt` would bring it a second time.)
+fn put_annotation(image: &Image<'_>, i: usize, row: &mut [u8], writer: &mut Writer<'_>)
+    requires { Annotated image.now.frame image.now.bytes.now i × ((length row.old ≡ 65536) × (writer.old.at + 2000000 < 2 ^ 64)) }
+    ensures { Wrote writer.old writer.new (each (set_bytes writer.old.id) (annotations (stmt_at max_depth (records_of image.now) i))) }
 {
     let f = parts_of(image, i);
+    let source = Counted { image: *image };
     match f.kind {
-        Kind::Switch => put_clauses(image, f.clauses, i + 1, row, out, 0).end,
-        Kind::Create => {
-            let c = put_clauses(image, f.clauses, i + 1, row, out, 0);
-            put_statement(image, c.next, row, out, c.end).end
+        Kind::Switch => {
+            put_clauses(&source, f.clauses, i + 1, row, writer);
         }
-        _ => put_statement(image, i + 1, row, out, 0).end,
+        Kind::Create => {
+            let next = put_clauses(&source, f.clauses, i + 1, row, writer);
+            put_statement(&source, next, row, writer);
+        }
+        _ => {
+            put_statement(&source, i + 1, row, writer);
+        }
     }
 }
 
@@ -107,6 +108,7 @@ fn settle(out: &mut [u8], written: usize, max_id: u32) -> Answer
 }
 
 // Questions 13 and 12, of an image that has passed 1 to 7.
+// (`i` and `out`, here and below: two arguments of the exported function, an index to read at and a buffer to write.)
 fn annotate_record(opened: &Opened<'_>, i: usize, out: &mut [u8]) -> Answer
     requires { Limited opened.now.image.frame opened.now.image.bytes.now opened.now.definitions opened.now.max_id }
     ensures { Replies (placing opened.now.image.frame.id (program_in opened.now.definitions (records_of opened.now.image) opened.now.max_id) i (length out.old)) result out.old out.new }
@@ -115,7 +117,13 @@ fn annotate_record(opened: &Opened<'_>, i: usize, out: &mut [u8]) -> Answer
         return Err(Refusal::Place);
     }
     let mut row = [0u8; Layout::IDS];
-    let written = put_annotation(&opened.image, i, &mut row, out);
+    let mut writer = Writer {
+        out,
+        at: 0,
+        id: opened.image.frame.id,
+    };
+    put_annotation(&opened.image, i, &mut row, &mut writer);
+    let written = writer.at;
     settle(out, written, opened.max_id)
 }
 

@@ -4,11 +4,11 @@
 ghost use Rattle.std.specs.Prelude.{◌≡◌, ◌+◌, ◌*◌, ◌≤◌, ◌<◌, ◌^◌, length};
 ghost use Rattle.syntax.specs.Arrays.{set_of};
 ghost use Rattle.image_spec.specs.Parse.{each, field};
-ghost use Rattle.image_write_parts.specs.Puts.{Puts};
+ghost use Rattle.image_write_parts.specs.Written.{Wrote};
 ghost use Rattle.scope_spec.specs.Marking.{mark_one_lem, mark_all_lem, marked_from};
 ghost use Rattle.scope_spec.specs.Calls.{set_bytes};
 
-use image_write_parts::put_number;
+use image_write_parts::writer::Writer;
 use syntax::names::VarId;
 use syntax::sets::IdSet;
 
@@ -50,25 +50,24 @@ pub fn count_marked(row: &[u8]) -> u32
     marked
 }
 
-// Writes the marked IDs in ascending order, w bytes each.
-pub fn put_marked(row: &[u8], out: &mut [u8], at: usize, w: usize) -> usize
-    requires { (length row.now < 2 ^ 32) × ((w ≤ 8) × (at + 8 * length row.now < 2 ^ 64)) }
-    ensures { Puts out.old out.new at result (each (λ (x : VarId). field w x.0) (marked_from 0 row.now)) }
+// Writes the marked IDs in ascending order.
+pub fn put_marked(row: &[u8], writer: &mut Writer<'_>)
+    requires { (length row.now < 2 ^ 32) × (writer.old.at + 8 * length row.now < 2 ^ 64) }
+    ensures { Wrote writer.old writer.new (each (λ (x : VarId). field writer.old.id x.0) (marked_from 0 row.now)) }
 {
-    let mut here = at;
+    let width = writer.id;
     for i in 0..row.len() {
         if row[i] != 0 {
-            here = put_number(out, here, w, i as u32);
+            writer.number(width, i as u32);
         }
     }
-    here
 }
 
 // Writes the set of the marked IDs: its count, then the IDs.
-pub fn put_set(row: &[u8], out: &mut [u8], at: usize, w: usize) -> usize
-    requires { (length row.now < 2 ^ 32) × ((w ≤ 8) × (at + (2 + 8 * length row.now) < 2 ^ 64)) }
-    ensures { Puts out.old out.new at result (set_bytes w (marked_from 0 row.now)) }
+pub fn put_set(row: &[u8], writer: &mut Writer<'_>)
+    requires { (length row.now < 2 ^ 32) × (writer.old.at + (2 + 8 * length row.now) < 2 ^ 64) }
+    ensures { Wrote writer.old writer.new (set_bytes writer.old.id (marked_from 0 row.now)) }
 {
-    let next = put_number(out, at, 2, count_marked(row));
-    put_marked(row, out, next, w)
+    writer.number(2, count_marked(row));
+    put_marked(row, writer);
 }

@@ -12,7 +12,8 @@ use Rattle.image_spec.specs.Kinds.{fixed, tail_bytes}
 use Rattle.image_directory.specs.Slots.{Ready}
 use Rattle.image_directory.specs.declared.Frame.{Frame}
 use Rattle.image_read_parts.specs.Standing.{Stands, ReadsAs, RoomIn}
-use Rattle.image_read_nodes.specs.Nodes.{record_at, At, second_of}
+use Rattle.image_read_nodes.specs.Nodes.{second_of}
+use Rattle.image_read_parts.specs.Indexed.{record_at, At}
 use Rattle.image_read_nodes.proofs.TailLaws.{tail-byte, tail-room, tail_some}
 use Rattle.image_read_nodes.proofs.NodeLaws.{record_ok, identifier-room, second_none, Second, second_some}
 

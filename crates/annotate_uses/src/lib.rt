@@ -1,4 +1,4 @@
-// The IDs that the record at an index uses, in their order, and the scope with what it binds.
+// The IDs that a record of an image uses, in their order, and the scope with what it binds.
 #![tactic(auto)]
 
 ghost use Rattle.std.specs.Prelude.{◌≡◌, true, ◌∷◌, [], ◌++◌, ◌+◌, ◌≤◌, length};
@@ -12,29 +12,29 @@ ghost use Rattle.image_read_nodes.specs.Nodes.{has_list, operand_of, second_of};
 ghost use Rattle.scope_places.specs.Scoping.{Scope};
 ghost use Rattle.annotate_uses.specs.Sets.{Room};
 ghost use Rattle.annotate_uses.specs.Sources.{BoundBy};
-ghost use Rattle.image_read_nodes.specs.Opened.{record_of, IsAt};
 ghost use Rattle.image_kinds.specs.Codes.{code_of};
+ghost use Rattle.image_read_parts.specs.Recorded.{record_in};
+ghost use Rattle.image_kinds.specs.declared.kinds.Kind.TheVariants.{Op, IfC};
 
-use image_directory::image::Image;
-use image_fields::count;
+pub mod counted;
+
 use image_kinds::kinds::Kind;
-use image_read_nodes::{first, list_at, operand, target};
-use image_read_parts::{byte, identifier, identifier_at};
+use image_read_nodes::{first, list_at, list_count, list_id, operand, target};
+use image_read_parts::record::RecordAt;
+use image_read_parts::{byte, identifier};
 use syntax::names::Identifier;
 use syntax::sets::IdSet;
 
 // The set, with the bindings of a record's list behind.
-fn add_list(image: &Image<'_>, i: usize, kind: Kind, set: IdSet) -> IdSet
-    requires { IsAt image.now i (code_of kind) × ((has_list (code_of kind) ≡ true) × Room set (length (list_of (record_of image.now i)))) }
-    ensures { SetHolds result (set_of set ++ ids (list_of (record_of image.now i))) }
+// (`node` and `set`, here and below: a record, and the set that it adds to: none, its first variable, or what is bound.)
+fn add_list(node: &RecordAt<'_>, set: IdSet) -> IdSet
+    requires { (has_list (code_of node.now.kind) ≡ true) × Room set (length (list_of (record_in node.now))) }
+    ensures { SetHolds result (set_of set ++ ids (list_of (record_in node.now))) }
 {
-    let w = image.frame.id;
-    let start = list_at(image, i, kind);
-    let mut at = start + 1;
+    let start = list_at(node);
     let mut all = set;
-    for _ in 0..count(image.bytes[start]) {
-        all = all.add(identifier_at(image.bytes, w, at).id);
-        at += 6 + (w + w);
+    for j in 0..list_count(node, start) {
+        all = all.add(list_id(node, start, j));
     }
     all
 }
@@ -45,50 +45,50 @@ fn only(id: Identifier) -> IdSet
     IdSet::empty().add(id.id)
 }
 
-// The set, with the second operand of the Op at index i behind.
-fn add_operand(image: &Image<'_>, i: usize, set: IdSet) -> IdSet
-    requires { IsAt image.now i 9 × Room set 1 }
-    ensures { SetHolds result (set_of set ++ ((operand_of (record_of image.now i)).id ∷ [])) }
+// The set, with the second operand of an Op behind.
+fn add_operand(node: &RecordAt<'_>, set: IdSet) -> IdSet
+    requires { (node.now.kind ≡ Op) × Room set 1 }
+    ensures { SetHolds result (set_of set ++ ((operand_of (record_in node.now)).id ∷ [])) }
 {
-    set.add(operand(image, i).id)
+    set.add(operand(node).id)
 }
 
-// The set, with the second operand of the IfC at index i behind, if there is one.
-fn add_second(image: &Image<'_>, i: usize, set: IdSet) -> IdSet
-    requires { IsAt image.now i 10 × Room set 1 }
-    ensures { SetHolds result (set_of set ++ optional_id (second_of (record_of image.now i))) }
+// The set, with the second operand of an IfC behind, if there is one.
+fn add_second(node: &RecordAt<'_>, set: IdSet) -> IdSet
+    requires { (node.now.kind ≡ IfC) × Room set 1 }
+    ensures { SetHolds result (set_of set ++ optional_id (second_of (record_in node.now))) }
 {
-    let mark = Kind::IfC.fixed(image.frame.id);
-    if byte(image, i, mark) == 0 {
+    let mark = Kind::IfC.fixed(node.image.frame.id);
+    if byte(&node.image, node.index, mark) == 0 {
         return set;
     }
-    set.add(identifier(image, i, mark + 1).id)
+    set.add(identifier(&node.image, node.index, mark + 1).id)
 }
 
-// The IDs that the record at index i uses. (Its counts have passed question 7.)
-pub fn uses(image: &Image<'_>, i: usize, kind: Kind) -> IdSet
-    requires { IsAt image.now i (code_of kind) × (small_record_lem (record_of image.now i) ≡ true) }
-    ensures { SetHolds result (uses_of (record_of image.now i)) }
+// The IDs that a record uses. (Its counts have passed question 7. The kinds under `_`, here and below, use or bind nothing.)
+pub fn uses(node: &RecordAt<'_>) -> IdSet
+    requires { small_record_lem (record_in node.now) ≡ true }
+    ensures { SetHolds result (uses_of (record_in node.now)) }
 {
-    match kind {
-        Kind::Call | Kind::Let => add_list(image, i, kind, IdSet::empty()),
-        Kind::Switch | Kind::Print | Kind::Exit => only(first(image, i, kind)),
-        Kind::Invoke => add_list(image, i, kind, only(first(image, i, kind))),
-        Kind::Op => add_operand(image, i, only(first(image, i, kind))),
-        Kind::IfC => add_second(image, i, only(first(image, i, kind))),
+    match node.kind {
+        Kind::Call | Kind::Let => add_list(node, IdSet::empty()),
+        Kind::Switch | Kind::Print | Kind::Exit => only(first(node)),
+        Kind::Invoke => add_list(node, only(first(node))),
+        Kind::Op => add_operand(node, only(first(node))),
+        Kind::IfC => add_second(node, only(first(node))),
         _ => IdSet::empty(),
     }
 }
 
-// Binds what the record at index i binds.
-pub fn bind(image: &Image<'_>, i: usize, kind: Kind, bound: IdSet) -> IdSet
-    requires { IsAt image.now i (code_of kind) × (Scope bound × (length (set_of bound ++ binders (record_of image.now i)) ≤ 64)) }
-    ensures { BoundBy result (set_of bound ++ binders (record_of image.now i)) }
+// Binds what a record binds.
+pub fn bind(node: &RecordAt<'_>, bound: IdSet) -> IdSet
+    requires { Scope bound × (length (set_of bound ++ binders (record_in node.now)) ≤ 64) }
+    ensures { BoundBy result (set_of bound ++ binders (record_in node.now)) }
 {
-    match kind {
-        Kind::Let | Kind::Create | Kind::Literal => bound.add(first(image, i, kind).id),
-        Kind::Op => bound.add(target(image, i).id),
-        Kind::Definition | Kind::Clause => add_list(image, i, kind, bound),
+    match node.kind {
+        Kind::Let | Kind::Create | Kind::Literal => bound.add(first(node).id),
+        Kind::Op => bound.add(target(node).id),
+        Kind::Definition | Kind::Clause => add_list(node, bound),
         _ => bound,
     }
 }

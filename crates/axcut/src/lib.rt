@@ -1,5 +1,6 @@
 // The functions of the library. Each returns the number of its answer, 0 for acceptance, and sets what it is lent to report in on every call.
 // axcut_c exports them to C.
+// Parameters stay side by side as they are: they are those of the C interface, in its order (include/axcut.h).
 #![tactic(auto)]
 
 ghost use Rattle.std.specs.Prelude.{◌≡◌, []};

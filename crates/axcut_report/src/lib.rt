@@ -1,4 +1,5 @@
 // How the exported functions report: the number of an answer, and what they are lent to report in.
+// `length` and `max_id`, `made` and `length`: the C interface lends them one by one.
 #![tactic(auto)]
 
 ghost use Rattle.std.specs.Prelude.{◌≡◌, []};

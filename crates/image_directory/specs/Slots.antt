@@ -7,7 +7,7 @@ use Rattle.image_spec.specs.Image.{if_some, is_some, Entry, entry, tiled_from, r
 use Rattle.image_directory.specs.declared.Slot.{Slot}
 use Rattle.image_directory.specs.declared.Frame.{Frame}
 
--- the widths of the fields that the code reads
+-- the widths of the fields that the code reads. (Asked of a number, or of a `Frame`'s, where it is not known yet that the image is `Ready`, which has it.)
 abbrev pub Width : ℕ → Type 0
 Width p = (0 < p) × (p ≤ 4)
 

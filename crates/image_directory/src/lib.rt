@@ -1,12 +1,13 @@
 // The directory of an image: the pairs that tile its bytes (question 3), and the loop over its records (question 4).
 #![tactic(auto)]
 
-ghost use Rattle.std.specs.Prelude.{◌≡◌, true, ◌+◌, ◌≤◌, ◌<◌};
+ghost use Rattle.std.specs.Prelude.{◌≡◌, true, ◌≤◌};
 ghost use Rattle.image_spec.specs.Image.{tiled_from};
 ghost use Rattle.image_directory.specs.Slots.{Width, slot_at, formed_from};
 
 pub mod image;
 
+use image_fields::fields::Fields;
 use image_fields::number;
 use image_kinds::form::record_formed;
 
@@ -44,12 +45,6 @@ pub struct Slot {
     pub size: usize,
 }
 
-pub fn long(x: u32) -> usize
-    ensures { result ≡ x }
-{
-    x as usize
-}
-
 // The pair from at, with numbers of `place` bytes; none where the bytes end.
 pub fn read_slot(image: &[u8], place: usize, at: usize) -> Option<Slot>
     requires { Width place }
@@ -63,47 +58,53 @@ pub fn read_slot(image: &[u8], place: usize, at: usize) -> Option<Slot>
     None
 }
 
-// Question 3: do the n pairs from `from`, with numbers of `place` bytes, tile s from `start` to its end?
-pub fn tiled(image: &[u8], place: usize, n: usize, from: usize, start: usize) -> bool
-    requires { Width place }
-    ensures { result ≡ tiled_from place n from start image.now }
+// Question 3: do the pairs of a frame's directory tile the bytes from where its records begin to their end?
+// (`image` and `frame`, here and below: they are an `Image` once they have passed both questions.)
+pub fn tiled(image: &[u8], frame: Frame) -> bool
+    requires { Width frame.place }
+    ensures { result ≡ tiled_from frame.place frame.count frame.from frame.start image.now }
 {
     let len = image.len();
-    if len < start {
+    if len < frame.start {
         return false;
     }
-    let mut at = from;
-    let mut here = start;
-    for _ in 0..n {
-        let Some(slot) = read_slot(image, place, at) else {
+    let mut at = frame.from;
+    let mut here = frame.start;
+    for _ in 0..frame.count {
+        let Some(slot) = read_slot(image, frame.place, at) else {
             return false;
         };
         if slot.offset != here || len - here < slot.size {
             return false;
         }
         here += slot.size;
-        at += place + place;
+        at += frame.place + frame.place;
     }
     here == len
 }
 
-// Question 4: are the records of the n pairs from `from`, which tile s from `start`, formed, with IDs of w bytes?
-pub fn all_formed(image: &[u8], w: usize, place: usize, n: usize, from: usize, start: usize) -> bool
-    requires { (w ≤ 8) × (Width place × (tiled_from place n from start image.now ≡ true)) }
-    ensures { result ≡ formed_from w place n from start image.now }
+// Question 4: are the records of a frame's pairs, which tile the bytes, formed?
+// (A `for` that returns, and no chain with `all`: its closure would need a contract that each index is below the bound.)
+pub fn all_formed(image: &[u8], frame: Frame) -> bool
+    requires { (frame.id ≤ 8) × (Width frame.place × (tiled_from frame.place frame.count frame.from frame.start image.now ≡ true)) }
+    ensures { result ≡ formed_from frame.id frame.place frame.count frame.from frame.start image.now }
 {
-    let mut at = from;
-    let mut here = start;
-    for _ in 0..n {
-        let Some(slot) = read_slot(image, place, at) else {
+    let mut at = frame.from;
+    let mut here = frame.start;
+    for _ in 0..frame.count {
+        let Some(slot) = read_slot(image, frame.place, at) else {
             return false;
         };
         let end = here + slot.size;
-        if !record_formed(&image[here..end], w) {
+        let fields = Fields {
+            bytes: &image[here..end],
+            id: frame.id,
+        };
+        if !record_formed(&fields) {
             return false;
         }
         here = end;
-        at += place + place;
+        at += frame.place + frame.place;
     }
     true
 }

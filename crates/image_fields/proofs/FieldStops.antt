@@ -7,7 +7,8 @@ use native.Mathlib.Omega.{arith}
 use borrow.Author.Tests.{le-leb}
 use lib.ListN.{length, drop, get_or}
 use Rattle.image_spec.specs.Parse.{refused, got, both, code, number, zeros, one_of, counted}
-use Rattle.image_spec.specs.Fields.{max_count, chiralities, integer, identifier, type, binding, pair, list}
+use Rattle.image_spec.specs.Fields.{max_count, integer, identifier, type, binding, pair, list}
+use Rattle.syntax.specs.Codes.{chiralities}
 use Rattle.image_spec.proofs.ParseLaws.{number_exact}
 use Rattle.image_spec.proofs.FieldLaws.{chirality_exact, identifier_exact, binding_exact}
 use Rattle.image_fields.specs.Found.{stop}

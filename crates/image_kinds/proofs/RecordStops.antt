@@ -1,5 +1,5 @@
 -- Where the parser of a record stops, by kind, and when a record is formed. Assumes nothing.
-use Rattle.std.specs.Prelude.{Some, None, option_and_then}
+use Rattle.std.specs.Prelude.{Some, option_and_then}
 use Rattle.std.specs.Option.{option_eq}
 use Prim.Native.Nat.{ℕ, zero, suc, ◌-◌, ◌≤◌, ◌<◌}
 use mathlib.Core.List.{List, [], ◌∷◌}
@@ -10,7 +10,8 @@ use borrow.Author.Tests.{le-leb, eq-eqb, ne_eqb}
 use lib.Dec.{eqb}
 use lib.ListN.{length, get_or, get_or-eq_default}
 use Rattle.image_spec.specs.Parse.{Parsed, refused, got, Parser, both, code, number, one_of, counted, marked, whole}
-use Rattle.image_spec.specs.Fields.{max_count, operators, sorts, newlines, integer, identifier, type, pair, list}
+use Rattle.image_spec.specs.Fields.{max_count, newlines, integer, identifier, type, pair, list}
+use Rattle.syntax.specs.Codes.{operators, sorts}
 use Rattle.image_spec.specs.Records.{Record, contents, content, one_record, decode_record}
 use Rattle.image_spec.specs.Kinds.{kinds, fixed}
 use Rattle.image_spec.specs.Image.{is_some}
@@ -19,7 +20,7 @@ use Rattle.image_spec.proofs.FieldLaws.{operator_exact, sort_exact, newline_exac
 use Rattle.image_spec.proofs.RecordLaws.{record_exact}
 use Rattle.image_spec.proofs.KindLaws.{kind-first, fixed_le}
 use Rattle.image_fields.specs.Found.{found_in, stop}
-use Rattle.image_fields.proofs.Stops.{stop-via, stop-both, stop-one_of, never-stops, onward, alike}
+use Rattle.image_fields.proofs.Stops.{stop-via, stop-both, stop-one_of, onward, alike}
 use Rattle.image_fields.proofs.FieldStops.{stop-integer}
 
 -- what follows the kind byte, by kind
@@ -101,13 +102,6 @@ pub ruleset record_stops = (stop1, stop2, stop3, stop4, stop5, stop6, stop7, sto
 -- past one more
 pub up : (a : ℕ) {b : ℕ} → a ≤ b → (b ≡ a → ⊥) → suc a ≤ b
 up a h n = omega arith
-
-pub content-other : (w k : ℕ) (s : List ℕ) (at : ℕ) → (0 < k → kinds ≤ k) → stop (content w k) s at ≡ None
-unfolding content contents
-content-other w zero s at h = never-stops ℕ Record s at
-content-other w (suc k) s at h =
-    let n : kinds ≤ suc k = h (omega arith) in
-    rw (get_or-eq_default (contents w) (λ _. refused) n) (never-stops ℕ Record s at)
 
 pub formed : (w : ℕ) (s : List ℕ) → 0 < length s → is_some (decode_record w s) ≡ option_eq eqb (stop (content w (get_or s 0 0)) s 1) (Some (length s))
 unfolding decode_record one_record stop

@@ -8,7 +8,7 @@ use Rattle.image_spec.specs.Reading.{definition_count, record_count, Reading, re
 use Rattle.image_directory.specs.Slots.{Width}
 use Rattle.image_directory.specs.declared.Frame.{Frame}
 
--- a layout whose fields the code reads
+-- a layout whose fields the code reads. (No field of `Layout`: definitions and theorems are of every layout, also of those that no code reads.)
 pub record Known (L : Layout) : Type 0 where
   pub id : Width L.id
   pub place : Width L.place

@@ -17,6 +17,7 @@ use image_shape::shaped;
 use image_spec::{Accepted, Answer, Layout, Refusal};
 
 // Asks the questions of an image of a layout, in their order.
+// (`image` and `layout`, here and in what calls this: lent bytes of which nothing is known yet, and a constant of the library.)
 pub fn open(image: &[u8], layout: Layout) -> Result<Opened<'_>, Refusal>
     requires { Known layout }
     ensures { Opens layout image.now result }
@@ -53,12 +54,6 @@ fn open_records(
     let place = layout.place;
     let from = 2 + (2 + (id + place));
     let start = from + count * (place + place);
-    if !tiled(image, place, count, from, start) {
-        return Err(Refusal::Directory);
-    }
-    if !all_formed(image, id, place, count, from, start) {
-        return Err(Refusal::RecordForm);
-    }
     let frame = Frame {
         id,
         place,
@@ -66,6 +61,12 @@ fn open_records(
         from,
         start,
     };
+    if !tiled(image, frame) {
+        return Err(Refusal::Directory);
+    }
+    if !all_formed(image, frame) {
+        return Err(Refusal::RecordForm);
+    }
     let image = Image {
         bytes: image,
         frame,

@@ -25,7 +25,7 @@ pub record Begins {A : Type 0} (rs : List A) (i : ℕ) (front : List A) : Type 0
   pub rest : List A
   pub split : drop i rs ≡ front ++ rest
 
--- a statement stands at i, at most d deep; and the same of n clauses and of n bodies
+-- a statement stands at i, at most d deep; and the same of n clauses and of n bodies. (Asked of the walks: the depth that is left falls with each call.)
 pub record StmtStands (d : ℕ) (rs : List Record) (i : ℕ) (t : Stmt) : Type 0 where
   pub begins : Begins rs i (flatten t)
   pub shallow : depth t ≤ d

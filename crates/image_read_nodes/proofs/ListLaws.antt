@@ -1,15 +1,15 @@
 -- The list of a record: where it stands, and the loops over its bindings. Assumes nothing.
-use Prim.Native.Nat.{ℕ, ◌+◌, ◌-◌, ◌≤◌, ◌<◌}
+use Prim.Native.Nat.{ℕ, zero, suc, ◌+◌, ◌-◌, ◌*◌, ◌≤◌, ◌<◌}
 use mathlib.Core.Path.{◌≡◌, refl, sym, ap, ◌∙◌, subst}
 use mathlib.Core.Bool.{true, false}
 use mathlib.Core.List.{List, [], ◌∷◌, ◌++◌, append-nil, append_assoc}
 use native.Mathlib.Omega.{arith}
-use lib.ListN.{length, drop, get_or, length-append, length-drop}
+use lib.ListN.{length, drop, get_or, length-append, length-drop, drop_of_length-le}
 use lib.Seq.{drop-drop}
 use Rattle.syntax.specs.Context.{Context, ids}
-use Rattle.syntax.specs.declared.names.Identifier.{Identifier}
 use Rattle.syntax.specs.declared.names.VarId.{VarId}
 use Rattle.syntax.specs.declared.context.ContextBinding.{ContextBinding}
+use Rattle.syntax.proofs.Filters.{ids-length}
 use Rattle.image_spec.specs.Parse.{each, All}
 use Rattle.image_spec.specs.Fields.{chirality_code_lem, identifier_bytes, type_bytes, binding_bytes, list_bytes, IdentifierOk, BindingOk, ListOk}
 use Rattle.image_spec.specs.Records.{Record, definition, substitute, call, let', switch, create, invoke, literal, op, ifc, clause', print, exit, record_bytes, RecordOk}
@@ -18,10 +18,11 @@ use Rattle.image_spec.proofs.FieldLaws.{binding-length}
 use Rattle.image_spec.proofs.KindLaws.{fixed_le}
 use Rattle.image_directory.specs.Slots.{Ready}
 use Rattle.image_directory.specs.declared.Frame.{Frame}
-use Rattle.image_read_parts.specs.Standing.{Stands, ReadsAs}
+use Rattle.image_read_parts.specs.Standing.{Stands}
 use Rattle.image_read_parts.proofs.StandingLaws.{byte-run, first_run, second_run, stands_in, stands-room}
 use Rattle.image_read_parts.specs.Parts.{list_of}
-use Rattle.image_read_nodes.specs.Nodes.{record_at, At, has_list}
+use Rattle.image_read_nodes.specs.Nodes.{has_list, IsNext}
+use Rattle.image_read_parts.specs.Indexed.{record_at, At}
 use Rattle.image_read_nodes.proofs.TailLaws.{tail_from}
 use Rattle.image_read_nodes.proofs.NodeLaws.{record_ok}
 
@@ -98,6 +99,26 @@ module _ (w : ℕ) where
         };
       }
 
+  -- the one at place j
+  pub record Placed (s : List ℕ) (place : ℕ) (Γ : Context) (j : ℕ) : Type 0 where
+    pub binding : ContextBinding
+    pub inside : place + (6 + (w + w)) ≤ length s
+    pub var : Stands (identifier_bytes w) (IdentifierOk w) s place binding.var
+    pub next : drop j (ids Γ) ≡ binding.var.id ∷ drop (suc j) (ids Γ)
+
+  run-placed : {s : List ℕ} (Γ : Context) (j : ℕ) {n : ℕ} (at place : ℕ) → place ≡ at + j * (6 + (w + w)) → j < n → Run s at n Γ → Placed s place Γ j
+  run-placed [] j at place e h r = absurd (omega (arith, r.count))
+  run-placed {s} (b ∷ Γ) zero at place e h r =
+      let n = run-next b Γ r in
+      let q : at ≡ place = omega (arith, e) in
+      record { binding = b; inside = omega (arith, n.inside, q); var = subst (λ (z : ℕ). Stands (identifier_bytes w) (IdentifierOk w) s z b.var) q n.var; next = refl }
+  run-placed (b ∷ Γ) (suc j) at place e h r =
+      let p = run-placed Γ j (at + (6 + (w + w))) place (omega (arith, e)) (omega arith) (run-next b Γ r).run in
+      record { binding = p.binding; inside = p.inside; var = p.var; next = p.next }
+
+  pub list-placed : {s : List ℕ} {at : ℕ} {Γ : Context} (j : ℕ) → Stands (list_bytes w) (ListOk w) s at Γ → j < length Γ → Placed s (at + (1 + j * (6 + (w + w)))) Γ j
+  list-placed {s} {at} {Γ} j h k = run-placed Γ j (at + 1) _ (omega arith) k (list-run h).run
+
 -- the list of the record at an index
 module _ (g : Frame) (s : List ℕ) (i : ℕ) where
   pub list-there : (k o : ℕ) → Ready g s → At g s i k → has_list k ≡ true → Stands (record_bytes g.id) (RecordOk g.id) s o (record_at g s i)
@@ -106,45 +127,12 @@ module _ (g : Frame) (s : List ℕ) (i : ℕ) where
       let r = record_at g s i in
       stands_in (subst (λ (z : ℕ). fixed g.id z ≤ length (record_bytes g.id r)) a.kind (fixed_le g.id r)) t (list-stands g.id r k a.kind h (record_ok g s i k ready a))
 
--- a loop over a list, with a state: what is left from here gives what the whole gives
-module _ {S : Type 0} (F : List VarId → S → S) where
-  pub record Left (w : ℕ) (s : List ℕ) (whole : S) (at left : ℕ) (v : S) : Type 0 where
-    pub rest : Context
-    pub run : Run w s at left rest
-    pub same : whole ≡ F (ids rest) v
+-- a loop over IDs, with a state: those from place j on give what the whole gives
+module _ {S : Type 0} (F : List VarId → S → S) {whole : S} where
+  pub ids-turn : (f : VarId → S → S) → ((x : VarId) (xs : List VarId) (v : S) → F (x ∷ xs) v ≡ F xs (f x v)) → {xs : List VarId} {j : ℕ} {x : VarId} {v next : S}
+      → whole ≡ F (drop j xs) v → IsNext xs j x → next ≡ f x v → whole ≡ F (drop (j + 1) xs) next
+  ids-turn f step {xs} {j} {x} {v} h n e =
+      h ∙ (ap (λ (ys : List VarId). F ys v) n.is ∙ (step x (drop (j + 1) xs) v ∙ ap (F (drop (j + 1) xs)) (sym e)))
 
-  pub left-start : {w : ℕ} {s : List ℕ} {at n : ℕ} {Γ : Context} (v : S) → Stands (list_bytes w) (ListOk w) s at Γ → n ≡ get_or s at 0 → Left w s (F (ids Γ) v) (at + 1) n v
-  left-start {w} {s} {at} {n} {Γ} v h e =
-      let l = list-run w h in
-      record { rest = Γ; run = subst (λ (m : ℕ). Run w s (at + 1) m Γ) (sym (e ∙ l.count)) l.run; same = refl }
-
-  -- there is one more
-  pub left-inside : {w : ℕ} {s : List ℕ} {whole : S} {at left : ℕ} {v : S} → Left w s whole at left v → 0 < left → at + (6 + (w + w)) ≤ length s
-  left-inside {w} {s} {whole} {at} {left} l h = go l.rest l.run
-    where
-      go : (Γ : Context) → Run w s at left Γ → at + (6 + (w + w)) ≤ length s
-      go [] r = absurd (omega (arith, r.count))
-      go (b ∷ Γ) r = (run-next w b Γ r).inside
-
-  pub left-turn : (f : VarId → S → S) → ((x : VarId) (xs : List VarId) (v : S) → F (x ∷ xs) v ≡ F xs (f x v))
-      → {w : ℕ} {s : List ℕ} {whole : S} {at left : ℕ} {v : S} {x : Identifier} {next : S} → Left w s whole at left v → 0 < left
-      → ReadsAs (identifier_bytes w) (IdentifierOk w) s at x → next ≡ f x.id v → Left w s whole (at + (6 + (w + w))) (left - 1) next
-  left-turn f step {w} {s} {whole} {at} {left} {v} {x} {next} l h d e = go l.rest l.run l.same
-    where
-      go : (Γ : Context) → Run w s at left Γ → whole ≡ F (ids Γ) v → Left w s whole (at + (6 + (w + w))) (left - 1) next
-      go [] r q = absurd (omega (arith, r.count))
-      go (b ∷ Γ) r q =
-          let n = run-next w b Γ r in
-          let i : x ≡ b.var = d.is b.var n.var in
-          record {
-            rest = Γ;
-            run = n.run;
-            same = q ∙ (step b.var.id (ids Γ) v ∙ ap (F (ids Γ)) (ap (λ (y : Identifier). f y.id v) (sym i) ∙ sym e));
-          }
-
-  pub left_end : ((v : S) → F [] v ≡ v) → {w : ℕ} {s : List ℕ} {whole : S} {at left : ℕ} {v : S} → Left w s whole at left v → left ≡ 0 → whole ≡ v
-  left_end empty {w} {s} {whole} {at} {left} {v} l h = go l.rest l.run l.same
-    where
-      go : (Γ : Context) → Run w s at left Γ → whole ≡ F (ids Γ) v → whole ≡ v
-      go [] r q = q ∙ empty v
-      go (b ∷ Γ) r q = absurd (omega (arith, r.count))
+  pub ids_end : ((v : S) → F [] v ≡ v) → (Γ : Context) {j : ℕ} {v : S} → whole ≡ F (drop j (ids Γ)) v → length Γ ≤ j → whole ≡ v
+  ids_end empty Γ {j} {v} h n = h ∙ (ap (λ (xs : List VarId). F xs v) (drop_of_length-le (ids Γ) (omega (arith, ids-length Γ))) ∙ empty v)

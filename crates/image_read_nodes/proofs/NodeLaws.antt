@@ -18,7 +18,8 @@ use Rattle.image_directory.specs.declared.Frame.{Frame}
 use Rattle.image_read_parts.specs.Standing.{Stands, RoomIn}
 use Rattle.image_read_parts.proofs.StandingLaws.{stands-room}
 use Rattle.image_read_parts.proofs.TailPlaces.{record_ok as within}
-use Rattle.image_read_nodes.specs.Nodes.{record_at, At, first_at, first_of, operand_of, target_of, second_of}
+use Rattle.image_read_nodes.specs.Nodes.{first_at, first_of, operand_of, target_of, second_of}
+use Rattle.image_read_parts.specs.Indexed.{record_at, At}
 
 -- the record at an index is within the limits of the layout
 pub record_ok : (g : Frame) (s : List ℕ) (i k : ℕ) → Ready g s → At g s i k → RecordOk g.id (record_at g s i)

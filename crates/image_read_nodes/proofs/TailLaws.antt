@@ -18,7 +18,7 @@ use Rattle.image_shape.specs.Nodes.{node_of}
 use Rattle.image_shape.specs.declared.Node.{Node}
 use Rattle.image_shape.proofs.Heads.{place}
 use Rattle.image_read_parts.specs.Standing.{ReadsAs, RoomIn, head_of}
-use Rattle.image_read_nodes.specs.Nodes.{record_at, At}
+use Rattle.image_read_parts.specs.Indexed.{record_at, At}
 
 -- ── the record that was looked at ──
 

@@ -1,3 +1,2 @@
 -- The record at an index of an image that was opened.
 pub mod Nodes
-pub mod Opened

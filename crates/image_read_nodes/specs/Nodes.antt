@@ -1,23 +1,20 @@
 -- The record at an index, what follows it, and the identifiers that stand in it.
-use Rattle.std.specs.Prelude.{ℕ, ◌<◌, ◌≡◌, Bool, true, false, cond, List, [], ◌∷◌, eqb, drop, get_or}
+use Rattle.std.specs.Prelude.{ℕ, ◌≡◌, Bool, true, false, cond, List, [], ◌∷◌, ◌+◌, eqb, get_or, drop}
 use Rattle.std.proofs.Math.Option.{Option, none}
 use Rattle.syntax.specs.Context.{empty_binding}
 use Rattle.syntax.specs.declared.names.Identifier.{Identifier}
+use Rattle.syntax.specs.declared.names.VarId.{VarId}
+use Rattle.image_spec.specs.Fields.{list_bytes, ListOk}
 use Rattle.image_spec.specs.Records.{Record, definition, substitute, call, let', switch, create, invoke, literal, op, ifc, clause', print, exit}
 use Rattle.image_spec.specs.Kinds.{kind_of, clauses_of, bodies}
-use Rattle.image_directory.specs.Slots.{records_in}
 use Rattle.image_directory.specs.declared.Frame.{Frame}
-use Rattle.image_read_parts.specs.Standing.{head_of}
+use Rattle.image_read_parts.specs.Standing.{Stands}
+use Rattle.image_read_parts.specs.Parts.{list_of}
+use Rattle.image_read_parts.specs.Indexed.{record_at, At}
+use Rattle.image_read_parts.specs.Recorded.{record_in}
+use Rattle.image_read_parts.specs.declared.record.RecordAt.{RecordAt}
 use Rattle.image_kinds.specs.Codes.{code_of}
 use Rattle.image_read_nodes.specs.declared.Follows.{Follows}
-
-abbrev pub record_at : Frame → List ℕ → ℕ → Record
-record_at g s i = head_of (drop i (records_in g s))
-
--- the record at index i is of kind k
-pub record At (g : Frame) (s : List ℕ) (i k : ℕ) : Type 0 where
-  pub inside : i < g.count
-  pub kind : kind_of (record_at g s i) ≡ k
 
 -- what is said to follow the record at index i: its clauses, then its bodies
 pub record Followed (g : Frame) (s : List ℕ) (i : ℕ) (f : Follows) : Type 0 where
@@ -28,6 +25,14 @@ pub record Followed (g : Frame) (s : List ℕ) (i : ℕ) (f : Follows) : Type 0 
 -- has a record of the kind a list as its tail?
 abbrev pub has_list : ℕ → Bool
 has_list k = get_or (false ∷ true ∷ false ∷ true ∷ true ∷ false ∷ false ∷ true ∷ false ∷ false ∷ false ∷ true ∷ []) k false
+
+-- the list of a record stands at this place of the bytes. (Asked of a place that is worked out once before a loop, and no field of a record: most have no list.)
+abbrev pub ListAt : RecordAt → ℕ → Type 0
+ListAt r at = Stands (list_bytes r.image.frame.id) (ListOk r.image.frame.id) r.image.bytes.now at (list_of (record_in r))
+
+-- from place j on: this one, and those from the place behind on
+pub record IsNext (xs : List VarId) (j : ℕ) (x : VarId) : Type 0 where
+  pub is : drop j xs ≡ x ∷ drop (j + 1) xs
 
 -- what stands for an identifier where there is none
 abbrev pub no_identifier : Identifier

@@ -1,5 +1,5 @@
 -- Where the parts of each record stand in its bytes: `let_tag` says that a Let's tag stands 6 + 2 × w bytes into it, and so on.
--- w is the number of bytes of an ID. Counts, lists, marks and what follows them stand in the tail (TailPlaces.antt). Assumes nothing.
+-- w is the number of bytes of an ID. Counts, lists, marks and what follows them stand in the tail. Assumes nothing.
 use Prim.Native.Nat.{ℕ, ◌+◌}
 use mathlib.Core.Bool.{Bool}
 use mathlib.Core.List.{List, [], ◌∷◌, ◌++◌, append_assoc, append-nil}

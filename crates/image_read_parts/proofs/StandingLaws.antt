@@ -1,6 +1,6 @@
 -- Laws of values that stand in bytes: runs of bytes, what reading identifiers, types and bindings gives, and parts of records.
 -- Assumes nothing.
-use Prim.Native.Nat.{ℕ, zero, suc, ◌+◌, ◌*◌, ◌^◌, ◌≤◌, ◌<◌}
+use Prim.Native.Nat.{ℕ, zero, suc, ◌+◌, ◌^◌, ◌≤◌, ◌<◌}
 use mathlib.Core.List.{List, [], ◌∷◌, ◌++◌, append_assoc}
 use mathlib.Core.Bool.{not}
 use mathlib.Core.Option.{some, none}
@@ -8,29 +8,25 @@ use lib.Dec.{eqb}
 use Rattle.std.specs.Prelude.{Result, Ok, Err, slice_get}
 use Rattle.std.specs.Result.{result_unwrap_or}
 use Rattle.syntax.specs.Options.{option_of}
-use Rattle.syntax.specs.Codes.{Decodes}
+use Rattle.syntax.specs.Codes.{Decodes, chiralities}
 use Rattle.syntax.specs.declared.codes.NoCode.{NoCode}
-use mathlib.Core.Path.{◌≡◌, refl, ap, sym, ◌∙◌, subst}
+use mathlib.Core.Path.{◌≡◌, refl, ap, sym, ◌∙◌}
 use native.Mathlib.Omega.{arith}
 use lib.ListN.{length, drop, get_or, length-append, length-drop, take-append-drop}
 use lib.Seq.{drop-drop, drop_at, drop-append-le, get_or-drop}
 use native.Mathlib.Nat.{add-zero}
-use mir.Syntax.{w64}
-use mir.Val.{SFits, of_z, to_z}
-use mir.ValLaws.{to_z-of_z, of_z_fits}
 use Rattle.syntax.specs.declared.names.Identifier.{Identifier}
 use Rattle.syntax.specs.declared.types.Ty.{Ty}
 use Rattle.syntax.specs.declared.types.Ty.TheVariants.{I64, Decl}
 use Rattle.syntax.specs.declared.context.Chirality.{Chirality}
 use Rattle.syntax.specs.declared.context.Chirality.TheVariants.{Prd, Cns, Ext}
 use Rattle.image_spec.specs.Parse.{got, number, field, numbered}
-use Rattle.image_spec.specs.Fields.{chiralities, newlines, chirality_code_lem, integer_bytes, identifier_bytes, type_bytes, binding_bytes, IdentifierOk, TypeOk, BindingOk}
+use Rattle.image_spec.specs.Fields.{newlines, chirality_code_lem, identifier_bytes, type_bytes, binding_bytes, IdentifierOk, TypeOk, BindingOk}
 use Rattle.image_spec.specs.Records.{Record, record_bytes, RecordOk}
 use Rattle.image_spec.specs.Kinds.{kind_of}
-use Rattle.image_spec.proofs.ParseLaws.{Sound, one-read, number_exact}
+use Rattle.image_spec.proofs.ParseLaws.{number_exact}
 use Rattle.image_spec.proofs.FieldLaws.{identifier-length}
 use Rattle.image_spec.proofs.KindLaws.{kind-first, record_nonempty}
-use Rattle.image_integers.proofs.Halves.{field_join}
 use Rattle.image_directory.specs.Slots.{records_in}
 use Rattle.image_directory.specs.declared.Frame.{Frame}
 use Rattle.image_directory.specs.declared.Slot.{Slot}
@@ -49,12 +45,6 @@ pub byte-run : (s m : List ℕ) (at b : ℕ) → drop at s ≡ b ∷ m → get_o
 byte-run s m at b e = ap (λ k. get_or s k 0) (sym (add-zero at)) ∙ (sym (get_or-drop at s 0 0) ∙ ap (λ l. get_or l 0 0) e)
 
 -- ---- numbers and codes
-
-pub number-below : (w : ℕ) (l : List ℕ) (n : ℕ) (m : List ℕ) → number w l ≡ got n m → n < 256 ^ w
-number-below w l n m e = ok (subst (Sound (field w) (λ n. n < 256 ^ w) l) e ((number_exact w).right l))
-  where
-    ok : {a : ℕ} {m : List ℕ} → Sound (field w) (λ n. n < 256 ^ w) l (got a m) → a < 256 ^ w
-    ok (one-read p q) = p
 
 number-run : (l m k : List ℕ) (w n v : ℕ) → l ≡ field w n ++ m → n < 256 ^ w → number w l ≡ got v k → v ≡ n
 number-run l m k w n v e h q = let x : number w l ≡ got n m = ap (number w) e ∙ (number_exact w).left n h m in cc (x, q)
@@ -81,34 +71,6 @@ pub newline-code : (b : ℕ) → IsCode newlines b (not (eqb b 0))
 newline-code zero = record { is = λ a e. cc (e) }
 newline-code (suc zero) = record { is = λ a e. cc (e) }
 newline-code (suc (suc b)) = record { is = λ a e. cc (e) }
-
--- ---- eight bytes, signed
-
--- what a number that was read is written as
-record Read (w : ℕ) (l : List ℕ) (n : ℕ) (m : List ℕ) : Type 0 where
-  bytes : l ≡ field w n ++ m
-  below : n < 256 ^ w
-
-number_read : (w : ℕ) (l : List ℕ) (n : ℕ) (m : List ℕ) → number w l ≡ got n m → Read w l n m
-number_read w l n m e = back (subst (Sound (field w) (λ n. n < 256 ^ w) l) e ((number_exact w).right l))
-  where
-    back : {a : ℕ} {m : List ℕ} → Sound (field w) (λ n. n < 256 ^ w) l (got a m) → Read w l a m
-    back (one-read p q) = record { bytes = q; below = p }
-
-pub integer-reads : (s : List ℕ) (at low high : ℕ) (rest : List ℕ) → number 4 (drop at s) ≡ got low (drop (at + 4) s) → number 4 (drop (at + 4) s) ≡ got high rest
-    → ReadsAs integer_bytes (SFits w64) s at (to_z w64 (low + 256 ^ 4 * high))
-integer-reads s at low high rest a b = record {
-  is = λ z h.
-      let p = number_read 4 _ _ _ a in
-      let q = number_read 4 _ _ _ b in
-      let v = low + 256 ^ 4 * high in
-      let j : field 8 v ≡ field 4 low ++ field 4 high = field_join 4 4 low high p.below in
-      let e : drop at s ≡ field 8 v ++ rest = p.bytes ∙ (ap (λ l. field 4 low ++ l) q.bytes ∙ (sym (append_assoc (field 4 low) (field 4 high) rest) ∙ ap (λ l. l ++ rest) (sym j))) in
-      let t : v < 256 ^ 8 = omega (arith, p.below, q.below) in
-      let x : number 8 (drop at s) ≡ got v rest = ap (number 8) e ∙ (number_exact 8).left v t rest in
-      let y : v ≡ of_z w64 z = number-run _ _ _ 8 (of_z w64 z) v h.bytes (of_z_fits w64 z h.fits).fits x in
-      ap (to_z w64) y ∙ to_z-of_z w64 z h.fits;
-}
 
 -- ---- identifiers, types, bindings
 

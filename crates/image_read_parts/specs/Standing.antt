@@ -21,7 +21,7 @@ pub record ReadsAs {A : Type 0} (e : A → List ℕ) (P : A → Type 0) (s : Lis
 pub record IsCode {A : Type 0} (vs : List A) (b : ℕ) (r : A) : Type 0 where
   pub is : (a : A) → numbered vs b ≡ some a → r ≡ a
 
--- n bytes from `at` are in s, and the code reads IDs of w bytes
+-- n bytes from `at` are in s, and the code reads IDs of w bytes. (Asked: n differs from function to function.)
 pub record Room (w at n : ℕ) (s : List ℕ) : Type 0 where
   pub width : w ≤ 4
   pub inside : at + n ≤ length s

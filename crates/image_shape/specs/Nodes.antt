@@ -15,7 +15,7 @@ abbrev pub node_of : List Record → Option Node
 node_of [] = None
 node_of (r ∷ rs) = Some (record { kind = named_kind r; clauses = clauses_of r })
 
--- the kinds of a record with one body and no more: of a definition and of a clause
+-- the kinds of a record with one body and no more: of a definition and of a clause. (Asked of a `Kind`: a type of the two would be turned into one again.)
 abbrev pub IsHead : ℕ → Type 0
 IsHead k = (k ≡ 1) ⊎ (k ≡ 11)
 

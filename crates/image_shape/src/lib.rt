@@ -1,7 +1,7 @@
 // Question 5: the walk over an image's records, in pre-order, with a bound on the depth.
 #![tactic(auto)]
 
-ghost use Rattle.std.specs.Prelude.{◌≡◌, ◌≤◌, ◌<◌, length, drop};
+ghost use Rattle.std.specs.Prelude.{◌≡◌, ◌≤◌, length, drop};
 ghost use Rattle.image_spec.specs.Parse.{times};
 ghost use Rattle.image_spec.specs.Shape.{stmt, clauses, one_def, definitions};
 ghost use Rattle.image_spec.specs.Image.{is_some};
@@ -23,6 +23,7 @@ pub struct Node {
 }
 
 // The record at place i; none past the last.
+// (`image` and `i`: any index is asked, also past the last, so it is no `RecordAt`.)
 pub fn look(image: &Image<'_>, i: usize) -> Option<Node>
     ensures { result ≡ node_of (drop i (records_of image.now)) }
 {
@@ -74,6 +75,7 @@ fn statement_parts(image: &Image<'_>, at: usize) -> Option<Parts>
 }
 
 // Past a statement of depth at most `depth`.
+// (`image` and `depth`: one image for the whole walk, and a bound that falls at each statement.)
 #[cycle(skip_bodies_skip_clauses_statement)]
 pub fn statement(image: &Image<'_>, depth: usize, at: usize) -> Option<usize>
     ensures { result ≡ stop (stmt depth) (records_of image.now) at }
@@ -87,6 +89,7 @@ pub fn statement(image: &Image<'_>, depth: usize, at: usize) -> Option<usize>
 }
 
 // Past n statements, of depth at most `depth` each.
+// (`depth`, `n` and `at`, here and below: the bound is the walk's, n comes from the record above, and n of them may take more records.)
 #[cycle(skip_bodies_skip_clauses_statement)]
 fn skip_bodies(image: &Image<'_>, depth: usize, n: usize, at: usize) -> Option<usize>
     requires { at ≤ length (records_of image.now) }

@@ -20,7 +20,8 @@ use Rattle.syntax.specs.declared.ifc.IfSort.{IfSort}
 use Rattle.syntax.specs.declared.ifc.IfSort.TheVariants.{Equal, NotEqual, Less, LessOrEqual, Greater, GreaterOrEqual}
 use mathlib.Core.Option.{some}
 use Rattle.image_spec.specs.Parse.{got, field, numbered, one_of}
-use Rattle.image_spec.specs.Fields.{max_count, chiralities, chirality_code_lem, operators, operator_code_lem, sorts, sort_code_lem, newlines, newline_code_lem, integer_bytes, integer, identifier_bytes, type_bytes, binding_bytes, list_bytes, pair_bytes, IdentifierOk, TypeOk, BindingOk, ListOk, PairOk, identifier, type, binding, list, pair}
+use Rattle.image_spec.specs.Fields.{max_count, chirality_code_lem, operator_code_lem, sort_code_lem, newlines, newline_code_lem, integer_bytes, integer, identifier_bytes, type_bytes, binding_bytes, list_bytes, pair_bytes, IdentifierOk, TypeOk, BindingOk, ListOk, PairOk, identifier, type, binding, list, pair}
+use Rattle.syntax.specs.Codes.{chiralities, operators, sorts}
 use Rattle.image_spec.proofs.ParseLaws.{Sound, none_read, one-read, Exact, following, both_exact, via_exact, number_exact, zeros_exact, one_of_exact, counted_exact}
 
 -- ---- codes

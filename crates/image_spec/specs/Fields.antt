@@ -14,24 +14,19 @@ use Rattle.syntax.specs.declared.op.BinOp.TheVariants.{Div, Prod, Rem, Sum, Sub}
 use Rattle.syntax.specs.declared.ifc.IfSort.{IfSort}
 use Rattle.syntax.specs.declared.ifc.IfSort.TheVariants.{Equal, NotEqual, Less, LessOrEqual, Greater, GreaterOrEqual}
 use Rattle.image_spec.specs.Parse.{refused, Parser, via, both, each, All, number, field, zeros, one_of, counted}
+use Rattle.syntax.specs.Codes.{chiralities}
 
 -- document 01, question 4: every count at most 128
 abbrev pub max_count : ℕ
 max_count = 128
 
 -- document 01, "The image": chirality byte (0 Prd, 1 Cns, 2 Ext)
-abbrev pub chiralities : List Chirality
-chiralities = Prd ∷ Cns ∷ Ext ∷ []
-
 abbrev pub chirality_code_lem : Chirality → ℕ
 chirality_code_lem Prd = 0
 chirality_code_lem Cns = 1
 chirality_code_lem Ext = 2
 
 -- document 01, "The image": byte 0 to 4 (Div, Prod, Rem, Sum, Sub)
-abbrev pub operators : List BinOp
-operators = Div ∷ Prod ∷ Rem ∷ Sum ∷ Sub ∷ []
-
 abbrev pub operator_code_lem : BinOp → ℕ
 operator_code_lem Div = 0
 operator_code_lem Prod = 1
@@ -40,9 +35,6 @@ operator_code_lem Sum = 3
 operator_code_lem Sub = 4
 
 -- document 01, "The image": byte 0 to 5 in `IfSort`'s order
-abbrev pub sorts : List IfSort
-sorts = Equal ∷ NotEqual ∷ Less ∷ LessOrEqual ∷ Greater ∷ GreaterOrEqual ∷ []
-
 abbrev pub sort_code_lem : IfSort → ℕ
 sort_code_lem Equal = 0
 sort_code_lem NotEqual = 1

@@ -18,6 +18,10 @@ part_of l from n = take n (drop from l)
 pub part-length : (l : List ℕ) (from n : ℕ) → from + n ≤ length l → length (part_of l from n) ≡ n
 part-length l from n h = length-take-le n (drop from l) (omega (arith, length-drop from l, h))
 
+-- .. as a slice has them
+pub part-from : (l : List ℕ) (from n : ℕ) → take (from + n - from) (drop from l) ≡ part_of l from n
+part-from l from n = let e : from + n - from ≡ n = omega arith in ap (λ i. take i (drop from l)) e
+
 -- bytes that are copied within a buffer
 pub copied-within : (l : List ℕ) (from n to : ℕ) → from + n ≤ length l → to + n ≤ length l → copy_within l from (from + n) to ≡ sets l to (part_of l from n)
 copied-within l from n to h k =

@@ -1,4 +1,4 @@
--- Laws of records that are written: none, one, some after others, and some at a place that was kept free for them. Assumes nothing.
+-- Laws of records that are written: none, one, one in an output, some after others, and some at a place that was kept free. Assumes nothing.
 use Prim.Native.Nat.{ℕ, ◌+◌, ◌-◌}
 use mathlib.Core.Path.{◌≡◌, refl, sym, ap, ◌∙◌, subst}
 use mathlib.Core.List.{List, [], ◌∷◌, ◌++◌, append-nil}
@@ -10,9 +10,12 @@ use Rattle.image_spec.specs.Image.{entries_of}
 use Rattle.image_spec.specs.declared.Layout.{Layout}
 use Rattle.image_spec.proofs.ListLaws.{each_append}
 use Rattle.image_write_parts.specs.Puts.{Puts}
+use Rattle.image_write_parts.specs.Written.{Wrote}
+use Rattle.image_write_parts.specs.declared.writer.Writer.{Writer}
 use Rattle.image_write_parts.proofs.Putting.{puts_none, puts_as, puts_then, puts_reserved}
-use Rattle.image_write_directory.specs.Emitting.{sizes_of, Emits, Noted, entries_from}
-use Rattle.image_write_directory.specs.declared.progress.Progress.{Progress}
+use Rattle.image_write_directory.specs.Emitting.{sizes_of, Emits, Noted, entries_from, Progress}
+use Rattle.image_write_directory.specs.Outputs.{Keeps}
+use Rattle.image_write_directory.specs.declared.output.Output.{Output}
 
 pub sizes_append : (w : ℕ) (R S : List Record) → sizes_of w (R ++ S) ≡ sizes_of w R ++ sizes_of w S
 sizes_append w [] S = refl
@@ -29,6 +32,20 @@ emits_one {w} {out} {out'} {lengths} {lengths'} {p} {q} {next} r a n =
       bytes = subst (λ (z : ℕ). Puts out out' p.at z (record_bytes w r ++ [])) (sym n.at) (puts_as (sym (append-nil (record_bytes w r))) a);
       noted = puts_as (ap (λ (z : ℕ). z ∷ []) k) n.puts;
     }
+
+-- ---- in an output
+
+pub keeps_same : (o : Output) → Keeps o o
+keeps_same o = record { id = refl; out = refl; lengths = refl }
+
+pub keeps_then : {a b c : Output} → Keeps a b → Keeps b c → Keeps a c
+keeps_then p q = record { id = q.id ∙ p.id; out = q.out ∙ p.out; lengths = q.lengths ∙ p.lengths }
+
+-- its writer wrote
+pub keeps_wrote : (o : Output) {w' : Writer} {bytes : List ℕ} → Wrote o.writer w' bytes → Keeps o (record o { writer = w' })
+keeps_wrote o p = record { id = p.id; out = p.same; lengths = refl }
+
+-- ---- more than one record
 
 pub emits_then : {w : ℕ} {a b c d e f : List ℕ} {p q r : Progress} {R S : List Record} → Emits w a b d e p q R → Emits w b c e f q r S → Emits w a c d f p r (R ++ S)
 emits_then {w} {R = R} {S = S} x y = record {

@@ -4,7 +4,12 @@ use Rattle.image_spec.specs.Parse.{each}
 use Rattle.image_spec.specs.Records.{Record, record_bytes}
 use Rattle.image_spec.specs.Image.{Entry}
 use Rattle.image_write_parts.specs.Puts.{Puts}
-use Rattle.image_write_directory.specs.declared.progress.Progress.{Progress}
+
+-- how far the writing has come: the place of the next byte, the records so far, and the max_id
+pub record Progress : Type 0 where
+  pub at : ℕ
+  pub count : ℕ
+  pub max_id : ℕ
 
 -- the lengths of records, with IDs of w bytes
 abbrev pub sizes_of : (w : ℕ) → List Record → List ℕ

@@ -1,2 +1,3 @@
 -- What is written of an image.
 pub mod Emitting
+pub mod Outputs

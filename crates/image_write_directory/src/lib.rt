@@ -3,4 +3,4 @@
 #![tactic(auto)]
 
 pub mod directory;
-pub mod progress;
+pub mod output;

@@ -1,6 +1,6 @@
 -- Laws of bytes put into a buffer: stored bytes, one run after another, a run whose place was reserved, a byte past the end, the bytes of a number.
 -- Assumes nothing.
-use Prim.Native.Nat.{ℕ, zero, suc, ◌+◌, ◌-◌, ◌*◌, ◌/◌, ◌%◌, ◌^◌, ◌≤◌, ◌<◌}
+use Prim.Native.Nat.{ℕ, zero, suc, ◌+◌, ◌-◌, ◌/◌, ◌%◌, ◌≤◌, ◌<◌}
 use mathlib.Core.List.{List, [], ◌∷◌, ◌++◌}
 use mathlib.Core.Path.{◌≡◌, refl, ap, sym, subst, ◌∙◌}
 use native.Mathlib.Omega.{arith}
@@ -9,7 +9,6 @@ use native.Mathlib.Nat.{add-zero, add-suc, suc-add}
 use lib.ListN.{length, set, length-append, replicate}
 use lib.Seq.{sets, set_comm, length-sets}
 use Rattle.image_spec.specs.Parse.{field}
-use Rattle.image_integers.proofs.Halves.{field_join}
 use Rattle.image_write_parts.specs.Puts.{Puts}
 
 pub sets_append : (xs l : List ℕ) (i : ℕ) (ys : List ℕ) → sets l i (xs ++ ys) ≡ sets (sets l i xs) (i + length xs) ys
@@ -86,10 +85,3 @@ zero_field (suc w) = ap (λ z. 0 ∷ z) (zero_field w)
 
 pub zero_type : (w : ℕ) → field (3 + w) 0 ≡ 0 ∷ replicate (2 + w) 0
 zero_type w = let k : 3 + w ≡ suc (2 + w) = omega arith in rw k (ap (λ z. 0 ∷ z) (zero_field (2 + w)))
-
--- a number of eight bytes is its two halves
-pub halves : (n : ℕ) → field 8 n ≡ field 4 (n % 4294967296) ++ field 4 (n / 4294967296)
-halves n =
-    let h : n % 4294967296 < 256 ^ 4 = omega arith in
-    let e : n ≡ n % 4294967296 + 256 ^ 4 * (n / 4294967296) = omega arith in
-    ap (field 8) e ∙ field_join 4 4 (n % 4294967296) (n / 4294967296) h

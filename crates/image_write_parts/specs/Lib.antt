@@ -1,2 +1,3 @@
--- Bytes put into a buffer.
+-- Bytes put into a buffer, and what a writer of them writes.
 pub mod Puts
+pub mod Written

@@ -12,8 +12,9 @@ use Rattle.syntax.specs.declared.context.TypingContext.{TypingContext}
 use Rattle.image_spec.specs.Parse.{each}
 use Rattle.image_spec.specs.Fields.{identifier_bytes, type_bytes, binding_bytes, list_bytes}
 use Rattle.image_spec.proofs.FieldLaws.{identifier-length, type-length, binding-length}
-use Rattle.image_write_parts.specs.Puts.{Puts}
-use Rattle.image_write_parts.proofs.Putting.{puts_as, puts_then}
+use Rattle.image_write_parts.specs.Written.{Wrote}
+use Rattle.image_write_parts.specs.declared.writer.Writer.{Writer}
+use Rattle.image_write_parts.proofs.WriterLaws.{wrote_as, wrote_next}
 
 module _ (w : ℕ) where
   pub typed-length : (x : Identifier) (t : Ty) → length (identifier_bytes w x ++ type_bytes w t) ≡ 5 + (w + w)
@@ -28,6 +29,6 @@ module _ (w : ℕ) where
   list_length c h k = omega (arith, bindings-length (context_of c) h, length-take c.len (bindings_in c), k)
 
 -- what follows a kind and two parts
-pub then_others : {a b c : List ℕ} {at n m : ℕ} (k : ℕ) (xs ys : List ℕ) {zs : List ℕ} → Puts a b at n (k ∷ (xs ++ ys)) → Puts b c n m zs
-    → Puts a c at m (k ∷ (xs ++ (ys ++ zs)))
-then_others k xs ys {zs} p q = puts_as (ap (λ z. k ∷ z) (append_assoc xs ys zs)) (puts_then p q)
+pub then_others : {u v w : Writer} (k : ℕ) (xs ys : List ℕ) (f : ℕ → List ℕ) → Wrote u v (k ∷ (xs ++ ys)) → Wrote v w (f v.id)
+    → Wrote u w (k ∷ (xs ++ (ys ++ f u.id)))
+then_others {u} k xs ys f p q = wrote_as (ap (λ z. k ∷ z) (append_assoc xs ys (f u.id))) (wrote_next f p q)

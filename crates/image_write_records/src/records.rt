@@ -1,4 +1,6 @@
 // Records by kind. Call and Invoke come out with empty args, and Create with its environment.
+// (`writer` and `kind`, `writer` and `var`: what is written in, and what is written first; `Writer` itself knows no records.)
+// (`var` and `ty`: parts of these records in this order; a `ContextBinding` would need a chirality, which these records do not have.)
 ghost use Rattle.std.specs.Prelude.{◌∷◌, [], ◌++◌, ◌+◌, ◌≤◌, ◌<◌, ◌^◌};
 ghost use Rattle.std.proofs.Math.Option.{some};
 ghost use Rattle.syntax.specs.Options.{option_of};
@@ -6,12 +8,13 @@ ghost use Rattle.syntax.specs.Arrays.{context_of};
 ghost use Rattle.image_spec.specs.Parse.{mark};
 ghost use Rattle.image_spec.specs.Fields.{identifier_bytes, type_bytes, list_bytes};
 ghost use Rattle.image_spec.specs.Records.{call, let', switch, create, invoke, literal, op, ifc, print, exit, record_bytes};
-ghost use Rattle.image_write_parts.specs.Puts.{Puts};
+ghost use Rattle.image_write_parts.specs.Written.{Wrote};
 ghost use Rattle.image_kinds.specs.Codes.{code_of};
 
 use crate::lists::put_list;
 use image_kinds::kinds::Kind;
-use image_write_parts::{newline_code, put_byte, put_identifier, put_integer, put_type};
+use image_write_parts::newline_code;
+use image_write_parts::writer::Writer;
 use syntax::context::TypingContext;
 use syntax::ifc::IfSort;
 use syntax::names::Identifier;
@@ -19,184 +22,150 @@ use syntax::op::BinOp;
 use syntax::types::Ty;
 
 // A kind and an identifier.
-fn put_named(out: &mut [u8], at: usize, w: usize, kind: Kind, x: Identifier) -> usize
-    requires { (at + (3 + w) < 2 ^ 64) × (w ≤ 8) }
-    ensures { Puts out.old out.new at result (code_of kind ∷ identifier_bytes w x) }
+fn put_named(writer: &mut Writer<'_>, kind: Kind, x: Identifier)
+    requires { writer.old.at + (3 + writer.old.id) < 2 ^ 64 }
+    ensures { Wrote writer.old writer.new (code_of kind ∷ identifier_bytes writer.old.id x) }
 {
-    let next = put_byte(out, at, kind as u8);
-    put_identifier(out, next, w, x)
+    writer.byte(kind as u8);
+    writer.identifier(x);
 }
 
 // A kind, a var and its type.
-fn put_typed(out: &mut [u8], at: usize, w: usize, kind: Kind, var: Identifier, ty: Ty) -> usize
-    requires { (at + (6 + (w + w)) < 2 ^ 64) × (w ≤ 8) }
-    ensures { Puts out.old out.new at result (code_of kind ∷ (identifier_bytes w var ++ type_bytes w ty)) }
+fn put_typed(writer: &mut Writer<'_>, kind: Kind, var: Identifier, ty: Ty)
+    requires { writer.old.at + (6 + (writer.old.id + writer.old.id)) < 2 ^ 64 }
+    ensures { Wrote writer.old writer.new (code_of kind ∷ (identifier_bytes writer.old.id var ++ type_bytes writer.old.id ty)) }
 {
-    let next = put_named(out, at, w, kind, var);
-    put_type(out, next, w, ty)
+    put_named(writer, kind, var);
+    writer.ty(ty);
 }
 
 // A kind, an identifier and a list: a definition or a clause.
-pub fn put_headed(
-    out: &mut [u8],
-    at: usize,
-    w: usize,
-    kind: Kind,
-    x: Identifier,
-    context: TypingContext,
-) -> usize
-    requires { (at + 8192 < 2 ^ 64) × ((w ≤ 8) × (context.len ≤ 64)) }
-    ensures { Puts out.old out.new at result (code_of kind ∷ (identifier_bytes w x ++ list_bytes w (context_of context))) }
+pub fn put_headed(writer: &mut Writer<'_>, kind: Kind, x: Identifier, context: TypingContext)
+    requires { (writer.old.at + 8192 < 2 ^ 64) × (context.len ≤ 64) }
+    ensures { Wrote writer.old writer.new (code_of kind ∷ (identifier_bytes writer.old.id x ++ list_bytes writer.old.id (context_of context))) }
 {
-    let next = put_named(out, at, w, kind, x);
-    put_list(out, next, w, context)
+    put_named(writer, kind, x);
+    put_list(writer, context);
 }
 
-pub fn put_call(out: &mut [u8], at: usize, w: usize, label: Identifier) -> usize
-    requires { (at + 8192 < 2 ^ 64) × (w ≤ 8) }
-    ensures { Puts out.old out.new at result (record_bytes w (call label [])) }
+pub fn put_call(writer: &mut Writer<'_>, label: Identifier)
+    requires { writer.old.at + 8192 < 2 ^ 64 }
+    ensures { Wrote writer.old writer.new (record_bytes writer.old.id (call label [])) }
 {
-    let next = put_named(out, at, w, Kind::Call, label);
-    put_byte(out, next, 0)
+    put_named(writer, Kind::Call, label);
+    writer.byte(0); // a Call has no args left
 }
 
 pub fn put_let(
-    out: &mut [u8],
-    at: usize,
-    w: usize,
+    writer: &mut Writer<'_>,
     var: Identifier,
     ty: Ty,
     tag: Identifier,
     args: TypingContext,
-) -> usize
-    requires { (at + 8192 < 2 ^ 64) × ((w ≤ 8) × (args.len ≤ 64)) }
-    ensures { Puts out.old out.new at result (record_bytes w (let' var ty tag (context_of args))) }
+)
+    requires { (writer.old.at + 8192 < 2 ^ 64) × (args.len ≤ 64) }
+    ensures { Wrote writer.old writer.new (record_bytes writer.old.id (let' var ty tag (context_of args))) }
 {
-    let next = put_typed(out, at, w, Kind::Let, var, ty);
-    let after = put_identifier(out, next, w, tag);
-    put_list(out, after, w, args)
+    put_typed(writer, Kind::Let, var, ty);
+    writer.identifier(tag);
+    put_list(writer, args);
 }
 
-pub fn put_switch(
-    out: &mut [u8],
-    at: usize,
-    w: usize,
-    var: Identifier,
-    ty: Ty,
-    clauses: u8,
-) -> usize
-    requires { (at + 8192 < 2 ^ 64) × (w ≤ 8) }
-    ensures { Puts out.old out.new at result (record_bytes w (switch var ty clauses)) }
+pub fn put_switch(writer: &mut Writer<'_>, var: Identifier, ty: Ty, clauses: u8)
+    requires { writer.old.at + 8192 < 2 ^ 64 }
+    ensures { Wrote writer.old writer.new (record_bytes writer.old.id (switch var ty clauses)) }
 {
-    let next = put_typed(out, at, w, Kind::Switch, var, ty);
-    put_byte(out, next, clauses)
+    put_typed(writer, Kind::Switch, var, ty);
+    writer.byte(clauses);
 }
 
 pub fn put_create(
-    out: &mut [u8],
-    at: usize,
-    w: usize,
+    writer: &mut Writer<'_>,
     var: Identifier,
     ty: Ty,
     environment: TypingContext,
     clauses: u8,
-) -> usize
-    requires { (at + 8192 < 2 ^ 64) × ((w ≤ 8) × (environment.len ≤ 64)) }
-    ensures { Puts out.old out.new at result (record_bytes w (create var ty (some (context_of environment)) clauses)) }
+)
+    requires { (writer.old.at + 8192 < 2 ^ 64) × (environment.len ≤ 64) }
+    ensures { Wrote writer.old writer.new (record_bytes writer.old.id (create var ty (some (context_of environment)) clauses)) }
 {
-    let next = put_typed(out, at, w, Kind::Create, var, ty);
-    let after = put_byte(out, next, 1);
-    let last = put_list(out, after, w, environment);
-    put_byte(out, last, clauses)
+    put_typed(writer, Kind::Create, var, ty);
+    writer.byte(1); // an environment follows
+    put_list(writer, environment);
+    writer.byte(clauses);
 }
 
-pub fn put_invoke(
-    out: &mut [u8],
-    at: usize,
-    w: usize,
-    var: Identifier,
-    tag: Identifier,
-    ty: Ty,
-) -> usize
-    requires { (at + 8192 < 2 ^ 64) × (w ≤ 8) }
-    ensures { Puts out.old out.new at result (record_bytes w (invoke var tag ty [])) }
+pub fn put_invoke(writer: &mut Writer<'_>, var: Identifier, tag: Identifier, ty: Ty)
+    requires { writer.old.at + 8192 < 2 ^ 64 }
+    ensures { Wrote writer.old writer.new (record_bytes writer.old.id (invoke var tag ty [])) }
 {
-    let next = put_named(out, at, w, Kind::Invoke, var);
-    let after = put_identifier(out, next, w, tag);
-    let last = put_type(out, after, w, ty);
-    put_byte(out, last, 0)
+    put_named(writer, Kind::Invoke, var);
+    writer.identifier(tag);
+    writer.ty(ty);
+    writer.byte(0); // an Invoke has no args left
 }
 
-pub fn put_literal(out: &mut [u8], at: usize, w: usize, lit: i64, var: Identifier) -> usize
-    requires { (at + 8192 < 2 ^ 64) × (w ≤ 8) }
-    ensures { Puts out.old out.new at result (record_bytes w (literal lit var)) }
+pub fn put_literal(writer: &mut Writer<'_>, lit: i64, var: Identifier)
+    requires { writer.old.at + 8192 < 2 ^ 64 }
+    ensures { Wrote writer.old writer.new (record_bytes writer.old.id (literal lit var)) }
 {
-    let next = put_byte(out, at, Kind::Literal as u8);
-    let after = put_integer(out, next, lit);
-    put_identifier(out, after, w, var)
+    writer.byte(Kind::Literal as u8);
+    writer.integer(lit);
+    writer.identifier(var);
 }
 
 pub fn put_op(
-    out: &mut [u8],
-    at: usize,
-    w: usize,
+    writer: &mut Writer<'_>,
     fst: Identifier,
     operator: BinOp,
     snd: Identifier,
     var: Identifier,
-) -> usize
-    requires { (at + 8192 < 2 ^ 64) × (w ≤ 8) }
-    ensures { Puts out.old out.new at result (record_bytes w (op fst operator snd var)) }
+)
+    requires { writer.old.at + 8192 < 2 ^ 64 }
+    ensures { Wrote writer.old writer.new (record_bytes writer.old.id (op fst operator snd var)) }
 {
-    let next = put_named(out, at, w, Kind::Op, fst);
-    let after = put_byte(out, next, operator as u8);
-    let last = put_identifier(out, after, w, snd);
-    put_identifier(out, last, w, var)
+    put_named(writer, Kind::Op, fst);
+    writer.byte(operator as u8);
+    writer.identifier(snd);
+    writer.identifier(var);
 }
 
 // The identifier, if there is one, behind its mark.
-fn put_marked(out: &mut [u8], at: usize, w: usize, x: Option<Identifier>) -> usize
-    requires { (at + (3 + w) < 2 ^ 64) × (w ≤ 8) }
-    ensures { Puts out.old out.new at result (mark (identifier_bytes w) (option_of x)) }
+fn put_marked(writer: &mut Writer<'_>, x: Option<Identifier>)
+    requires { writer.old.at + (3 + writer.old.id) < 2 ^ 64 }
+    ensures { Wrote writer.old writer.new (mark (identifier_bytes writer.old.id) (option_of x)) }
 {
     match x {
-        None => put_byte(out, at, 0),
+        None => writer.byte(0),
         Some(x) => {
-            let next = put_byte(out, at, 1);
-            put_identifier(out, next, w, x)
+            writer.byte(1);
+            writer.identifier(x);
         }
     }
 }
 
-pub fn put_ifc(
-    out: &mut [u8],
-    at: usize,
-    w: usize,
-    sort: IfSort,
-    fst: Identifier,
-    snd: Option<Identifier>,
-) -> usize
-    requires { (at + 8192 < 2 ^ 64) × (w ≤ 8) }
-    ensures { Puts out.old out.new at result (record_bytes w (ifc sort fst (option_of snd))) }
+pub fn put_ifc(writer: &mut Writer<'_>, sort: IfSort, fst: Identifier, snd: Option<Identifier>)
+    requires { writer.old.at + 8192 < 2 ^ 64 }
+    ensures { Wrote writer.old writer.new (record_bytes writer.old.id (ifc sort fst (option_of snd))) }
 {
-    let next = put_byte(out, at, Kind::IfC as u8);
-    let after = put_byte(out, next, sort as u8);
-    let last = put_identifier(out, after, w, fst);
-    put_marked(out, last, w, snd)
+    writer.byte(Kind::IfC as u8);
+    writer.byte(sort as u8);
+    writer.identifier(fst);
+    put_marked(writer, snd);
 }
 
-pub fn put_print(out: &mut [u8], at: usize, w: usize, newline: bool, var: Identifier) -> usize
-    requires { (at + 8192 < 2 ^ 64) × (w ≤ 8) }
-    ensures { Puts out.old out.new at result (record_bytes w (print newline var)) }
+pub fn put_print(writer: &mut Writer<'_>, newline: bool, var: Identifier)
+    requires { writer.old.at + 8192 < 2 ^ 64 }
+    ensures { Wrote writer.old writer.new (record_bytes writer.old.id (print newline var)) }
 {
-    let next = put_byte(out, at, Kind::Print as u8);
-    let after = put_byte(out, next, newline_code(newline));
-    put_identifier(out, after, w, var)
+    writer.byte(Kind::Print as u8);
+    writer.byte(newline_code(newline));
+    writer.identifier(var);
 }
 
-pub fn put_exit(out: &mut [u8], at: usize, w: usize, var: Identifier) -> usize
-    requires { (at + 8192 < 2 ^ 64) × (w ≤ 8) }
-    ensures { Puts out.old out.new at result (record_bytes w (exit var)) }
+pub fn put_exit(writer: &mut Writer<'_>, var: Identifier)
+    requires { writer.old.at + 8192 < 2 ^ 64 }
+    ensures { Wrote writer.old writer.new (record_bytes writer.old.id (exit var)) }
 {
-    put_named(out, at, w, Kind::Exit, var)
+    put_named(writer, Kind::Exit, var);
 }

@@ -18,8 +18,7 @@ use Rattle.image_write_parts.specs.Puts.{Puts}
 use Rattle.image_write_parts.proofs.Putting.{puts_as, puts_then}
 use Rattle.image_write_parts.proofs.Writing.{Written, written_next, each_map}
 use Rattle.image_write_records.proofs.Writing.{stored_bytes, pair-length}
-use Rattle.image_write_directory.specs.Emitting.{Noted}
-use Rattle.image_write_directory.specs.declared.progress.Progress.{Progress}
+use Rattle.image_write_directory.specs.Emitting.{Noted, Progress}
 use Rattle.image_write_directory.proofs.EmitLaws.{emits_none, emits_one}
 use Rattle.syntax_substitution.specs.Pairs.{pair_of, parts_of, pairs_in, pairs_of, HoldsPairs, empty_pair, empty_flat_pair}
 use Rattle.syntax_substitution.specs.declared.FlatPair.{FlatPair}

@@ -1,55 +1,50 @@
 // A Substitute, where the context differs from the wanted list.
-ghost use Rattle.std.specs.Prelude.{◌≤◌, ◌≡◌, cond, [], ◌∷◌, ◌++◌};
+ghost use Rattle.std.specs.Prelude.{◌≡◌, cond, [], ◌∷◌, ◌++◌};
 ghost use Rattle.pass_work_spec.specs.Work.{bindings};
 ghost use Rattle.pass_context.specs.Holding.{work_of};
 ghost use Rattle.syntax.specs.Arrays.{context_of};
 ghost use Rattle.pass_step_spec.specs.Steps.{arranged};
 ghost use Rattle.pass_arrange.specs.Joined.{joined};
-ghost use Rattle.pass_step.specs.Stepping.{RoomAt, Paired, Workable, Arranges};
+ghost use Rattle.pass_step.specs.Stepping.{RoomAt, Paired, Workable};
+ghost use Rattle.pass_step.specs.Outputs.{ArrangesIn};
+ghost use Rattle.image_write_directory.specs.Outputs.{so_far};
 
-use image_write_directory::progress::{Progress, note};
+use image_write_directory::output::{Output, note};
 use image_write_records::lists::{put_pair, put_substitute};
 use pass_context::Held;
 use syntax::context::{ContextBinding, TypingContext};
 use syntax_substitution::{FlatPair, Substitution};
 
 // What is kept stays under its names.
-pub fn arrange_kept(
-    right: bool,
-    kept: Held,
-    w: usize,
-    out: &mut [u8],
-    lengths: &mut [usize],
-    so_far: Progress,
-) -> Progress
-    requires { Workable kept 0 0 × ((w ≤ 8) × RoomAt so_far) }
-    ensures { Arranges w out.old out.new lengths.old lengths.new so_far result (arranged right (bindings (work_of kept)) (bindings (work_of kept))) }
+// `right`, here and below, is the answer of the Rust's `if context == context_rearrange`; the lists are there whatever it is.
+pub fn arrange_kept(right: bool, kept: Held, output: &mut Output<'_, '_>)
+    requires { Workable kept 0 0 × RoomAt (so_far output.old) }
+    ensures { ArrangesIn output.old output.new (arranged right (bindings (work_of kept)) (bindings (work_of kept))) }
 {
     if right {
-        return so_far;
+        return;
     }
     let none = TypingContext::empty();
-    arrange(right, false, none, none, kept, w, out, lengths, so_far)
+    arrange(right, false, none, none, kept, output);
 }
 
 // The context becomes the targets.
+// `targets` and `wanted`, here and below: the one is the other with fresh names, made by the statement, and each is also used alone; one
+// struct of both would copy them, which are more than 1 KB each.
 pub fn arrange_args(
     right: bool,
     targets: TypingContext,
     wanted: TypingContext,
-    w: usize,
-    out: &mut [u8],
-    lengths: &mut [usize],
-    so_far: Progress,
-) -> Progress
-    requires { Paired targets wanted × ((w ≤ 8) × RoomAt so_far) }
-    ensures { Arranges w out.old out.new lengths.old lengths.new so_far result (arranged right (context_of targets) (context_of wanted)) }
+    output: &mut Output<'_, '_>,
+)
+    requires { Paired targets wanted × RoomAt (so_far output.old) }
+    ensures { ArrangesIn output.old output.new (arranged right (context_of targets) (context_of wanted)) }
 {
     if right {
-        return so_far;
+        return;
     }
     let none = Held::empty();
-    arrange(right, true, targets, wanted, none, w, out, lengths, so_far)
+    arrange(right, true, targets, wanted, none, output);
 }
 
 // The targets, and behind them the closure under its name.
@@ -58,19 +53,16 @@ pub fn arrange_closure(
     targets: TypingContext,
     wanted: TypingContext,
     closure: ContextBinding,
-    w: usize,
-    out: &mut [u8],
-    lengths: &mut [usize],
-    so_far: Progress,
-) -> Progress
-    requires { Paired targets wanted × ((w ≤ 8) × RoomAt so_far) }
-    ensures { Arranges w out.old out.new lengths.old lengths.new so_far result (arranged right (context_of targets ++ (closure ∷ [])) (context_of wanted ++ (closure ∷ []))) }
+    output: &mut Output<'_, '_>,
+)
+    requires { Paired targets wanted × RoomAt (so_far output.old) }
+    ensures { ArrangesIn output.old output.new (arranged right (context_of targets ++ (closure ∷ [])) (context_of wanted ++ (closure ∷ []))) }
 {
     if right {
-        return so_far;
+        return;
     }
     let last = Held::empty().own(0, closure);
-    arrange(right, true, targets, wanted, last, w, out, lengths, so_far)
+    arrange(right, true, targets, wanted, last, output);
 }
 
 // What is kept, and behind it one more.
@@ -79,22 +71,17 @@ pub fn arrange_one(
     kept: Held,
     target: ContextBinding,
     wanted: ContextBinding,
-    w: usize,
-    out: &mut [u8],
-    lengths: &mut [usize],
-    so_far: Progress,
-) -> Progress
-    requires { Workable kept 0 0 × ((w ≤ 8) × RoomAt so_far) }
-    ensures { Arranges w out.old out.new lengths.old lengths.new so_far result (arranged right (bindings (work_of kept) ++ (target ∷ [])) (bindings (work_of kept) ++ (wanted ∷ []))) }
+    output: &mut Output<'_, '_>,
+)
+    requires { Workable kept 0 0 × RoomAt (so_far output.old) }
+    ensures { ArrangesIn output.old output.new (arranged right (bindings (work_of kept) ++ (target ∷ [])) (bindings (work_of kept) ++ (wanted ∷ []))) }
 {
     if right {
-        return so_far;
+        return;
     }
     let targets = TypingContext::empty().push(target);
     let sources = TypingContext::empty().push(wanted);
-    arrange(
-        right, false, targets, sources, kept, w, out, lengths, so_far,
-    )
+    arrange(right, false, targets, sources, kept, output);
 }
 
 // Where a list stands that is put behind n others, or before them.
@@ -104,23 +91,20 @@ fn place(behind: bool, n: usize) -> usize
     if behind { n } else { 0 }
 }
 
-// The targets before what is kept, or behind it. The pairs are built and then written in one function: given to another they would be copied.
+// The targets before what is kept, or behind it: a yes or no, for both lists are there and only their order is asked. The pairs are built and then written in one function: given to another they would be copied.
 pub fn arrange(
     right: bool,
     targets_first: bool,
     targets: TypingContext,
     wanted: TypingContext,
     kept: Held,
-    w: usize,
-    out: &mut [u8],
-    lengths: &mut [usize],
-    so_far: Progress,
-) -> Progress
-    requires { Paired targets wanted × (Workable kept 0 0 × ((w ≤ 8) × RoomAt so_far)) }
-    ensures { Arranges w out.old out.new lengths.old lengths.new so_far result (arranged right (joined targets_first (context_of targets) (bindings (work_of kept))) (joined targets_first (context_of wanted) (bindings (work_of kept)))) }
+    output: &mut Output<'_, '_>,
+)
+    requires { Paired targets wanted × (Workable kept 0 0 × RoomAt (so_far output.old)) }
+    ensures { ArrangesIn output.old output.new (arranged right (joined targets_first (context_of targets) (bindings (work_of kept))) (joined targets_first (context_of wanted) (bindings (work_of kept)))) }
 {
     if right {
-        return so_far;
+        return;
     }
     let kept_at = place(targets_first, targets.len);
     let targets_at = place(!targets_first, kept.len);
@@ -142,9 +126,11 @@ pub fn arrange(
             FlatPair::of(b, b)
         };
     }
-    let mut here = put_substitute(out, so_far.at, n);
+    let start = output.writer.at;
+    let writer = &mut output.writer;
+    put_substitute(writer, n);
     for j in 0..n {
-        here = put_pair(out, here, w, all.pairs[j]);
+        put_pair(writer, all.pairs[j]);
     }
-    note(lengths, so_far, here)
+    note(output, start);
 }

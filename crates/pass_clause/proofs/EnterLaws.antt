@@ -13,8 +13,7 @@ use Rattle.image_spec.specs.Kinds.{kind_of}
 use Rattle.image_directory.specs.declared.Frame.{Frame}
 use Rattle.image_write_parts.specs.Puts.{Puts}
 use Rattle.image_write_parts.proofs.Putting.{puts_as}
-use Rattle.image_write_directory.specs.Emitting.{Noted}
-use Rattle.image_write_directory.specs.declared.progress.Progress.{Progress}
+use Rattle.image_write_directory.specs.Emitting.{Noted, Progress}
 use Rattle.image_write_directory.proofs.EmitLaws.{emits_one}
 use Rattle.image_read_parts.specs.Parts.{list_of}
 use Rattle.image_read_nodes.specs.Nodes.{first_of}
@@ -24,8 +23,7 @@ use Rattle.pass_records.proofs.MadeLaws.{made_of}
 use Rattle.pass_records.proofs.ListPlaces.{named-at}
 use Rattle.pass_work_spec.specs.Work.{Work, owns}
 use Rattle.pass_context.specs.Holding.{HoldsWork}
-use Rattle.pass_step.specs.Stepping.{SourceAt, Steps}
-use Rattle.pass_step.specs.declared.stepped.Stepped.{Stepped}
+use Rattle.pass_step.specs.Stepping.{SourceAt, Steps, Stepped}
 use Rattle.pass_clause.specs.Entering.{Enters, entering}
 use Rattle.pass_step.proofs.StepLaws.{source_as}
 

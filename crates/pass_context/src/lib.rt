@@ -17,6 +17,7 @@ use syntax::context::{ContextBinding, TypingContext};
 use syntax::names::{Identifier, VarId};
 use syntax::sets::IdSet;
 
+// By value with a count, as `TypingContext`: nothing below the programs takes memory.
 #[derive(Clone, Copy)]
 pub struct Held {
     pub entries: [FlatEntry; TypingContext::MAX],
@@ -152,7 +153,8 @@ impl Held {
         out
     }
 
-    // Are the bindings those of the two contexts, one behind the other?
+    // Are the bindings those of the two contexts, one behind the other? No `==`: the two sides are of different types, and the right one is two.
+    // (A `for` that returns, and no chain with `all`: its closure would need a contract that each index is below the bound.)
     pub fn same(self, front: TypingContext, back: TypingContext) -> bool
         requires { (self.len ≤ 64) × ((front.len ≤ 64) × (back.len ≤ 64)) }
         ensures { result ≡ same_context (bindings (work_of self)) (context_of front ++ context_of back) }

@@ -15,8 +15,7 @@ use Rattle.image_spec.specs.Shape.{flatten, flatten_defs}
 use Rattle.image_directory.specs.Slots.{Ready, records_in}
 use Rattle.image_directory.specs.declared.Frame.{Frame}
 use Rattle.image_directory.proofs.Places.{records-length}
-use Rattle.image_write_directory.specs.Emitting.{Emits}
-use Rattle.image_write_directory.specs.declared.progress.Progress.{Progress}
+use Rattle.image_write_directory.specs.Emitting.{Emits, Progress}
 use Rattle.image_write_directory.proofs.EmitLaws.{emits_then, emits-count}
 use Rattle.image_read_parts.specs.Standing.{head_of}
 use Rattle.image_read_parts.specs.Parts.{list_of}
@@ -24,7 +23,8 @@ use Rattle.image_places_spec.specs.Places.{stmt_at, Begins}
 use Rattle.image_places_spec.proofs.PlaceLaws.{begins-left, begins-right, head-within}
 use Rattle.scope_spec.specs.FreeRows.{mask_of, row_under, rows_stmt, rows_defs}
 use Rattle.scope_spec.proofs.FreeViews.{rows-length}
-use Rattle.image_read_nodes.specs.Nodes.{record_at, first_of}
+use Rattle.image_read_nodes.specs.Nodes.{first_of}
+use Rattle.image_read_parts.specs.Indexed.{record_at}
 use Rattle.scope_check.proofs.DefLaws.{DefParts, def-parts, DefsLeft, DefNext, def_of, def-turn, defs-end}
 use Rattle.pass_work_spec.specs.Work.{Work, owns, work_stmt, work_defs}
 use Rattle.pass_work_spec.specs.Placed.{AllFitDefs}
@@ -33,11 +33,9 @@ use Rattle.pass_context.specs.Holding.{work_of, HoldsWork}
 use Rattle.pass_context.specs.declared.Held.{Held}
 use Rattle.pass_step_spec.proofs.WorkViews.{def_done, defs_done, defs-view}
 use Rattle.pass_step_spec.proofs.StepBounds.{defs_rise}
-use Rattle.pass_step.specs.Stepping.{RoomAt, SourceAt, Workable, Steps}
-use Rattle.pass_step.specs.declared.stepped.Stepped.{Stepped}
+use Rattle.pass_step.specs.Stepping.{RoomAt, SourceAt, Workable, Steps, Stepped}
 use Rattle.pass_clause.specs.Entering.{entering}
-use Rattle.pass_walk.specs.Walking.{Sources, StmtAhead, RoomTo, Writes, LinearizedTo}
-use Rattle.pass_walk.specs.declared.walk.Linearized.{Linearized}
+use Rattle.pass_walk.specs.Walking.{StmtAhead, RoomTo, Writes, LinearizedTo, Linearized, Sources}
 use Rattle.pass_walk.proofs.RoomLaws.{emits-at, room-here, room-first, room-second, Writing, writing-begun, writing_on, writing_as, writing-done}
 use Rattle.pass_walk.proofs.SourceLaws.{source-at}
 use Rattle.pass_walk.proofs.LoopSteps.{Entered, entered, body-ahead}
@@ -72,7 +70,7 @@ rows-alone-length : (e : Def) → length (rows_defs (e ∷ [])) ≡ 2 + 2 * leng
 unfolding rows_defs row_under
 rows-alone-length e = omega (arith, rows-length e.body (ids e.context), length-append (rows_stmt e.body (ids e.context)) [])
 
-module _ {g : Frame} {s rows : List ℕ} {i : ℕ} {p : Progress} (h : DefsAhead g s rows 1 i p (def_at (records_in g s) i ∷ [])) where
+module _ {g : Frame} {s rows : List ℕ} {width i : ℕ} {p : Progress} (h : DefsAhead g s rows width 1 i p (def_at (records_in g s) i ∷ [])) where
   abbrev one : Def
   one = def_at (records_in g s) i
 
@@ -85,8 +83,8 @@ module _ {g : Frame} {s rows : List ℕ} {i : ℕ} {p : Progress} (h : DefsAhead
   is_definition : record_at g s i ≡ definition one.name one.context
   is_definition = ap head_of parts.head
 
-  room : RoomTo g.id p ((definition one.name one.context ∷ []) ++ flatten (done one m).0) (done one m).1
-  room = subst (λ (R : List Record). RoomTo g.id p R (done one m).1) (alone-records one m) (subst (RoomTo g.id p (flatten_defs (work_defs (one ∷ []) m).0)) (alone-max one m) h.room)
+  room : RoomTo width p ((definition one.name one.context ∷ []) ++ flatten (done one m).0) (done one m).1
+  room = subst (λ (R : List Record). RoomTo width p R (done one m).1) (alone-records one m) (subst (RoomTo width p (flatten_defs (work_defs (one ∷ []) m).0)) (alone-max one m) h.room)
 
   rows-body : Begins rows (2 * (i + 1)) (rows_stmt one.body (ids one.context))
   unfolding rows_defs row_under
@@ -111,27 +109,27 @@ module _ {g : Frame} {s rows : List ℕ} {i : ℕ} {p : Progress} (h : DefsAhead
 
   -- its record is written, and its parameters are the context
   module _ {none : Held} (o : HoldsWork none []) {out out₁ lengths lengths₁ : List ℕ} {st : Stepped}
-      (y : Steps g.id out out₁ lengths lengths₁ p st (entering (record_at g s i) false (work_of none) 0 m)) where
-    here : Entered g.id out out₁ lengths lengths₁ p st (definition one.name one.context) (owns 0 one.context) (length one.context)
+      (y : Steps width out out₁ lengths lengths₁ p st (entering (record_at g s i) false (work_of none) 0 m)) where
+    here : Entered width out out₁ lengths lengths₁ p st (definition one.name one.context) (owns 0 one.context) (length one.context)
     here =
         let e = entered false (work_of none) 0 is_definition y in
         record { emits = e.emits; context = subst (λ (W : Work). HoldsWork st.context (W ++ owns 0 one.context)) o.list e.context; in_scope_lem = e.in_scope_lem ∙ omega arith; max_id = e.max_id }
 
-    pub def_body : StmtAhead g s rows 64 (i + 1) st.context st.in_scope st.progress one.body
+    pub def_body : StmtAhead g s rows width 64 (i + 1) st.context st.in_scope st.progress one.body
     def_body = body-ahead (ids one.context) h.sources parts.body here rows-body h.fits.0
         (room-second (definition one.name one.context ∷ []) (flatten (done one m).0) room (emits-at here.emits) (emits-count here.emits))
 
     pub def-done : {out₂ lengths₂ : List ℕ} {v : Linearized}
-        → (let b = work_stmt one.body (work_of st.context) st.in_scope st.progress.max_id in LinearizedTo g.id out₁ out₂ lengths₁ lengths₂ st.progress v (i + 1 + length (flatten one.body)) (flatten b.0) b.1)
-        → LinearizedTo g.id out out₂ lengths lengths₂ p v (i + length (flatten_defs (one ∷ []))) (flatten_defs (work_defs (one ∷ []) m).0) (work_defs (one ∷ []) m).1
+        → (let b = work_stmt one.body (work_of st.context) st.in_scope st.progress.max_id in LinearizedTo width out₁ out₂ lengths₁ lengths₂ st.progress v (i + 1 + length (flatten one.body)) (flatten b.0) b.1)
+        → LinearizedTo width out out₂ lengths lengths₂ p v (i + length (flatten_defs (one ∷ []))) (flatten_defs (work_defs (one ∷ []) m).0) (work_defs (one ∷ []) m).1
     def-done {out₂} {lengths₂} {v} w =
         let same : work_stmt one.body (work_of st.context) st.in_scope st.progress.max_id ≡ done one m = rw (here.context.list, here.in_scope_lem, here.max_id) in
-        let body : Emits g.id out₁ out₂ lengths₁ lengths₂ st.progress v.progress (flatten (done one m).0) =
-        subst (λ (u : Stmt × ℕ). Emits g.id out₁ out₂ lengths₁ lengths₂ st.progress v.progress (flatten u.0)) same w.writes.emits in
+        let body : Emits width out₁ out₂ lengths₁ lengths₂ st.progress v.progress (flatten (done one m).0) =
+        subst (λ (u : Stmt × ℕ). Emits width out₁ out₂ lengths₁ lengths₂ st.progress v.progress (flatten u.0)) same w.writes.emits in
         record {
           next_is = w.next_is ∙ omega (arith, alone-length one);
           writes = record {
-            emits = subst (Emits g.id out out₂ lengths lengths₂ p v.progress) (sym (alone-records one m)) (emits_then here.emits body);
+            emits = subst (Emits width out out₂ lengths lengths₂ p v.progress) (sym (alone-records one m)) (emits_then here.emits body);
             max_id = w.writes.max_id ∙ ap (λ (u : Stmt × ℕ). u.1) same ∙ sym (alone-max one m);
           };
         }
@@ -144,12 +142,12 @@ pub record DefsWriting (w : ℕ) (rows : List ℕ) (all : List Record) (top : �
   pub fits : AllFitDefs ds
   pub writing : Writing w all top out out' lengths lengths' p z.progress (flatten_defs (work_defs ds z.progress.max_id).0) (work_defs ds z.progress.max_id).1
 
-pub defs-begun : {g : Frame} {s rows : List ℕ} {n i : ℕ} {p : Progress} {ds : List Def} (out lengths : List ℕ) → DefsAhead g s rows n i p ds
-    → DefsWriting g.id rows (flatten_defs (work_defs ds p.max_id).0) (work_defs ds p.max_id).1 out out lengths lengths p (record { next = i; progress = p }) ds
+pub defs-begun : {g : Frame} {s rows : List ℕ} {width n i : ℕ} {p : Progress} {ds : List Def} (out lengths : List ℕ) → DefsAhead g s rows width n i p ds
+    → DefsWriting width rows (flatten_defs (work_defs ds p.max_id).0) (work_defs ds p.max_id).1 out out lengths lengths p (record { next = i; progress = p }) ds
 defs-begun out lengths h = record { rows_are = h.rows_are; fits = h.fits; writing = writing-begun out lengths h.room }
 
-module _ {g : Frame} {s rows : List ℕ} (q : Sources g s) {all : List Record} {top : ℕ} {out out' lengths lengths' : List ℕ} {p : Progress} {left : ℕ} {z : Linearized}
-    (x : DefNext 64 (records_in g s) left z.next (DefsWriting g.id rows all top out out' lengths lengths' p z)) where
+module _ {g : Frame} {s rows : List ℕ} {width : ℕ} (q : Sources g s) {all : List Record} {top : ℕ} {out out' lengths lengths' : List ℕ} {p : Progress} {left : ℕ} {z : Linearized}
+    (x : DefNext 64 (records_in g s) left z.next (DefsWriting width rows all top out out' lengths lengths' p z)) where
   abbrev first : Def
   first = def_of x.name x.context (stmt_at 64 (records_in g s) (z.next + 1))
 
@@ -162,13 +160,13 @@ module _ {g : Frame} {s rows : List ℕ} (q : Sources g s) {all : List Record} {
   is_first : def_at (records_in g s) z.next ≡ first
   is_first = ap (λ (l : List Record). record { name = first_of (head_of l); context = list_of (head_of l); body = first.body }) x.head
 
-  ahead : Writing g.id all top out out' lengths lengths' p z.progress (((definition x.name x.context ∷ []) ++ flatten (done first max).0) ++ flatten_defs behind.0) behind.1
+  ahead : Writing width all top out out' lengths lengths' p z.progress (((definition x.name x.context ∷ []) ++ flatten (done first max).0) ++ flatten_defs behind.0) behind.1
   ahead = let v = defs-view first x.rest max in writing_as v.flat v.max x.holds.writing
 
   rows-ahead : Begins rows (2 * z.next) (rows_defs (first ∷ []) ++ rows_defs x.rest)
   rows-ahead = subst (Begins rows (2 * z.next)) (rows-alone first x.rest) x.holds.rows_are
 
-  alone : DefsAhead g s rows 1 z.next z.progress (first ∷ [])
+  alone : DefsAhead g s rows width 1 z.next z.progress (first ∷ [])
   unfolding flatten_defs
   alone =
       let b = x.body.begins in
@@ -185,22 +183,22 @@ module _ {g : Frame} {s rows : List ℕ} (q : Sources g s) {all : List Record} {
             (room-first ((definition x.name x.context ∷ []) ++ flatten (done first max).0) (flatten_defs behind.0) ahead.room (defs_rise x.rest (done first max).1));
       }
 
-  pub def-ahead : DefsAhead g s rows 1 z.next z.progress (def_at (records_in g s) z.next ∷ [])
-  def-ahead = subst (λ (e : Def). DefsAhead g s rows 1 z.next z.progress (e ∷ [])) (sym is_first) alone
+  pub def-ahead : DefsAhead g s rows width 1 z.next z.progress (def_at (records_in g s) z.next ∷ [])
+  def-ahead = subst (λ (e : Def). DefsAhead g s rows width 1 z.next z.progress (e ∷ [])) (sym is_first) alone
 
   -- it is done, and this is left
   pub def-left : {out₂ lengths₂ : List ℕ} {v : Linearized}
-      → (let e = def_at (records_in g s) z.next in LinearizedTo g.id out' out₂ lengths' lengths₂ z.progress v (z.next + length (flatten_defs (e ∷ []))) (flatten_defs (work_defs (e ∷ []) max).0) (work_defs (e ∷ []) max).1)
-      → DefsLeft 64 (records_in g s) (left - 1) v.next (DefsWriting g.id rows all top out out₂ lengths lengths₂ p v)
+      → (let e = def_at (records_in g s) z.next in LinearizedTo width out' out₂ lengths' lengths₂ z.progress v (z.next + length (flatten_defs (e ∷ []))) (flatten_defs (work_defs (e ∷ []) max).0) (work_defs (e ∷ []) max).1)
+      → DefsLeft 64 (records_in g s) (left - 1) v.next (DefsWriting width rows all top out out₂ lengths lengths₂ p v)
   def-left {out₂} {lengths₂} {v} l =
-      let w = subst (λ (e : Def). LinearizedTo g.id out' out₂ lengths' lengths₂ z.progress v (z.next + length (flatten_defs (e ∷ []))) (flatten_defs (work_defs (e ∷ []) max).0) (work_defs (e ∷ []) max).1) is_first l in
+      let w = subst (λ (e : Def). LinearizedTo width out' out₂ lengths' lengths₂ z.progress v (z.next + length (flatten_defs (e ∷ []))) (flatten_defs (work_defs (e ∷ []) max).0) (work_defs (e ∷ []) max).1) is_first l in
       let rest : work_defs x.rest v.progress.max_id ≡ behind = ap (λ (u : ℕ). work_defs x.rest u) (w.writes.max_id ∙ alone-max first max) in
       let next : v.next ≡ z.next + 1 + length (flatten first.body) = w.next_is ∙ omega (arith, alone-length first) in
       def-turn x next (record {
         rows_are = subst (λ (j : ℕ). Begins rows j (rows_defs x.rest)) (omega (arith, next, rows-alone-length first)) (begins-right (rows_defs (first ∷ [])) (rows_defs x.rest) rows-ahead);
         fits = x.holds.fits.1;
         writing = writing_as (ap (λ (u : List Def × ℕ). flatten_defs u.0) (sym rest)) (ap (λ (u : List Def × ℕ). u.1) (sym rest))
-            (writing_on ((definition x.name x.context ∷ []) ++ flatten (done first max).0) (flatten_defs behind.0) ahead refl (subst (Emits g.id out' out₂ lengths' lengths₂ z.progress v.progress) (alone-records first max) w.writes.emits));
+            (writing_on ((definition x.name x.context ∷ []) ++ flatten (done first max).0) (flatten_defs behind.0) ahead refl (subst (Emits width out' out₂ lengths' lengths₂ z.progress v.progress) (alone-records first max) w.writes.emits));
       })
 
 pub defs-done : {w : ℕ} {rows : List ℕ} {d : ℕ} {rs : List Record} {all : List Record} {top : ℕ} {out out' lengths lengths' : List ℕ} {p : Progress} {left : ℕ} {z : Linearized}

@@ -1,51 +1,37 @@
 // def.rs: one definition. Its parameters are the context of its body.
 ghost use Rattle.std.specs.Prelude.{◌+◌, ◌∷◌, [], length};
-ghost use Rattle.image_spec.specs.Shape.{flatten_defs};
-ghost use Rattle.pass_work_spec.specs.Work.{work_defs};
-ghost use Rattle.pass_walk.specs.Walking.{LinearizedTo};
-ghost use Rattle.pass_definitions.specs.Defining.{def_at, DefsAhead};
 ghost use Rattle.image_directory.specs.Images.{records_of};
+ghost use Rattle.image_spec.specs.Shape.{flatten_defs};
+ghost use Rattle.image_write_directory.specs.Outputs.{so_far};
+ghost use Rattle.pass_work_spec.specs.Work.{work_defs};
+ghost use Rattle.pass_walk.specs.Outputs.{LinearizedIn};
+ghost use Rattle.pass_definitions.specs.Defining.{def_at, DefsAhead};
 
 use image_directory::Frame;
-use image_directory::image::Image;
 use image_kinds::kinds::Kind;
-use image_write_directory::progress::Progress;
+use image_read_parts::record::RecordAt;
+use image_write_directory::output::Output;
 use pass_clause::clause::enter;
 use pass_context::Held;
-use pass_walk::walk::{Linearized, statement};
+use pass_step::source::SourceRecord;
+use pass_step::working::Working;
+use pass_walk::source::Source;
+use pass_walk::walk::statement;
 
-// The definition at index i.
-pub fn definition(
-    image: &Image<'_>,
-    rows: &[u64],
-    i: usize,
-    out: &mut [u8],
-    lengths: &mut [usize],
-    so_far: Progress,
-) -> Linearized
-    requires { DefsAhead image.now.frame image.now.bytes.now rows.now 1 i so_far (def_at (records_of image.now) i ∷ []) }
-    ensures { LinearizedTo image.now.frame.id out.old out.new lengths.old lengths.new so_far result (i + length (flatten_defs (def_at (records_of image.now) i ∷ []))) (flatten_defs (work_defs (def_at (records_of image.now) i ∷ []) so_far.max_id).0) (work_defs (def_at (records_of image.now) i ∷ []) so_far.max_id).1 }
+// The definition at index i. The index behind it is answered.
+pub fn definition(source: &Source<'_>, i: usize, output: &mut Output<'_, '_>) -> usize
+    requires { DefsAhead source.now.image.frame source.now.image.bytes.now source.now.rows.now output.old.writer.id 1 i (so_far output.old) (def_at (records_of source.now.image) i ∷ []) }
+    ensures { LinearizedIn output.old output.new result (i + length (flatten_defs (def_at (records_of source.now.image) i ∷ []))) (flatten_defs (work_defs (def_at (records_of source.now.image) i ∷ []) output.old.max_id).0) (work_defs (def_at (records_of source.now.image) i ∷ []) output.old.max_id).1 }
 {
-    let body = enter(
-        image,
-        i,
-        Kind::Definition,
-        false,
-        Held::empty(),
-        0,
-        out,
-        lengths,
-        so_far,
-    );
-    statement(
-        image,
-        rows,
-        Frame::MAX_SOURCE_DEPTH,
-        i + 1,
-        body.context,
-        body.in_scope,
-        out,
-        lengths,
-        body.progress,
-    )
+    let node = RecordAt {
+        image: source.image,
+        index: i,
+        kind: Kind::Definition,
+    };
+    let none = Working {
+        context: Held::empty(),
+        in_scope: 0,
+    };
+    let body = enter(&SourceRecord { node }, false, &none, output);
+    statement(source, Frame::MAX_SOURCE_DEPTH, i + 1, &body, output)
 }

@@ -2,7 +2,7 @@
 -- the same for every set, so its contract with the empty mask does for every mask. Assumes nothing.
 use Prim.Native.Nat.{ℕ}
 use mathlib.Core.Path.{◌≡◌, refl, sym, ap, ◌∙◌, subst}
-use mathlib.Core.Bool.{Bool, true, false, ◌||◌, cond}
+use mathlib.Core.Bool.{Bool, true, false, ◌||◌, cond, false≢true}
 use mathlib.Core.List.{List, [], ◌∷◌}
 use native.Mathlib.Omega.{arith}
 use borrow.Author.Tests.{eqb-true, ne_eqb}
@@ -12,9 +12,9 @@ use Rattle.syntax.specs.declared.names.VarId.{VarId}
 use Rattle.image_directory.specs.declared.Frame.{Frame}
 use Rattle.image_spec.specs.Records.{Record, definition, substitute, call, let', switch, create, invoke, literal, op, ifc, clause', print, exit}
 use Rattle.image_spec.specs.Kinds.{kind_of}
-use Rattle.image_write_directory.specs.declared.progress.Progress.{Progress}
+use Rattle.image_write_directory.specs.Emitting.{Progress}
 use Rattle.image_places_spec.specs.Views.{binders}
-use Rattle.image_read_nodes.specs.Nodes.{record_at}
+use Rattle.image_read_parts.specs.Indexed.{record_at}
 use Rattle.pass_records.proofs.MadeLaws.{made, parts_of}
 use Rattle.pass_records.proofs.ListPlaces.{at-made}
 use Rattle.pass_work_spec.specs.Work.{Work}
@@ -22,10 +22,9 @@ use Rattle.pass_context.specs.declared.Held.{Held}
 use Rattle.pass_entries.proofs.MaskLaws.{marked-past}
 use Rattle.pass_step_spec.specs.Steps.{Step, step_of}
 use Rattle.pass_step_spec.specs.Fronts.{wanted, right_of, front_records, front_bytes, tail_size}
-use Rattle.pass_step.specs.Stepping.{Says, SourceAt, Workable, Steps, StepsAs, Leaves, LeavesAs, OpensAs}
+use Rattle.pass_step.specs.Stepping.{Says, SourceAt, Workable, Steps, StepsAs, Leaves, LeavesAs, OpensAs, Stepped, Opened}
 use Rattle.pass_step.proofs.StepLaws.{source_as}
-use Rattle.pass_step.specs.declared.stepped.Stepped.{Stepped}
-use Rattle.pass_step.specs.declared.stepped.Opened.{Opened}
+use Rattle.pass_dispatch.specs.Choices.{Settles}
 
 -- ── what a kind asks for ──
 
@@ -97,6 +96,29 @@ module _ {g : Frame} {s : List ℕ} {i kind clauses next : ℕ} {W : Work} (k : 
     pub leaves_as : {r : Progress} → LeavesAs w (record_at g s i) (cond (sees_clauses k) clauses 0) (cond (sees_next k) next 0) W n out out' lengths lengths' p r
         → LeavesAs w (record_at g s i) clauses next W n out out' lengths lengths' p r
     leaves_as {r} h = record { leaves = as_seen (λ f. Leaves w out out' lengths lengths' p r (f W n p.max_id)) h.leaves }
+
+-- the step of a Call, an Invoke, an IfC or an Exit looks at neither
+settled-sees : (r : Record) → Settles (kind_of r) → (fc fn : List VarId) → step_of r [] [] ≡ step_of r fc fn
+settled-sees (definition x Γ) e fc fn = refl
+settled-sees (substitute ps) e fc fn = refl
+settled-sees (call x Γ) e fc fn = refl
+settled-sees (let' v t g Γ) e fc fn = absurd (false≢true e)
+settled-sees (switch v t n) e fc fn = absurd (false≢true e)
+settled-sees (create v t a n) e fc fn = absurd (false≢true e)
+settled-sees (invoke v g t Γ) e fc fn = refl
+settled-sees (literal z v) e fc fn = absurd (false≢true e)
+settled-sees (op f o j v) e fc fn = absurd (false≢true e)
+settled-sees (ifc c f j) e fc fn = refl
+settled-sees (clause' x Γ) e fc fn = refl
+settled-sees (print n v) e fc fn = absurd (false≢true e)
+settled-sees (exit v) e fc fn = refl
+
+pub settled-leaves : {w n clauses next : ℕ} {r : Record} {W : Work} {out out' lengths lengths' : List ℕ} {p q : Progress} → Settles (kind_of r)
+    → LeavesAs w r 0 0 W n out out' lengths lengths' p q → LeavesAs w r clauses next W n out out' lengths lengths' p q
+settled-leaves {w} {n} {r = r} {W} {out} {out'} {lengths} {lengths'} {p} {q} e h = record {
+  leaves = λ fc fn _ _.
+      subst (λ (f : Work → (n m : ℕ) → Step). Leaves w out out' lengths lengths' p q (f W n p.max_id)) (settled-sees r e fc fn) (h.leaves [] [] (says_none W) (says_none W));
+}
 
 -- what comes before the clauses of a Switch does not look at the set of the bodies
 switch-sees : {v t n w clauses next W p r : _} → OpensAs w (switch v t n) clauses 0 W p r → OpensAs w (switch v t n) clauses next W p r

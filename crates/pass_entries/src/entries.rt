@@ -18,7 +18,7 @@ pub struct FlatEntry {
     pub name: Name,
     pub ty_name: Name,
     pub chi: Chirality,
-    // Whether the type is declared. I64 has no identifier.
+    // Whether the type is declared. I64 has no identifier. A flag and no Option: 16 bytes and not 24, measured (docs/SPEED.md).
     pub declared: bool,
     pub place: u8,
     pub spelled: bool,

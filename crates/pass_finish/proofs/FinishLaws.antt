@@ -28,8 +28,7 @@ use Rattle.image_spec.proofs.DirectoryLaws.{header-length, image-length}
 use Rattle.image_open.specs.Opening.{Known}
 use Rattle.image_write_parts.specs.Puts.{Puts}
 use Rattle.image_write_parts.proofs.Putting.{puts-same, puts_then}
-use Rattle.image_write_directory.specs.Emitting.{sizes_of, Emits, entries_from, total}
-use Rattle.image_write_directory.specs.declared.progress.Progress.{Progress}
+use Rattle.image_write_directory.specs.Emitting.{sizes_of, Emits, entries_from, total, Progress}
 use Rattle.image_write_directory.proofs.EmitLaws.{emits-count, entries_sizes}
 use Rattle.scope_spec.specs.Calls.{refuses, reply_if_yes, after_refusal, Replies}
 use Rattle.pass_answer_spec.specs.Calls.{question12, linearizing}

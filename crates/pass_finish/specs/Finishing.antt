@@ -10,8 +10,8 @@ use Rattle.image_spec.specs.Layout.{body_at}
 use Rattle.image_spec.specs.Shape.{flatten_defs}
 use Rattle.image_spec.specs.Image.{header_bytes, entry_bytes, image}
 use Rattle.image_open.specs.Opening.{Known}
-use Rattle.image_write_directory.specs.Emitting.{Emits, entries_from, total}
-use Rattle.image_write_directory.specs.declared.progress.Progress.{Progress}
+use Rattle.image_write_parts.specs.declared.writer.Writer.{Writer}
+use Rattle.image_write_directory.specs.Emitting.{Emits, entries_from, total, Progress}
 use Rattle.scope_spec.specs.Calls.{Reply, writes, reply_if_yes, Replies}
 
 -- document 01, questions 11 and 12 of the program that linearization gives, and its image
@@ -29,6 +29,11 @@ heading L d m n sizes = header_bytes L (L.number, (d, (m, n))) ++ each (entry_by
 pub record Clears (q : Refusal) (r : Answer) (before after : List ℕ) : Type 0 where
   pub answer : r ≡ Err q
   pub buffer : after ≡ replicate (length before) 0
+
+-- the writer's buffer is the same one, and IDs have as many bytes
+pub record Same (w w' : Writer) : Type 0 where
+  pub id : w'.id ≡ w.id
+  pub out : w'.out.ghost_name ≡ w.out.ghost_name
 
 -- records of these lengths were written from `start` on, not behind the place that they have in the image
 pub record Finishable (L : Layout) (lengths : List ℕ) (d start : ℕ) (p : Progress) : Type 0 where

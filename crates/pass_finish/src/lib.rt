@@ -5,12 +5,14 @@ ghost use Rattle.std.specs.Prelude.{◌+◌, ◌-◌, ◌≤◌, ◌<◌, ◌≡
 ghost use Rattle.std.proofs.lemmas.List.Edits.{sets};
 ghost use Rattle.image_spec.specs.Layout.{body_at};
 ghost use Rattle.image_open.specs.Opening.{Known};
-ghost use Rattle.pass_finish.specs.Finishing.{heading, Clears, Finishable, Finishes};
+ghost use Rattle.pass_finish.specs.Finishing.{heading, Clears, Finishable, Finishes, Same};
+ghost use Rattle.image_write_directory.specs.Outputs.{so_far, Keeps};
 
 use image_spec::{Accepted, Answer, Layout, Refusal};
 use image_write_bytes::bytes::{clear, move_up};
-use image_write_directory::directory::{narrow, put_directory, put_header};
-use image_write_directory::progress::Progress;
+use image_write_directory::directory::{put_directory, put_header};
+use image_write_directory::output::Output;
+use image_write_parts::writer::Writer;
 
 // Where the records of an image of n records begin.
 fn body_at(layout: Layout, n: usize) -> usize
@@ -23,52 +25,57 @@ fn body_at(layout: Layout, n: usize) -> usize
 }
 
 // Sets the whole buffer to zero.
-fn refuse(out: &mut [u8], question: Refusal) -> Answer
-    ensures { Clears question result out.old out.new }
+fn refuse(writer: &mut Writer<'_>, question: Refusal) -> Answer
+    ensures { Clears question result writer.old.out.now writer.new.out.now × Same writer.old writer.new }
 {
-    clear(out);
+    clear(writer.out);
     Err(question)
 }
 
-// Moves the records from `start` up to their place, and writes the header and the directory before them.
-fn complete(
-    out: &mut [u8],
-    lengths: &[usize],
-    layout: Layout,
-    defs: usize,
-    start: usize,
-    so_far: Progress,
-)
-    requires { Finishable layout lengths.now defs start so_far × (body_at layout so_far.count + (so_far.at - start) ≤ length out.old) }
-    ensures { out.new ≡ sets (sets out.old (body_at layout so_far.count) (take (so_far.at - start) (drop start out.old))) 0 (heading layout defs so_far.max_id so_far.count (take so_far.count lengths.now)) }
+// Moves the `size` bytes from `start` up by so many, and goes back to the beginning.
+fn shift(writer: &mut Writer<'_>, start: usize, size: usize, by: usize)
+    requires { start + (size + by) ≤ length writer.old.out.now }
+    ensures { (writer.new.out.now ≡ sets writer.old.out.now (start + by) (take size (drop start writer.old.out.now))) × ((writer.new.at ≡ 0) × Same writer.old writer.new) }
 {
-    let count = so_far.count;
-    let body = body_at(layout, count);
-    move_up(out, start, so_far.at - start, body - start);
-    let from = put_header(out, layout, narrow(defs), so_far.max_id, narrow(count));
-    put_directory(lengths, count, out, from, layout.place, body);
+    move_up(writer.out, start, size, by);
+    writer.at = 0;
 }
 
-// The records of d definitions were written from `start` on, and their lengths noted; p says how far.
-pub fn finish(
-    out: &mut [u8],
-    lengths: &[usize],
-    layout: Layout,
-    defs: usize,
-    start: usize,
-    so_far: Progress,
-) -> Answer
-    requires { Finishable layout lengths.now defs start so_far }
-    ensures { Finishes layout defs start so_far lengths.now out.old out.new result }
+// Moves the records from `start` up to their place, and writes the header and the directory before them.
+fn complete(output: &mut Output<'_, '_>, layout: Layout, defs: usize, start: usize)
+    requires { Finishable layout output.old.lengths.now defs start (so_far output.old) × (body_at layout output.old.count + (output.old.writer.at - start) ≤ length output.old.writer.out.now) }
+    ensures { (output.new.writer.out.now ≡ sets (sets output.old.writer.out.now (body_at layout output.old.count) (take (output.old.writer.at - start) (drop start output.old.writer.out.now))) 0 (heading layout defs output.old.max_id output.old.count (take output.old.count output.old.lengths.now))) × Keeps output.old output.new }
 {
-    let max_id = so_far.max_id;
+    let count = output.count;
+    let max_id = output.max_id;
+    let size = output.writer.at - start;
+    let body = body_at(layout, count);
+    shift(&mut output.writer, start, size, body - start);
+    put_header(
+        &mut output.writer,
+        layout,
+        defs as u32,
+        max_id,
+        count as u32,
+    );
+    let lengths = std::mem::take(&mut output.lengths);
+    put_directory(&mut output.writer, &lengths[..count], layout.place, body);
+    output.lengths = lengths;
+}
+
+// The records of d definitions were written from `start` on, and their lengths noted.
+pub fn finish(output: &mut Output<'_, '_>, layout: Layout, defs: usize, start: usize) -> Answer
+    requires { Finishable layout output.old.lengths.now defs start (so_far output.old) }
+    ensures { Finishes layout defs start (so_far output.old) output.old.lengths.now output.old.writer.out.now output.new.writer.out.now result × Keeps output.old output.new }
+{
+    let max_id = output.max_id;
     if Layout::MAX_ID < max_id {
-        return refuse(out, Refusal::Draws);
+        return refuse(&mut output.writer, Refusal::Draws);
     }
-    let length = body_at(layout, so_far.count) + (so_far.at - start);
-    if out.len() < length || layout.largest < length {
-        return refuse(out, Refusal::Room);
+    let length = body_at(layout, output.count) + (output.writer.at - start);
+    if output.writer.out.len() < length || layout.largest < length {
+        return refuse(&mut output.writer, Refusal::Room);
     }
-    complete(out, lengths, layout, defs, start, so_far);
+    complete(output, layout, defs, start);
     Ok(Accepted { length, max_id })
 }

@@ -30,8 +30,7 @@ use Rattle.image_spec.proofs.FlatLengths.{flatten_defs-length}
 use Rattle.image_directory.specs.Slots.{Ready, records_in}
 use Rattle.image_directory.specs.declared.Frame.{Frame}
 use Rattle.image_directory.proofs.Places.{records-length}
-use Rattle.image_write_directory.specs.Emitting.{Emits}
-use Rattle.image_write_directory.specs.declared.progress.Progress.{Progress}
+use Rattle.image_write_directory.specs.Emitting.{Emits, Progress}
 use Rattle.image_open.specs.Opening.{Known}
 use Rattle.image_open.proofs.OpenedLaws.{IsOpened}
 use Rattle.image_places_spec.specs.Places.{Begins}
@@ -49,7 +48,7 @@ use Rattle.pass_work_spec.proofs.Rooms.{works-fit}
 use Rattle.pass_work_spec.proofs.Bounds.{work_near}
 use Rattle.pass_work_spec.proofs.SamePass.{work_defs_lem}
 use Rattle.pass_step_spec.proofs.SizeBounds.{defs-bytes, defs-fewer, defs-more, defs-same-count}
-use Rattle.pass_walk.specs.Walking.{Sources, Writes}
+use Rattle.pass_walk.specs.Walking.{Writes, Sources}
 use Rattle.pass_definitions.specs.Defining.{DefsAhead}
 use Rattle.image_write_directory.proofs.EmitLaws.{emits-count}
 use Rattle.pass_walk.proofs.RoomLaws.{emits-at}
@@ -121,7 +120,7 @@ module _ {L : Layout} {g : Frame} {s : List ℕ} {d m : ℕ} (ready : Ready g s)
   pub rows-begin : (rows : List ℕ) {rows' : List ℕ} → 2 * g.count ≤ length rows → rows' ≡ sets rows 0 (rows_defs (defs_in d (records_in g s))) → Begins rows' 0 (rows_defs (defs_in d (records_in g s)))
   rows-begin rows k e = subst (λ (z : List ℕ). Begins z 0 (rows_defs P.defs)) (sym e) (stored rows (rows_defs P.defs) (omega (arith, rows-defs-length P.defs, count, k)))
 
-  pub defs-ahead : {rows : List ℕ} → Begins rows 0 (rows_defs (defs_in d (records_in g s))) → DefsAhead g s rows d 0 begin (defs_in d (records_in g s))
+  pub defs-ahead : {rows : List ℕ} → Begins rows 0 (rows_defs (defs_in d (records_in g s))) → DefsAhead g s rows g.id d 0 begin (defs_in d (records_in g s))
   defs-ahead b = record {
     sources = sources;
     stand = passed-stand c.read.defined passed;

@@ -5,6 +5,7 @@ use Rattle.image_spec.specs.declared.Layout.{Layout}
 use Rattle.image_spec.specs.Layout.{body_at}
 use Rattle.image_directory.specs.Slots.{records_in}
 use Rattle.image_directory.specs.declared.Frame.{Frame}
+use Rattle.image_write_parts.specs.declared.writer.Writer.{Writer}
 use Rattle.image_open.specs.Opening.{Known}
 use Rattle.scope_check.specs.Definitions.{Defined}
 use Rattle.scope_check.specs.Deciding.{program_in}
@@ -25,3 +26,8 @@ pub record Checked (L : Layout) (g : Frame) (s : List ℕ) (d m : ℕ) : Type 0 
   pub eight : question8 (program_in d (records_in g s) m) ≡ true
   pub nine : question9 (program_in d (records_in g s) m) ≡ true
   pub ten : question10 (program_in d (records_in g s) m) ≡ true
+
+-- the writer is where the records of a program with as many records begin, and IDs have as many bytes
+pub record AtRecords (g : Frame) (w : Writer) : Type 0 where
+  pub at : w.at ≡ g.start
+  pub id : w.id ≡ g.id

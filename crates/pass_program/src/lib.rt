@@ -1,7 +1,7 @@
 // program.rs: linearization of a whole image (questions 1 to 12).
 #![tactic(auto)]
 
-ghost use Rattle.std.specs.Prelude.{◌*◌, ◌≤◌, length};
+ghost use Rattle.std.specs.Prelude.{◌*◌, ◌≤◌, ◌≡◌, length};
 ghost use Rattle.model.specs.Pass.{linearize};
 ghost use Rattle.image_open.specs.Opening.{Known};
 ghost use Rattle.image_places_spec.specs.Places.{Begins};
@@ -11,49 +11,59 @@ ghost use Rattle.scope_check.specs.Definitions.{defs_in};
 ghost use Rattle.scope_check.specs.Deciding.{program_in};
 ghost use Rattle.pass_answer_spec.specs.Calls.{linearizing, linearize_of};
 ghost use Rattle.pass_finish.specs.Finishing.{closing};
-ghost use Rattle.pass_program.specs.Programs.{Read, Checked};
+ghost use Rattle.pass_program.specs.Programs.{Read, Checked, AtRecords};
 ghost use Rattle.image_directory.specs.Images.{records_of};
 
 use image_directory::Frame;
 use image_open::open;
 use image_open::opened::Opened;
 use image_spec::{Answer, Layout};
-use image_write_directory::progress::Progress;
+use image_write_directory::output::Output;
+use image_write_parts::writer::Writer;
 use pass_definitions::program::definitions;
 use pass_finish::finish;
+use pass_walk::source::Source;
 use scope_check::check::check_image;
 
-// Questions 11 and 12, of an image that has passed 1 to 10. The records are written behind the place of a directory for as many records as the
-// source has; there may be up to twice as many. `rows` has two masks of each record of the source, `lengths` has room for the length of each that
-// is written.
+// Questions 11 and 12, of an image that has passed 1 to 10. `rows` has two masks of each record of the source, `lengths` has room for the length of
+// each that is written. (A writer that is in an output comes back by its buffer, so that a caller knows what was written to it.)
+// (`opened` and `layout`, here and below: what was read, and what the header is written by, which nobody else needs of what is opened.)
 fn linearize_program(
     opened: &Opened<'_>,
     layout: Layout,
     rows: &[u64],
     lengths: &mut [usize],
-    out: &mut [u8],
+    writer: &mut Writer<'_>,
 ) -> Answer
-    requires { Checked layout opened.now.image.frame opened.now.image.bytes.now opened.now.definitions opened.now.max_id × (Begins rows.now 0 (rows_defs (defs_in opened.now.definitions (records_of opened.now.image))) × (2 * opened.now.image.frame.count ≤ length lengths.old)) }
-    ensures { Replies (closing layout (linearize (program_in opened.now.definitions (records_of opened.now.image) opened.now.max_id)) (length out.old)) result out.old out.new }
+    requires { Checked layout opened.now.image.frame opened.now.image.bytes.now opened.now.definitions opened.now.max_id × (Begins rows.now 0 (rows_defs (defs_in opened.now.definitions (records_of opened.now.image))) × ((2 * opened.now.image.frame.count ≤ length lengths.old) × AtRecords opened.now.image.frame writer.old)) }
+    ensures { Replies (closing layout (linearize (program_in opened.now.definitions (records_of opened.now.image) opened.now.max_id)) (length writer.old.out.now)) result writer.old.out.now writer.new.out.now × (writer.new.out.ghost_name ≡ writer.old.out.ghost_name) }
 {
-    let start = opened.image.frame.start;
-    let so_far = Progress {
-        at: start,
+    let at = writer.at;
+    let id = writer.id;
+    let writing = Writer {
+        out: std::mem::take(&mut writer.out),
+        at,
+        id,
+    };
+    let mut output = Output {
+        writer: writing,
+        lengths,
         count: 0,
         max_id: opened.max_id,
     };
-    let q = definitions(
-        &opened.image,
+    let source = Source {
+        image: opened.image,
         rows,
-        opened.definitions,
-        out,
-        lengths,
-        so_far,
-    );
-    finish(out, lengths, layout, opened.definitions, start, q)
+    };
+    definitions(&source, opened.definitions, &mut output);
+    let answer = finish(&mut output, layout, opened.definitions, at);
+    let written = output.writer;
+    writer.out = written.out;
+    answer
 }
 
-// Questions 6 to 12, with what is worked with: room in `rows` and `lengths` for two of each record, if there are not more than question 7 allows.
+// Questions 6 to 12. The records are written behind the place of a directory for as many records as the source has; there may be up to twice as many.
+// What is worked with is lent: room in `rows` and `lengths` for two of each record, if there are not more than question 7 allows.
 fn linearize_lent(
     opened: &Opened<'_>,
     layout: Layout,
@@ -65,7 +75,12 @@ fn linearize_lent(
     ensures { Replies (linearizing layout (program_in opened.now.definitions (records_of opened.now.image) opened.now.max_id) (length out.old)) result out.old out.new }
 {
     check_image(opened, rows)?;
-    linearize_program(opened, layout, rows, lengths, out)
+    let mut writer = Writer {
+        out,
+        at: opened.image.frame.start,
+        id: opened.image.frame.id,
+    };
+    linearize_program(opened, layout, rows, lengths, &mut writer)
 }
 
 // Questions 6 to 12.

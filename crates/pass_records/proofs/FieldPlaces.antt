@@ -1,5 +1,5 @@
--- Where the parts of a record without a list stand in bytes where the record stands: a Switch, a Create, a Literal, an Op, an IfC, a PrintI64
--- and an Exit.
+-- Where the parts of a record without a list stand in bytes where the record stands: a Switch, a Create, a Literal, an Op and an IfC; and
+-- where a PrintI64's newline stands in the record. (The var of a PrintI64 and of an Exit: `first-there`, `image_read_nodes/proofs/NodeLaws.antt`.)
 -- Assumes nothing.
 use Prim.Native.Nat.{ℕ, ◌+◌, ◌≤◌, ◌<◌}
 use mathlib.Core.Path.{◌≡◌, refl, sym, ap, ◌∙◌, subst}
@@ -20,7 +20,7 @@ use Rattle.syntax.specs.declared.ifc.IfSort.{IfSort}
 use Rattle.model.specs.Questions.{is_none}
 use Rattle.image_spec.specs.Parse.{got, numbered, or_refused, one_of, mark, Marked}
 use Rattle.image_spec.specs.Fields.{operator_code_lem, sort_code_lem, newline_code_lem, integer_bytes, identifier_bytes, type_bytes, IdentifierOk, TypeOk}
-use Rattle.image_spec.specs.Records.{Record, switch, create, literal, op, ifc, print, exit, record_bytes, RecordOk}
+use Rattle.image_spec.specs.Records.{Record, switch, create, literal, op, ifc, print, record_bytes, RecordOk}
 use Rattle.image_spec.specs.Kinds.{kind_of, clauses_of, fixed, tail_bytes}
 use Rattle.image_spec.proofs.ParseLaws.{Exact}
 use Rattle.image_spec.proofs.FieldLaws.{identifier-length, type-length}
@@ -31,7 +31,7 @@ use Rattle.std.specs.Prelude.{Result, Ok}
 use Rattle.syntax.specs.Codes.{Decodes}
 use Rattle.syntax.specs.declared.codes.NoCode.{NoCode}
 use Rattle.image_read_parts.proofs.StandingLaws.{decoded, inner, stands_in, stands-room, byte-run, second_run}
-use Rattle.image_read_parts.proofs.PartPlaces.{byte_of, switch-var, switch-ty, create-var, create-ty, literal-integer, literal-var, op-fst, op-code, op-snd, op-var, ifc-code, ifc-fst, print-code, print-var, exit-var}
+use Rattle.image_read_parts.proofs.PartPlaces.{byte_of, switch-var, switch-ty, create-var, create-ty, literal-integer, literal-var, op-fst, op-code, op-snd, op-var, ifc-code, ifc-fst, print-code}
 use Rattle.image_read_parts.proofs.NamedPlaces.{identifier-room, byte-room}
 use Rattle.image_read_nodes.specs.Nodes.{first_of, operand_of, target_of, second_of}
 use Rattle.pass_records.specs.Unpacked.{SecondAt}
@@ -218,46 +218,23 @@ module _ (w : ℕ) (s : List ℕ) (o : ℕ) (r : Record) where
             inside = identifier-room w s (o + 2) f d;
           }
 
-  -- ── PrintI64 and Exit ──
+-- ── PrintI64: its newline byte, in the record ──
 
-  pub record PrintThere : Type 0 where
-    pub newline : Bool
-    pub var : Identifier
-    pub is : r ≡ print newline var
-    pub newline-at : get_or s (o + 1) 0 ≡ newline_code_lem newline
-    pub var-at : Stands (identifier_bytes w) (IdentifierOk w) s (o + 2) var
-    pub inside : o + 2 + (2 + w) ≤ length s
+pub record PrintThere (w : ℕ) (r : Record) : Type 0 where
+  pub newline : Bool
+  pub is : r ≡ print newline (first_of r)
+  pub newline-at : Stands byte_of (λ _. Unit {0}) (record_bytes w r) 1 (newline_code_lem newline)
 
-  pub print-there : kind_of r ≡ 12 → Stands (record_bytes w) (RecordOk w) s o r → PrintThere
-  print-there k h = go (parts_of r).newline (first_of r) (made_of r 12 k)
-    where
-      go : (n : Bool) (v : Identifier) → r ≡ print n v → PrintThere
-      go n v e =
-          let st : Stands (record_bytes w) (RecordOk w) s o (print n v) = subst (Stands (record_bytes w) (RecordOk w) s o) e h in
-          let c = identifier_in w st (print-var w n v st.fits) in
-          record {
-            newline = n;
-            var = v;
-            is = e;
-            newline-at = byte_is (inner 1 refl (omega arith) st (print-code w n v st.fits));
-            var-at = c;
-            inside = identifier-room w s (o + 2) v c;
-          }
-
-  pub record ExitThere : Type 0 where
-    pub var : Identifier
-    pub is : r ≡ exit var
-    pub var-at : Stands (identifier_bytes w) (IdentifierOk w) s (o + 1) var
-    pub inside : o + 1 + (2 + w) ≤ length s
-
-  pub exit-there : kind_of r ≡ 13 → Stands (record_bytes w) (RecordOk w) s o r → ExitThere
-  exit-there k h = go (first_of r) (made_of r 13 k)
-    where
-      go : (v : Identifier) → r ≡ exit v → ExitThere
-      go v e =
-          let st : Stands (record_bytes w) (RecordOk w) s o (exit v) = subst (Stands (record_bytes w) (RecordOk w) s o) e h in
-          let c = identifier_in w st (exit-var w v st.fits) in
-          record { var = v; is = e; var-at = c; inside = identifier-room w s (o + 1) v c }
+pub print-there : (w : ℕ) (r : Record) → kind_of r ≡ 12 → RecordOk w r → PrintThere w r
+print-there w r k ok = record {
+  newline = (parts_of r).newline;
+  is = e;
+  newline-at = subst (λ (x : Record). Stands byte_of (λ _. Unit {0}) (record_bytes w x) 1 (newline_code_lem (parts_of r).newline)) (sym e)
+      (print-code w (parts_of r).newline (first_of r) (subst (RecordOk w) e ok));
+}
+  where
+    e : r ≡ print (parts_of r).newline (first_of r)
+    e = made_of r 12 k
 
 -- ── an IfC's second operand, by its mark ──
 

@@ -23,7 +23,8 @@ use Rattle.image_read_parts.specs.Standing.{Stands}
 use Rattle.image_read_parts.specs.Parts.{list_of}
 use Rattle.image_read_parts.proofs.PartPlaces.{let_var, let_ty, let_tag, invoke-var, invoke-tag, invoke-ty}
 use Rattle.image_read_parts.proofs.NamedPlaces.{list-ok}
-use Rattle.image_read_nodes.specs.Nodes.{record_at, At, has_list, first_of, first_at}
+use Rattle.image_read_nodes.specs.Nodes.{has_list, first_of, first_at}
+use Rattle.image_read_parts.specs.Indexed.{record_at, At}
 use Rattle.image_read_nodes.proofs.NodeLaws.{first-stands}
 use Rattle.image_read_nodes.proofs.ListLaws.{list-run, list-there}
 use Rattle.pass_records.specs.Unpacked.{ListAt, Unpacked, NamedAt}

@@ -13,7 +13,8 @@ use Rattle.image_spec.specs.Kinds.{kind_of, fixed}
 use Rattle.image_directory.specs.declared.Frame.{Frame}
 use Rattle.image_read_parts.specs.Standing.{Stands}
 use Rattle.image_read_parts.specs.Parts.{list_of}
-use Rattle.image_read_nodes.specs.Nodes.{record_at, has_list, first_of, first_at}
+use Rattle.image_read_nodes.specs.Nodes.{has_list, first_of, first_at}
+use Rattle.image_read_parts.specs.Indexed.{record_at}
 use Rattle.pass_records.specs.declared.CallRecord.{CallRecord}
 use Rattle.pass_records.specs.declared.LetRecord.{LetRecord}
 use Rattle.pass_records.specs.declared.InvokeRecord.{InvokeRecord}

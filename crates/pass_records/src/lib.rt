@@ -1,4 +1,4 @@
-// The record at an index of an image, read whole.
+// A record of an image, read whole.
 #![tactic(auto)]
 
 ghost use Rattle.std.specs.Prelude.{◌≡◌, true};
@@ -8,11 +8,14 @@ ghost use Rattle.image_spec.specs.Fields.{identifier_bytes, IdentifierOk};
 ghost use Rattle.scope_spec.specs.Flat.{plain_record_lem, small_record_lem};
 ghost use Rattle.image_read_parts.specs.Standing.{ReadsAs};
 ghost use Rattle.pass_records.specs.Unpacked.{call_of, let_of, switch_of, create_of, invoke_of, literal_of, op_of, ifc_of, print_of, exit_of, Unpacked, ListAt, HoldsAt, SecondAt, NamedAt, NamedIs};
-ghost use Rattle.image_read_nodes.specs.Opened.{record_of, IsAt};
+ghost use Rattle.image_read_parts.specs.Recorded.{record_in};
+ghost use Rattle.image_kinds.specs.declared.kinds.Kind.TheVariants.{Call, Let, Switch, Create, Invoke, Literal, Op, IfC, Print, Exit};
 
 use image_directory::image::Image;
-use image_fields::count;
-use image_read_parts::{binding_at, identifier_at, integer_at, newline_of, offset, type_at};
+use image_read_parts::record::RecordAt;
+use image_read_parts::{
+    binding_at, byte, identifier, identifier_at, integer_at, newline_of, offset, type_at,
+};
 use syntax::context::TypingContext;
 use syntax::ifc::IfSort;
 use syntax::names::Identifier;
@@ -79,6 +82,7 @@ pub struct IfCRecord {
 
 #[derive(Clone, Copy)]
 pub struct PrintRecord {
+    // As the Rust's field.
     pub newline: bool,
     pub var: Identifier,
 }
@@ -96,170 +100,174 @@ pub struct NameAndList {
 }
 
 // The list of bindings at a place.
-pub fn list(image: &[u8], w: usize, at: usize) -> TypingContext
-    requires { ListAt w image.now at }
-    ensures { HoldsAt w image.now at result }
+pub fn list(image: &Image<'_>, at: usize) -> TypingContext
+    requires { ListAt image.now.frame.id image.now.bytes.now at }
+    ensures { HoldsAt image.now.frame.id image.now.bytes.now at result }
 {
+    let w = image.frame.id;
     let size = 6 + (w + w);
-    let n = count(image[at]);
+    let n = usize::from(image.bytes[at]);
     let mut out = TypingContext::empty();
     let mut from = at + 1;
     for j in 0..n {
-        out.bindings[j] = binding_at(image, w, from).flat();
+        out.bindings[j] = binding_at(image, from).flat();
         from += size;
     }
     out.len = n;
     out
 }
 
-// The definition, the Call or the clause at index i. (Here and below the counts have passed question 7.)
-pub fn named(image: &Image<'_>, i: usize) -> NameAndList
-    requires { NamedAt image.now.frame image.now.bytes.now i }
-    ensures { NamedIs result (record_of image.now i) }
+// A definition, a Call or a clause. (Here and below the counts have passed question 7.)
+pub fn named(node: &RecordAt<'_>) -> NameAndList
+    requires { NamedAt node.now.image.frame node.now.image.bytes.now node.now.index }
+    ensures { NamedIs result (record_in node.now) }
 {
+    let image = &node.image;
     let w = image.frame.id;
-    let start = offset(image, i);
+    let start = offset(image, node.index);
     NameAndList {
-        name: identifier_at(image.bytes, w, start + 1),
-        list: list(image.bytes, w, start + (3 + w)),
+        name: identifier_at(image, start + 1),
+        list: list(image, start + (3 + w)),
     }
 }
 
-// The Call at index i.
-pub fn call(image: &Image<'_>, i: usize) -> CallRecord
-    requires { IsAt image.now i 3 × (small_record_lem (record_of image.now i) ≡ true) }
-    ensures { Unpacked (record_of image.now i) (call_of result) result.args }
+// A Call.
+pub fn call(node: &RecordAt<'_>) -> CallRecord
+    requires { (node.now.kind ≡ Call) × (small_record_lem (record_in node.now) ≡ true) }
+    ensures { Unpacked (record_in node.now) (call_of result) result.args }
 {
-    let all = named(image, i);
+    let all = named(node);
     CallRecord {
         label: all.name,
         args: all.list,
     }
 }
 
-// The Let at index i.
-pub fn let_record(image: &Image<'_>, i: usize) -> LetRecord
-    requires { IsAt image.now i 4 × (small_record_lem (record_of image.now i) ≡ true) }
-    ensures { Unpacked (record_of image.now i) (let_of result) result.args }
+// A Let.
+pub fn let_record(node: &RecordAt<'_>) -> LetRecord
+    requires { (node.now.kind ≡ Let) × (small_record_lem (record_in node.now) ≡ true) }
+    ensures { Unpacked (record_in node.now) (let_of result) result.args }
 {
+    let image = &node.image;
     let w = image.frame.id;
-    let start = offset(image, i);
-    let var = identifier_at(image.bytes, w, start + 1);
-    let ty = type_at(image.bytes, w, start + (3 + w));
-    let tag = identifier_at(image.bytes, w, start + (6 + (w + w)));
-    let args = list(image.bytes, w, start + (8 + (w + (w + w))));
+    let start = offset(image, node.index);
+    let var = identifier_at(image, start + 1);
+    let ty = type_at(image, start + (3 + w));
+    let tag = identifier_at(image, start + (6 + (w + w)));
+    let args = list(image, start + (8 + (w + (w + w))));
     LetRecord { var, ty, tag, args }
 }
 
-// The Switch at index i.
-pub fn switch(image: &Image<'_>, i: usize) -> SwitchRecord
-    requires { IsAt image.now i 5 }
-    ensures { record_of image.now i ≡ switch_of result }
+// A Switch.
+pub fn switch(node: &RecordAt<'_>) -> SwitchRecord
+    requires { node.now.kind ≡ Switch }
+    ensures { record_in node.now ≡ switch_of result }
 {
+    let image = &node.image;
     let w = image.frame.id;
-    let start = offset(image, i);
-    let var = identifier_at(image.bytes, w, start + 1);
-    let ty = type_at(image.bytes, w, start + (3 + w));
+    let start = offset(image, node.index);
+    let var = identifier_at(image, start + 1);
+    let ty = type_at(image, start + (3 + w));
     let clauses = image.bytes[start + (6 + (w + w))];
     SwitchRecord { var, ty, clauses }
 }
 
-// The Create at index i. (It has passed question 6.)
-pub fn create(image: &Image<'_>, i: usize) -> CreateRecord
-    requires { IsAt image.now i 6 × (plain_record_lem (record_of image.now i) ≡ true) }
-    ensures { record_of image.now i ≡ create_of result }
+// A Create. (It has passed question 6.)
+pub fn create(node: &RecordAt<'_>) -> CreateRecord
+    requires { (node.now.kind ≡ Create) × (plain_record_lem (record_in node.now) ≡ true) }
+    ensures { record_in node.now ≡ create_of result }
 {
+    let image = &node.image;
     let w = image.frame.id;
-    let start = offset(image, i);
-    let var = identifier_at(image.bytes, w, start + 1);
-    let ty = type_at(image.bytes, w, start + (3 + w));
+    let start = offset(image, node.index);
+    let var = identifier_at(image, start + 1);
+    let ty = type_at(image, start + (3 + w));
     let clauses = image.bytes[start + (7 + (w + w))];
     CreateRecord { var, ty, clauses }
 }
 
-// The Invoke at index i.
-pub fn invoke(image: &Image<'_>, i: usize) -> InvokeRecord
-    requires { IsAt image.now i 7 × (small_record_lem (record_of image.now i) ≡ true) }
-    ensures { Unpacked (record_of image.now i) (invoke_of result) result.args }
+// An Invoke.
+pub fn invoke(node: &RecordAt<'_>) -> InvokeRecord
+    requires { (node.now.kind ≡ Invoke) × (small_record_lem (record_in node.now) ≡ true) }
+    ensures { Unpacked (record_in node.now) (invoke_of result) result.args }
 {
+    let image = &node.image;
     let w = image.frame.id;
-    let start = offset(image, i);
-    let var = identifier_at(image.bytes, w, start + 1);
-    let tag = identifier_at(image.bytes, w, start + (3 + w));
-    let ty = type_at(image.bytes, w, start + (5 + (w + w)));
-    let args = list(image.bytes, w, start + (8 + (w + (w + w))));
+    let start = offset(image, node.index);
+    let var = identifier_at(image, start + 1);
+    let tag = identifier_at(image, start + (3 + w));
+    let ty = type_at(image, start + (5 + (w + w)));
+    let args = list(image, start + (8 + (w + (w + w))));
     InvokeRecord { var, tag, ty, args }
 }
 
-// The Literal at index i.
-pub fn literal(image: &Image<'_>, i: usize) -> LiteralRecord
-    requires { IsAt image.now i 8 }
-    ensures { record_of image.now i ≡ literal_of result }
+// A Literal.
+pub fn literal(node: &RecordAt<'_>) -> LiteralRecord
+    requires { node.now.kind ≡ Literal }
+    ensures { record_in node.now ≡ literal_of result }
 {
-    let w = image.frame.id;
-    let start = offset(image, i);
+    let image = &node.image;
+    let start = offset(image, node.index);
     let lit = integer_at(image.bytes, start + 1);
-    let var = identifier_at(image.bytes, w, start + 9);
+    let var = identifier_at(image, start + 9);
     LiteralRecord { lit, var }
 }
 
-// The Op at index i.
-pub fn op(image: &Image<'_>, i: usize) -> OpRecord
-    requires { IsAt image.now i 9 }
-    ensures { record_of image.now i ≡ op_of result }
+// An Op.
+pub fn op(node: &RecordAt<'_>) -> OpRecord
+    requires { node.now.kind ≡ Op }
+    ensures { record_in node.now ≡ op_of result }
 {
+    let image = &node.image;
     let w = image.frame.id;
-    let start = offset(image, i);
-    let fst = identifier_at(image.bytes, w, start + 1);
+    let start = offset(image, node.index);
+    let fst = identifier_at(image, start + 1);
     let op = BinOp::try_from(image.bytes[start + (3 + w)]).unwrap();
-    let snd = identifier_at(image.bytes, w, start + (4 + w));
-    let var = identifier_at(image.bytes, w, start + (6 + (w + w)));
+    let snd = identifier_at(image, start + (4 + w));
+    let var = identifier_at(image, start + (6 + (w + w)));
     OpRecord { fst, op, snd, var }
 }
 
 // The second operand of an IfC, if its mark announces one.
-fn second_at(image: &[u8], w: usize, at: usize) -> Option<Identifier>
-    requires { SecondAt w image.now at }
-    ensures { ReadsAs (mark (identifier_bytes w)) (Marked (IdentifierOk w)) image.now at (option_of result) }
+fn second_at(image: &Image<'_>, at: usize) -> Option<Identifier>
+    requires { SecondAt image.now.frame.id image.now.bytes.now at }
+    ensures { ReadsAs (mark (identifier_bytes image.now.frame.id)) (Marked (IdentifierOk image.now.frame.id)) image.now.bytes.now at (option_of result) }
 {
-    if image[at] == 0 {
+    if image.bytes[at] == 0 {
         return None;
     }
-    Some(identifier_at(image, w, at + 1))
+    Some(identifier_at(image, at + 1))
 }
 
-// The IfC at index i.
-pub fn ifc(image: &Image<'_>, i: usize) -> IfCRecord
-    requires { IsAt image.now i 10 }
-    ensures { record_of image.now i ≡ ifc_of result }
+// An IfC.
+pub fn ifc(node: &RecordAt<'_>) -> IfCRecord
+    requires { node.now.kind ≡ IfC }
+    ensures { record_in node.now ≡ ifc_of result }
 {
+    let image = &node.image;
     let w = image.frame.id;
-    let start = offset(image, i);
+    let start = offset(image, node.index);
     let sort = IfSort::try_from(image.bytes[start + 1]).unwrap();
-    let fst = identifier_at(image.bytes, w, start + 2);
-    let snd = second_at(image.bytes, w, start + (4 + w));
+    let fst = identifier_at(image, start + 2);
+    let snd = second_at(image, start + (4 + w));
     IfCRecord { sort, fst, snd }
 }
 
-// The PrintI64 at index i.
-pub fn print(image: &Image<'_>, i: usize) -> PrintRecord
-    requires { IsAt image.now i 12 }
-    ensures { record_of image.now i ≡ print_of result }
+// A PrintI64.
+pub fn print(node: &RecordAt<'_>) -> PrintRecord
+    requires { node.now.kind ≡ Print }
+    ensures { record_in node.now ≡ print_of result }
 {
-    let w = image.frame.id;
-    let start = offset(image, i);
-    let newline = newline_of(image.bytes[start + 1]);
-    let var = identifier_at(image.bytes, w, start + 2);
+    let newline = newline_of(byte(&node.image, node.index, 1));
+    let var = identifier(&node.image, node.index, 2);
     PrintRecord { newline, var }
 }
 
-// The Exit at index i.
-pub fn exit(image: &Image<'_>, i: usize) -> ExitRecord
-    requires { IsAt image.now i 13 }
-    ensures { record_of image.now i ≡ exit_of result }
+// An Exit.
+pub fn exit(node: &RecordAt<'_>) -> ExitRecord
+    requires { node.now.kind ≡ Exit }
+    ensures { record_in node.now ≡ exit_of result }
 {
-    let w = image.frame.id;
-    let start = offset(image, i);
-    let var = identifier_at(image.bytes, w, start + 1);
+    let var = identifier(&node.image, node.index, 1);
     ExitRecord { var }
 }

@@ -6,7 +6,7 @@ use Rattle.syntax.specs.Context.{Context, same_context}
 use Rattle.syntax.specs.declared.names.Identifier.{Identifier}
 use Rattle.model.specs.Rules.{freshen_unless_lem}
 use Rattle.image_spec.specs.Records.{Record, call}
-use Rattle.image_write_directory.specs.declared.progress.Progress.{Progress}
+use Rattle.image_write_directory.specs.Emitting.{Progress}
 use Rattle.pass_work_spec.specs.Work.{Work, bindings, used_all_lem}
 use Rattle.pass_step_spec.specs.Steps.{step_call_lem}
 use Rattle.pass_step.specs.Stepping.{Leaves, LeavesAs}

@@ -22,8 +22,7 @@ use Rattle.syntax.proofs.Permutations.{perm_sym}
 use Rattle.image_spec.specs.Kinds.{kind_of, clauses_of, fixed}
 use Rattle.image_spec.specs.Records.{Record, create, record_bytes}
 use Rattle.image_write_parts.specs.Puts.{Puts}
-use Rattle.image_write_directory.specs.Emitting.{Noted}
-use Rattle.image_write_directory.specs.declared.progress.Progress.{Progress}
+use Rattle.image_write_directory.specs.Emitting.{Noted, Progress}
 use Rattle.image_read_nodes.specs.Nodes.{first_of}
 use Rattle.pass_records.proofs.MadeLaws.{parts_of, made_of}
 use Rattle.pass_work_spec.specs.Work.{Work, bindings, kept, moved_behind, own, respelled_unless}
@@ -38,9 +37,7 @@ use Rattle.pass_entries.proofs.MaskLaws.{mask_fewer}
 use Rattle.pass_step_spec.specs.Steps.{environment, arranged, step_create}
 use Rattle.pass_step_spec.specs.Fronts.{wanted, right_of, front_records, front_bytes, pairs_size, tail_size}
 use Rattle.pass_step.specs.Drawn.{drawn_to}
-use Rattle.pass_step.specs.Stepping.{Says, Reserves, OpensAs, OpenedAs, Arranges, StepsAs}
-use Rattle.pass_step.specs.declared.stepped.Opened.{Opened}
-use Rattle.pass_step.specs.declared.stepped.Stepped.{Stepped}
+use Rattle.pass_step.specs.Stepping.{Says, Reserves, OpensAs, OpenedAs, Arranges, StepsAs, Opened, Stepped}
 use Rattle.pass_step.proofs.StepLaws.{kept-says, arranged_then, emits_as, held-workable}
 use Rattle.pass_step.proofs.OpenLaws.{bindings-count}
 

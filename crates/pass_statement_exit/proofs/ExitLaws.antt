@@ -5,8 +5,7 @@ use mathlib.Core.List.{List}
 use Rattle.syntax.specs.declared.names.Identifier.{Identifier}
 use Rattle.image_spec.specs.Records.{Record, exit, record_bytes}
 use Rattle.image_write_parts.specs.Puts.{Puts}
-use Rattle.image_write_directory.specs.Emitting.{Noted}
-use Rattle.image_write_directory.specs.declared.progress.Progress.{Progress}
+use Rattle.image_write_directory.specs.Emitting.{Noted, Progress}
 use Rattle.image_write_directory.proofs.EmitLaws.{emits_one}
 use Rattle.pass_work_spec.specs.Work.{Work, used}
 use Rattle.pass_step_spec.specs.Steps.{step_exit}

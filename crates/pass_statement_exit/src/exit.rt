@@ -1,29 +1,25 @@
 // exit.rs, and mod.rs: exit statements need not be changed.
-ghost use Rattle.pass_context.specs.Holding.{work_of};
-ghost use Rattle.pass_step.specs.Stepping.{RoomAt, SourceAt, Workable, LeavesAs};
-ghost use Rattle.image_read_nodes.specs.Opened.{record_of};
+ghost use Rattle.std.specs.Prelude.{◌≡◌};
+ghost use Rattle.pass_step.specs.Stepping.{RoomAt, Workable};
+ghost use Rattle.image_read_parts.specs.Recorded.{record_in};
+ghost use Rattle.image_write_directory.specs.Outputs.{so_far};
+ghost use Rattle.pass_step.specs.Outputs.{LeavesFor};
+ghost use Rattle.image_kinds.specs.declared.kinds.Kind.TheVariants.{Exit};
 
-use image_directory::image::Image;
-use image_write_directory::progress::{Progress, note};
+use image_write_directory::output::{Output, note};
 use image_write_records::records::put_exit;
-use pass_context::Held;
 use pass_records::exit;
+use pass_step::source::SourceRecord;
+use pass_step::working::Working;
 
 // An Exit inserts no Substitute, whatever the context holds. Its var is written as the context has it.
-pub fn linearize(
-    image: &Image<'_>,
-    i: usize,
-    context: Held,
-    in_scope: u8,
-    out: &mut [u8],
-    lengths: &mut [usize],
-    so_far: Progress,
-) -> Progress
-    requires { SourceAt image.now.frame image.now.bytes.now i 13 × (Workable context in_scope 0 × RoomAt so_far) }
-    ensures { LeavesAs image.now.frame.id (record_of image.now i) 0 0 (work_of context) in_scope out.old out.new lengths.old lengths.new so_far result }
+pub fn linearize(source: &SourceRecord<'_>, here: &Working, output: &mut Output<'_, '_>)
+    requires { (source.now.node.kind ≡ Exit) × (Workable here.now.context here.now.in_scope 0 × RoomAt (so_far output.old)) }
+    ensures { LeavesFor output.old output.new (record_in source.now.node) 0 0 here.now }
 {
-    let statement = exit(image, i);
-    let var = context.used(statement.var);
-    let next = put_exit(out, so_far.at, image.frame.id, var);
-    note(lengths, so_far, next)
+    let statement = exit(&source.node);
+    let var = here.context.used(statement.var);
+    let start = output.writer.at;
+    put_exit(&mut output.writer, var);
+    note(output, start);
 }

@@ -10,8 +10,7 @@ use Rattle.syntax.specs.declared.names.Identifier.{Identifier}
 use Rattle.syntax.specs.declared.ifc.IfSort.{IfSort}
 use Rattle.image_spec.specs.Records.{Record, ifc, record_bytes}
 use Rattle.image_write_parts.specs.Puts.{Puts}
-use Rattle.image_write_directory.specs.Emitting.{Noted}
-use Rattle.image_write_directory.specs.declared.progress.Progress.{Progress}
+use Rattle.image_write_directory.specs.Emitting.{Noted, Progress}
 use Rattle.image_write_directory.proofs.EmitLaws.{emits_one}
 use Rattle.pass_work_spec.specs.Work.{Work, used, used_option}
 use Rattle.pass_step_spec.specs.Steps.{step_if_c}

@@ -1,30 +1,26 @@
 // ifc.rs
-ghost use Rattle.pass_context.specs.Holding.{work_of};
-ghost use Rattle.pass_step.specs.Stepping.{RoomAt, SourceAt, Workable, LeavesAs};
-ghost use Rattle.image_read_nodes.specs.Opened.{record_of};
+ghost use Rattle.std.specs.Prelude.{◌≡◌};
+ghost use Rattle.pass_step.specs.Stepping.{RoomAt, Workable};
+ghost use Rattle.image_read_parts.specs.Recorded.{record_in};
+ghost use Rattle.image_write_directory.specs.Outputs.{so_far};
+ghost use Rattle.pass_step.specs.Outputs.{LeavesFor};
+ghost use Rattle.image_kinds.specs.declared.kinds.Kind.TheVariants.{IfC};
 
-use image_directory::image::Image;
-use image_write_directory::progress::{Progress, note};
+use image_write_directory::output::{Output, note};
 use image_write_records::records::put_ifc;
-use pass_context::Held;
 use pass_records::ifc;
+use pass_step::source::SourceRecord;
+use pass_step::working::Working;
 
 // An IfC inserts no Substitute: it binds nothing, and each branch has its own.
-pub fn linearize(
-    image: &Image<'_>,
-    i: usize,
-    context: Held,
-    in_scope: u8,
-    out: &mut [u8],
-    lengths: &mut [usize],
-    so_far: Progress,
-) -> Progress
-    requires { SourceAt image.now.frame image.now.bytes.now i 10 × (Workable context in_scope 0 × RoomAt so_far) }
-    ensures { LeavesAs image.now.frame.id (record_of image.now i) 0 0 (work_of context) in_scope out.old out.new lengths.old lengths.new so_far result }
+pub fn linearize(source: &SourceRecord<'_>, here: &Working, output: &mut Output<'_, '_>)
+    requires { (source.now.node.kind ≡ IfC) × (Workable here.now.context here.now.in_scope 0 × RoomAt (so_far output.old)) }
+    ensures { LeavesFor output.old output.new (record_in source.now.node) 0 0 here.now }
 {
-    let statement = ifc(image, i);
-    let fst = context.used(statement.fst);
-    let snd = statement.snd.map(|x| context.used(x));
-    let next = put_ifc(out, so_far.at, image.frame.id, statement.sort, fst, snd);
-    note(lengths, so_far, next)
+    let statement = ifc(&source.node);
+    let fst = here.context.used(statement.fst);
+    let snd = statement.snd.map(|x| here.context.used(x));
+    let start = output.writer.at;
+    put_ifc(&mut output.writer, statement.sort, fst, snd);
+    note(output, start);
 }

@@ -11,7 +11,7 @@ use Rattle.syntax.specs.declared.types.Ty.{Ty}
 use Rattle.syntax.specs.declared.context.Chirality.TheVariants.{Cns}
 use Rattle.model.specs.Rules.{bind}
 use Rattle.image_spec.specs.Records.{Record, invoke}
-use Rattle.image_write_directory.specs.declared.progress.Progress.{Progress}
+use Rattle.image_write_directory.specs.Emitting.{Progress}
 use Rattle.pass_work_spec.specs.Work.{Work, used, used_all_lem}
 use Rattle.pass_step_spec.specs.Steps.{step_invoke}
 use Rattle.pass_step.specs.Stepping.{Leaves, LeavesAs}

@@ -14,16 +14,14 @@ use Rattle.syntax.specs.declared.types.Ty.{Ty}
 use Rattle.model.specs.Rules.{bind, freshen_unless_lem}
 use Rattle.image_spec.specs.Records.{Record, let', record_bytes}
 use Rattle.image_write_parts.specs.Puts.{Puts}
-use Rattle.image_write_directory.specs.Emitting.{Noted}
-use Rattle.image_write_directory.specs.declared.progress.Progress.{Progress}
+use Rattle.image_write_directory.specs.Emitting.{Noted, Progress}
 use Rattle.pass_work_spec.specs.Work.{Work, bindings, kept, own, used_all_lem}
 use Rattle.pass_context.specs.Holding.{work_of, HoldsWork}
 use Rattle.pass_entries.specs.Masks.{kept_by_mask}
 use Rattle.pass_context.specs.declared.Held.{Held}
 use Rattle.pass_step_spec.specs.Steps.{arranged, step_let}
 use Rattle.pass_step.specs.Drawn.{drawn_to}
-use Rattle.pass_step.specs.Stepping.{Arranges, StepsAs}
-use Rattle.pass_step.specs.declared.stepped.Stepped.{Stepped}
+use Rattle.pass_step.specs.Stepping.{Arranges, StepsAs, Stepped}
 use Rattle.pass_step.proofs.StepLaws.{kept-says, arranged_then, emits_as}
 
 pub let_steps : {w : ℕ} {record' : Record} (var : Identifier) (ty : Ty) (tag : Identifier) (args : Context) {clauses mask : ℕ} (W : Work) (n : ℕ) {out mid out' lengths middle lengths' : List ℕ} {p q z : Progress}

@@ -11,15 +11,13 @@ use Rattle.syntax.specs.declared.types.Ty.TheVariants.{I64}
 use Rattle.model.specs.Rules.{bind}
 use Rattle.image_spec.specs.Records.{Record, literal, record_bytes}
 use Rattle.image_write_parts.specs.Puts.{Puts}
-use Rattle.image_write_directory.specs.Emitting.{Noted}
-use Rattle.image_write_directory.specs.declared.progress.Progress.{Progress}
+use Rattle.image_write_directory.specs.Emitting.{Noted, Progress}
 use Rattle.pass_work_spec.specs.Work.{Work, bindings, own}
 use Rattle.pass_context.specs.Holding.{work_of, HoldsWork}
 use Rattle.pass_entries.specs.Masks.{kept_by_mask}
 use Rattle.pass_context.specs.declared.Held.{Held}
 use Rattle.pass_step_spec.specs.Steps.{arranged, step_literal}
-use Rattle.pass_step.specs.Stepping.{Arranges, Steps, StepsAs}
-use Rattle.pass_step.specs.declared.stepped.Stepped.{Stepped}
+use Rattle.pass_step.specs.Stepping.{Arranges, Steps, StepsAs, Stepped}
 use Rattle.pass_step.proofs.StepLaws.{kept-says}
 use Rattle.pass_step.proofs.BindLaws.{binds_behind, binds-steps}
 

@@ -8,12 +8,11 @@ use Rattle.syntax.specs.declared.types.Ty.TheVariants.{I64}
 use Rattle.syntax.specs.declared.op.BinOp.{BinOp}
 use Rattle.model.specs.Rules.{bind}
 use Rattle.image_spec.specs.Records.{Record, op}
-use Rattle.image_write_directory.specs.declared.progress.Progress.{Progress}
+use Rattle.image_write_directory.specs.Emitting.{Progress}
 use Rattle.pass_work_spec.specs.Work.{Work, used}
 use Rattle.pass_entries.specs.Masks.{kept_by_mask, with_places_lem, InPlaces}
 use Rattle.pass_step_spec.specs.Steps.{step_op}
-use Rattle.pass_step.specs.Stepping.{Steps, StepsAs}
-use Rattle.pass_step.specs.declared.stepped.Stepped.{Stepped}
+use Rattle.pass_step.specs.Stepping.{Steps, StepsAs, Stepped}
 use Rattle.pass_step.proofs.StepLaws.{kept-says}
 use Rattle.pass_step.proofs.BindLaws.{binds_behind, says_with}
 

@@ -9,14 +9,12 @@ use Rattle.syntax.specs.Context.{same_context}
 use Rattle.syntax.specs.declared.names.VarId.{VarId}
 use Rattle.syntax.specs.declared.names.Identifier.{Identifier}
 use Rattle.image_spec.specs.Records.{Record, print}
-use Rattle.image_write_directory.specs.Emitting.{Emits}
-use Rattle.image_write_directory.specs.declared.progress.Progress.{Progress}
+use Rattle.image_write_directory.specs.Emitting.{Emits, Progress}
 use Rattle.pass_work_spec.specs.Work.{Work, bindings, used}
 use Rattle.pass_context.specs.Holding.{HoldsWork}
 use Rattle.pass_entries.specs.Masks.{kept_by_mask, with_places_lem, InPlaces}
 use Rattle.pass_step_spec.specs.Steps.{Step, arranged, step_print_i64}
-use Rattle.pass_step.specs.Stepping.{Says, Steps, StepsAs}
-use Rattle.pass_step.specs.declared.stepped.Stepped.{Stepped}
+use Rattle.pass_step.specs.Stepping.{Says, Steps, StepsAs, Stepped}
 use Rattle.pass_step.proofs.StepLaws.{kept-says}
 use Rattle.pass_step.proofs.BindLaws.{says_with}
 

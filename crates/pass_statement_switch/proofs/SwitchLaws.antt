@@ -16,17 +16,15 @@ use Rattle.model.specs.Rules.{bind, fresh_var_unless}
 use Rattle.image_spec.specs.Kinds.{fixed}
 use Rattle.image_spec.specs.Records.{Record, switch, record_bytes}
 use Rattle.image_write_parts.specs.Puts.{Puts}
-use Rattle.image_write_directory.specs.Emitting.{Noted}
-use Rattle.image_write_directory.specs.declared.progress.Progress.{Progress}
+use Rattle.image_write_directory.specs.Emitting.{Noted, Progress}
 use Rattle.pass_work_spec.specs.Work.{Work, bindings, kept, used}
 use Rattle.pass_context.specs.Holding.{work_of, HoldsWork}
 use Rattle.pass_entries.specs.Masks.{kept_by_mask}
 use Rattle.pass_step_spec.specs.Fronts.{wanted, right_of, front_records, front_bytes, pairs_size, tail_size}
 use Rattle.pass_step_spec.specs.Steps.{arranged, step_switch}
 use Rattle.pass_step.specs.Drawn.{drawn_to}
-use Rattle.pass_step.specs.Stepping.{Reserves, OpensAs, OpenedAs, Arranges, LeavesAs}
+use Rattle.pass_step.specs.Stepping.{Reserves, OpensAs, OpenedAs, Arranges, LeavesAs, Opened}
 use Rattle.pass_statement_switch.specs.Drawing.{FreshVarIs}
-use Rattle.pass_step.specs.declared.stepped.Opened.{Opened}
 use Rattle.pass_statement_switch.specs.declared.switch.FreshVar.{FreshVar}
 use Rattle.pass_step.proofs.StepLaws.{kept-says, arranged_then, emits_as, held-workable}
 use Rattle.pass_step.proofs.OpenLaws.{bindings-count}

@@ -9,16 +9,14 @@ use Rattle.syntax.specs.declared.names.VarId.{VarId}
 use Rattle.syntax.specs.declared.context.ContextBinding.{ContextBinding}
 use Rattle.image_spec.specs.Records.{Record, record_bytes}
 use Rattle.image_write_parts.specs.Puts.{Puts}
-use Rattle.image_write_directory.specs.Emitting.{Emits, Noted}
-use Rattle.image_write_directory.specs.declared.progress.Progress.{Progress}
+use Rattle.image_write_directory.specs.Emitting.{Emits, Noted, Progress}
 use Rattle.pass_work_spec.specs.Work.{Work, bindings, own}
 use Rattle.pass_entries.specs.Masks.{with_places_lem, InPlaces}
 use Rattle.pass_entries.proofs.MaskLaws.{places_say}
 use Rattle.pass_context.specs.Holding.{work_of, HoldsWork}
 use Rattle.pass_context.specs.declared.Held.{Held}
 use Rattle.pass_step_spec.specs.Steps.{Step, arranged}
-use Rattle.pass_step.specs.Stepping.{Says, Arranges, Steps}
-use Rattle.pass_step.specs.declared.stepped.Stepped.{Stepped}
+use Rattle.pass_step.specs.Stepping.{Says, Arranges, Steps, Stepped}
 use Rattle.pass_step.proofs.StepLaws.{arranged_then}
 
 -- with the places of two variables the mask says the set with these two

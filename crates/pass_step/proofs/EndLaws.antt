@@ -15,8 +15,7 @@ use Rattle.syntax.proofs.Same.{same-lengths}
 use Rattle.model.specs.Rules.{freshen_unless_lem}
 use Rattle.image_spec.specs.Records.{Record, record_bytes}
 use Rattle.image_write_parts.specs.Puts.{Puts}
-use Rattle.image_write_directory.specs.Emitting.{Noted}
-use Rattle.image_write_directory.specs.declared.progress.Progress.{Progress}
+use Rattle.image_write_directory.specs.Emitting.{Noted, Progress}
 use Rattle.pass_work_spec.specs.Work.{Work, bindings}
 use Rattle.pass_work_spec.specs.declared.Entry.{Entry}
 use Rattle.pass_step_spec.specs.Steps.{Step, arranged}

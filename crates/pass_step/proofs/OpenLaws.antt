@@ -11,13 +11,12 @@ use Rattle.syntax.specs.declared.sets.IdSet.{IdSet}
 use Rattle.syntax.specs.declared.context.TypingContext.{TypingContext}
 use Rattle.syntax.proofs.Same.{same-lengths}
 use Rattle.image_spec.specs.Records.{Record}
-use Rattle.image_write_directory.specs.declared.progress.Progress.{Progress}
+use Rattle.image_write_directory.specs.Emitting.{Progress}
 use Rattle.pass_work_spec.specs.Work.{Work, bindings}
 use Rattle.pass_work_spec.specs.declared.Entry.{Entry}
 use Rattle.pass_context.specs.Holding.{work_of, HoldsWork}
 use Rattle.pass_context.specs.declared.Held.{Held}
-use Rattle.pass_step.specs.Stepping.{Workable, OpensAs, OpenedAs}
-use Rattle.pass_step.specs.declared.stepped.Opened.{Opened}
+use Rattle.pass_step.specs.Stepping.{Workable, OpensAs, OpenedAs, Opened}
 
 -- a struct to work with holds its own list
 pub workable-holds : {h : Held} {n k : ℕ} → Workable h n k → HoldsWork h (work_of h)

@@ -14,8 +14,7 @@ use Rattle.image_directory.specs.declared.Frame.{Frame}
 use Rattle.image_spec.specs.Parse.{each}
 use Rattle.image_spec.specs.Records.{Record, record_bytes}
 use Rattle.image_write_parts.specs.Puts.{Puts}
-use Rattle.image_write_directory.specs.Emitting.{sizes_of, Emits, Noted}
-use Rattle.image_write_directory.specs.declared.progress.Progress.{Progress}
+use Rattle.image_write_directory.specs.Emitting.{sizes_of, Emits, Noted, Progress}
 use Rattle.image_write_directory.proofs.EmitLaws.{emits_one, emits_then}
 use Rattle.pass_work_spec.specs.Work.{Work, bindings, kept}
 use Rattle.pass_work_spec.specs.declared.Entry.{Entry}

@@ -1,6 +1,6 @@
 -- How far the output has come when IDs are drawn.
 use Rattle.std.specs.Prelude.{ℕ}
-use Rattle.image_write_directory.specs.declared.progress.Progress.{Progress}
+use Rattle.image_write_directory.specs.Emitting.{Progress}
 
 -- nothing is written, and this is the max_id
 abbrev pub drawn_to : Progress → (m : ℕ) → Progress

@@ -7,10 +7,9 @@ use Rattle.syntax.specs.declared.names.VarId.{VarId}
 use Rattle.syntax.specs.declared.context.TypingContext.{TypingContext}
 use Rattle.image_directory.specs.declared.Frame.{Frame}
 use Rattle.image_spec.specs.Records.{Record}
-use Rattle.image_write_directory.specs.Emitting.{Emits}
-use Rattle.image_write_directory.specs.declared.progress.Progress.{Progress}
+use Rattle.image_write_directory.specs.Emitting.{Emits, Progress}
 use Rattle.scope_spec.specs.Flat.{plain_record_lem, small_record_lem}
-use Rattle.image_read_nodes.specs.Nodes.{record_at, At}
+use Rattle.image_read_parts.specs.Indexed.{record_at, At}
 use Rattle.pass_work_spec.specs.Work.{Work}
 use Rattle.pass_work_spec.specs.declared.Entry.{Entry}
 use Rattle.pass_context.specs.Holding.{work_of, HoldsWork}
@@ -18,20 +17,31 @@ use Rattle.pass_entries.specs.Masks.{marked}
 use Rattle.pass_context.specs.declared.Held.{Held}
 use Rattle.pass_step_spec.specs.Steps.{Step, step_of, clause_context}
 use Rattle.pass_step_spec.specs.Fronts.{pairs_size, right_of, front_records, front_bytes}
-use Rattle.pass_step.specs.declared.stepped.Stepped.{Stepped}
-use Rattle.pass_step.specs.declared.stepped.Opened.{Opened}
+
+-- what a step leads to: the context for the bodies, how many variables are in scope there, and how far the output has come
+pub record Stepped : Type 0 where
+  pub context : Held
+  pub in_scope : ℕ
+  pub progress : Progress
+
+-- what clauses begin with: their context, whether the context is right already, and how far the output has come, behind the place of what comes
+-- before them
+pub record Opened : Type 0 where
+  pub context : Held
+  pub right : Bool
+  pub progress : Progress
 
 -- the mask says of each entry whether its source is in the set
 pub record Says (mask : ℕ) (s : List VarId) (W : Work) : Type 0 where
   pub says : (e : Entry) → Memᴰ e W → marked mask e.place ≡ elem e.source s
 
--- there is room to write two records and to draw for them
+-- there is room to write two records and to draw for them. (Asked of an output and no field of it: a step uses the room up.)
 pub record RoomAt (p : Progress) : Type 0 where
   pub at : p.at + 65536 < 2 ^ 64
   pub count : p.count + 2 < 2 ^ 64
   pub max_id : p.max_id + 256 < 2 ^ 32
 
--- a list of targets beside what is wanted in their places
+-- a list of targets beside what is wanted in their places. (Asked of two lists that come from two sides, and that only a substitution puts together.)
 pub record Paired (targets wanted : TypingContext) : Type 0 where
   pub count : targets.len ≡ length (context_of targets)
   pub same : targets.len ≡ wanted.len
@@ -57,7 +67,7 @@ pub record SourceAt (g : Frame) (s : List ℕ) (i kind : ℕ) : Type 0 where
   pub small : small_record_lem (record_at g s i) ≡ true
   pub plain : plain_record_lem (record_at g s i) ≡ true
 
--- the context at work, with n variables in scope, has room for what binds k more
+-- the context at work, with n variables in scope, has room for what binds k more. (Asked and no field: how much differs from statement to statement.)
 pub record Workable (held : Held) (n k : ℕ) : Type 0 where
   pub count : held.len ≡ length (work_of held)
   pub room : held.len + k ≤ 64

@@ -2,9 +2,7 @@
 ghost use Rattle.std.specs.Prelude.{◌+◌, ◌≤◌, ◌<◌, ◌^◌, ◌≡◌, length};
 ghost use Rattle.syntax.specs.Arrays.{set_of, context_of, Freshens};
 ghost use Rattle.model.specs.Rules.{freshen_unless_lem};
-ghost use Rattle.pass_step.specs.Drawn.{drawn_to};
 
-use image_write_directory::progress::Progress;
 use syntax::context::{Freshened, TypingContext};
 use syntax::names::VarId;
 use syntax::sets::IdSet;
@@ -22,14 +20,4 @@ pub fn freshen_unless(right: bool, args: TypingContext, clashes: IdSet, max_id: 
         };
     }
     args.freshen(clashes, max)
-}
-
-// How far the output has come, with the max_id after the draws.
-pub fn with_max_id(so_far: Progress, max_id: VarId) -> Progress
-    ensures { result ≡ drawn_to so_far max_id.0 }
-{
-    Progress {
-        max_id: max_id.0,
-        ..so_far
-    }
 }

@@ -3,4 +3,5 @@
 
 pub mod fresh;
 pub mod reserve;
-pub mod stepped;
+pub mod source;
+pub mod working;

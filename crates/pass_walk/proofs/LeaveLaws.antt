@@ -9,18 +9,16 @@ use Rattle.syntax.specs.declared.names.VarId.{VarId}
 use Rattle.image_spec.specs.Records.{Record, definition, substitute, call, let', switch, create, invoke, literal, op, ifc, clause', print, exit}
 use Rattle.image_spec.specs.Kinds.{kind_of}
 use Rattle.image_directory.specs.declared.Frame.{Frame}
-use Rattle.image_write_directory.specs.declared.progress.Progress.{Progress}
+use Rattle.image_write_directory.specs.Emitting.{Progress}
 use Rattle.image_places_spec.specs.Views.{binders}
-use Rattle.image_read_nodes.specs.Nodes.{record_at, At}
+use Rattle.image_read_parts.specs.Indexed.{record_at, At}
 use Rattle.pass_records.proofs.ListPlaces.{at-made}
 use Rattle.pass_work_spec.specs.Work.{Work}
 use Rattle.pass_context.specs.Holding.{work_of}
 use Rattle.pass_context.specs.declared.Held.{Held}
 use Rattle.pass_step_spec.specs.Steps.{Step, step_of, step_other, step_call_lem, step_switch, step_invoke, step_if_c, step_exit}
 use Rattle.pass_step_spec.specs.Fronts.{wanted, right_of}
-use Rattle.pass_step.specs.Stepping.{Says, StepsAs, LeavesAs, OpenedAs}
-use Rattle.pass_step.specs.declared.stepped.Stepped.{Stepped}
-use Rattle.pass_step.specs.declared.stepped.Opened.{Opened}
+use Rattle.pass_step.specs.Stepping.{Says, StepsAs, LeavesAs, OpenedAs, Stepped, Opened}
 
 -- this context, and this count of variables in scope
 record Stays (x : Step) (W : Work) (n : ℕ) : Type 0 where

@@ -5,3 +5,4 @@ pub mod LeaveLaws
 pub mod StatementLaws
 pub mod WalkSteps
 pub mod LoopSteps
+pub mod OutputLaws

@@ -15,8 +15,7 @@ use Rattle.image_spec.specs.Shape.{flatten, flatten_clauses}
 use Rattle.image_directory.specs.Slots.{Ready, records_in}
 use Rattle.image_directory.specs.declared.Frame.{Frame}
 use Rattle.image_directory.proofs.Places.{records-length}
-use Rattle.image_write_directory.specs.Emitting.{Emits}
-use Rattle.image_write_directory.specs.declared.progress.Progress.{Progress}
+use Rattle.image_write_directory.specs.Emitting.{Emits, Progress}
 use Rattle.image_read_parts.specs.Standing.{head_of}
 use Rattle.image_read_parts.specs.Parts.{list_of}
 use Rattle.image_places_spec.specs.Places.{stmt_at, StmtStands, Begins}
@@ -24,7 +23,7 @@ use Rattle.image_places_spec.proofs.PlaceLaws.{begins-left, begins-right}
 use Rattle.image_places_spec.proofs.Steps.{ClausesLeft, ClauseNext, clause-turn, clauses-end, BodiesLeft, BodyNext, body-next, body-turn, bodies-end}
 use Rattle.scope_spec.specs.FreeRows.{mask_of, row_under, rows_stmt, rows_clauses, rows_bodies}
 use Rattle.scope_spec.proofs.FreeViews.{rows-length}
-use Rattle.image_read_nodes.specs.Nodes.{record_at}
+use Rattle.image_read_parts.specs.Indexed.{record_at}
 use Rattle.image_read_nodes.proofs.StepLaws.{clause-kind}
 use Rattle.pass_work_spec.specs.Work.{Work, owns, work_stmt, work_clauses}
 use Rattle.pass_work_spec.specs.Placed.{AllFit, AllFitClauses}
@@ -35,11 +34,9 @@ use Rattle.pass_context.specs.declared.Held.{Held}
 use Rattle.pass_step_spec.specs.Steps.{work_bodies}
 use Rattle.pass_step_spec.proofs.WorkViews.{body_done, rest_done, clause-view, bodies-view}
 use Rattle.pass_step_spec.proofs.StepBounds.{bodies_rise}
-use Rattle.pass_step.specs.Stepping.{RoomAt, SourceAt, Workable, Steps}
-use Rattle.pass_step.specs.declared.stepped.Stepped.{Stepped}
+use Rattle.pass_step.specs.Stepping.{RoomAt, SourceAt, Workable, Steps, Stepped}
 use Rattle.pass_clause.specs.Entering.{entering}
-use Rattle.pass_walk.specs.Walking.{Sources, RoomTo, StmtAhead, ClausesAhead, BodiesAhead, LinearizedTo}
-use Rattle.pass_walk.specs.declared.walk.Linearized.{Linearized}
+use Rattle.pass_walk.specs.Walking.{RoomTo, StmtAhead, ClausesAhead, BodiesAhead, LinearizedTo, Linearized, Sources}
 use Rattle.pass_walk.proofs.RoomLaws.{room-here, room-first, Writing, writing-begun, writing_on, writing_as, writing-done}
 use Rattle.pass_walk.proofs.SourceLaws.{source-at}
 
@@ -61,12 +58,12 @@ entered {w} {out} {out'} {lengths} {lengths'} {p} {st} before W n e x =
     record { emits = y.emits; context = y.context; in_scope_lem = y.in_scope_lem; max_id = y.max_id }
 
 -- the body at i has the rows from 2 i on, fits, and there is room for it
-pub body-ahead : {g : Frame} {s rows out out' lengths lengths' : List ℕ} {d i n : ℕ} {p : Progress} {st : Stepped} {r : Record} {W : Work} (Δ : List VarId) → Sources g s
-    → StmtStands d (records_in g s) i (stmt_at d (records_in g s) i) → Entered g.id out out' lengths lengths' p st r W n
+pub body-ahead : {g : Frame} {s rows out out' lengths lengths' : List ℕ} {width d i n : ℕ} {p : Progress} {st : Stepped} {r : Record} {W : Work} (Δ : List VarId) → Sources g s
+    → StmtStands d (records_in g s) i (stmt_at d (records_in g s) i) → Entered width out out' lengths lengths' p st r W n
     → Begins rows (2 * i) (rows_stmt (stmt_at d (records_in g s) i) Δ) → AllFit (stmt_at d (records_in g s) i) Δ W n
-    → (let b = work_stmt (stmt_at d (records_in g s) i) W n p.max_id in RoomTo g.id st.progress (flatten b.0) b.1)
-    → StmtAhead g s rows d i st.context st.in_scope st.progress (stmt_at d (records_in g s) i)
-body-ahead {g} {s} {d = d} {i = i} {n = n} {p = p} {st = st} {W = W} Δ q x e b f r =
+    → (let b = work_stmt (stmt_at d (records_in g s) i) W n p.max_id in RoomTo width st.progress (flatten b.0) b.1)
+    → StmtAhead g s rows width d i st.context st.in_scope st.progress (stmt_at d (records_in g s) i)
+body-ahead {g} {s} {width = width} {d = d} {i = i} {n = n} {p = p} {st = st} {W = W} Δ q x e b f r =
     let t = stmt_at d (records_in g s) i in
     let same : work_stmt t W n p.max_id ≡ work_stmt t (work_of st.context) st.in_scope st.progress.max_id = sym (rw (e.context.list, e.in_scope_lem, e.max_id) refl) in
     record {
@@ -76,7 +73,7 @@ body-ahead {g} {s} {d = d} {i = i} {n = n} {p = p} {st = st} {W = W} Δ q x e b 
       scope = Δ;
       rows_are = b;
       fits = rw (e.context.list, e.in_scope_lem) f;
-      room = subst (λ (u : Stmt × ℕ). RoomTo g.id st.progress (flatten u.0) u.1) same r;
+      room = subst (λ (u : Stmt × ℕ). RoomTo width st.progress (flatten u.0) u.1) same r;
     }
 
 -- ── what is left of clauses ──
@@ -88,12 +85,12 @@ pub record ClausesWriting (w : ℕ) (rows : List ℕ) (before : Bool) (held : He
   pub fits : AllFitClauses cs before scope (work_of held) n
   pub writing : Writing w all top out out' lengths lengths' p z.progress (flatten_clauses (work_clauses cs before (work_of held) n z.progress.max_id).0) (work_clauses cs before (work_of held) n z.progress.max_id).1
 
-pub clauses-begun : {g : Frame} {s rows : List ℕ} {d k i : ℕ} {before : Bool} {held : Held} {n : ℕ} {p : Progress} {cs : Clauses} (out lengths : List ℕ) → ClausesAhead g s rows d k i before held n p cs
-    → ClausesWriting g.id rows before held n (flatten_clauses (work_clauses cs before (work_of held) n p.max_id).0) (work_clauses cs before (work_of held) n p.max_id).1 out out lengths lengths p (record { next = i; progress = p }) cs
+pub clauses-begun : {g : Frame} {s rows : List ℕ} {width d k i : ℕ} {before : Bool} {held : Held} {n : ℕ} {p : Progress} {cs : Clauses} (out lengths : List ℕ) → ClausesAhead g s rows width d k i before held n p cs
+    → ClausesWriting width rows before held n (flatten_clauses (work_clauses cs before (work_of held) n p.max_id).0) (work_clauses cs before (work_of held) n p.max_id).1 out out lengths lengths p (record { next = i; progress = p }) cs
 clauses-begun out lengths h = record { scope = h.scope; rows_are = h.rows_are; fits = h.fits; writing = writing-begun out lengths h.room }
 
-module _ {g : Frame} {s rows : List ℕ} (q : Sources g s) {d : ℕ} {before : Bool} {held : Held} {n : ℕ} {all : List Record} {top : ℕ} {out out' lengths lengths' : List ℕ} {p : Progress} {place left : ℕ} {z : Linearized}
-    (x : ClauseNext d (records_in g s) place left z.next (ClausesWriting g.id rows before held n all top out out' lengths lengths' p z)) where
+module _ {g : Frame} {s rows : List ℕ} {width : ℕ} (q : Sources g s) {d : ℕ} {before : Bool} {held : Held} {n : ℕ} {all : List Record} {top : ℕ} {out out' lengths lengths' : List ℕ} {p : Progress} {place left : ℕ} {z : Linearized}
+    (x : ClauseNext d (records_in g s) place left z.next (ClausesWriting width rows before held n all top out out' lengths lengths' p z)) where
   abbrev t : Stmt
   t = stmt_at d (records_in g s) (z.next + 1)
 
@@ -117,7 +114,7 @@ module _ {g : Frame} {s rows : List ℕ} (q : Sources g s) {d : ℕ} {before : B
   fits = x.holds.fits
 
   -- the clause's record, its body and the clauses behind it are ahead
-  ahead : Writing g.id all top out out' lengths lengths' p z.progress ((clause' x.name x.context ∷ []) ++ (flatten body_is.0 ++ flatten_clauses rest_is.0)) rest_is.1
+  ahead : Writing width all top out out' lengths lengths' p z.progress ((clause' x.name x.context ∷ []) ++ (flatten body_is.0 ++ flatten_clauses rest_is.0)) rest_is.1
   ahead = let v = clause-view x.name x.context t x.rest before (work_of held) n m in writing_as v.flat v.max x.holds.writing
 
   rows-ahead : Begins rows (2 * (z.next + 1)) (rows_stmt t (Δ ++ ids x.context) ++ rows_clauses x.rest Δ)
@@ -138,24 +135,24 @@ module _ {g : Frame} {s rows : List ℕ} (q : Sources g s) {d : ℕ} {before : B
   pub clause-room : RoomAt z.progress
   clause-room = room-here x.holds.writing.room (work_rises_clauses _ before (work_of held) n m)
 
-  module _ {out₁ lengths₁ : List ℕ} {st : Stepped} (y : Steps g.id out' out₁ lengths' lengths₁ z.progress st (entering (record_at g s z.next) before (work_of held) n m)) where
-    here : Entered g.id out' out₁ lengths' lengths₁ z.progress st (clause' x.name x.context) (cond before (owns n x.context ++ work_of held) (work_of held ++ owns n x.context)) (n + length x.context)
+  module _ {out₁ lengths₁ : List ℕ} {st : Stepped} (y : Steps width out' out₁ lengths' lengths₁ z.progress st (entering (record_at g s z.next) before (work_of held) n m)) where
+    here : Entered width out' out₁ lengths' lengths₁ z.progress st (clause' x.name x.context) (cond before (owns n x.context ++ work_of held) (work_of held ++ owns n x.context)) (n + length x.context)
     here = entered before (work_of held) n is_clause y
 
-    behind : Writing g.id all top out out₁ lengths lengths₁ p st.progress (flatten body_is.0 ++ flatten_clauses rest_is.0) rest_is.1
+    behind : Writing width all top out out₁ lengths lengths₁ p st.progress (flatten body_is.0 ++ flatten_clauses rest_is.0) rest_is.1
     behind = writing_on (clause' x.name x.context ∷ []) (flatten body_is.0 ++ flatten_clauses rest_is.0) ahead refl here.emits
 
-    pub clause-body : StmtAhead g s rows d (z.next + 1) st.context st.in_scope st.progress t
+    pub clause-body : StmtAhead g s rows width d (z.next + 1) st.context st.in_scope st.progress t
     clause-body = body-ahead (Δ ++ ids x.context) q x.body here (begins-left (rows_stmt t (Δ ++ ids x.context)) _ rows-ahead) fits.0
         (room-first (flatten body_is.0) (flatten_clauses rest_is.0) behind.room (work_rises_clauses x.rest before (work_of held) n body_is.1))
 
     pub clause-done : {out₂ lengths₂ : List ℕ} {v : Linearized}
-        → (let b = work_stmt t (work_of st.context) st.in_scope st.progress.max_id in LinearizedTo g.id out₁ out₂ lengths₁ lengths₂ st.progress v (z.next + 1 + length (flatten t)) (flatten b.0) b.1)
-        → ClausesLeft d (records_in g s) place (left - 1) v.next (ClausesWriting g.id rows before held n all top out out₂ lengths lengths₂ p v)
+        → (let b = work_stmt t (work_of st.context) st.in_scope st.progress.max_id in LinearizedTo width out₁ out₂ lengths₁ lengths₂ st.progress v (z.next + 1 + length (flatten t)) (flatten b.0) b.1)
+        → ClausesLeft d (records_in g s) place (left - 1) v.next (ClausesWriting width rows before held n all top out out₂ lengths lengths₂ p v)
     clause-done {out₂} {lengths₂} {v} w =
         let same : work_stmt t (work_of st.context) st.in_scope st.progress.max_id ≡ body_is = rw (here.context.list, here.in_scope_lem, here.max_id) in
-        let body : Emits g.id out₁ out₂ lengths₁ lengths₂ st.progress v.progress (flatten body_is.0) =
-        subst (λ (u : Stmt × ℕ). Emits g.id out₁ out₂ lengths₁ lengths₂ st.progress v.progress (flatten u.0)) same w.writes.emits in
+        let body : Emits width out₁ out₂ lengths₁ lengths₂ st.progress v.progress (flatten body_is.0) =
+        subst (λ (u : Stmt × ℕ). Emits width out₁ out₂ lengths₁ lengths₂ st.progress v.progress (flatten u.0)) same w.writes.emits in
         let max : v.progress.max_id ≡ body_is.1 = w.writes.max_id ∙ ap (λ (u : Stmt × ℕ). u.1) same in
         let rest : work_clauses x.rest before (work_of held) n v.progress.max_id ≡ rest_is = ap (λ (u : ℕ). work_clauses x.rest before (work_of held) n u) max in
         clause-turn x w.next_is (record {
@@ -178,22 +175,22 @@ pub record BodiesWriting (w : ℕ) (rows : List ℕ) (held : Held) (n : ℕ) (al
   pub fits : All (λ (t : Stmt). AllFit t scope (work_of held) n) ts
   pub writing : Writing w all top out out' lengths lengths' p z.progress (each flatten (work_bodies ts (work_of held) n z.progress.max_id).0) (work_bodies ts (work_of held) n z.progress.max_id).1
 
-pub bodies-begun : {g : Frame} {s rows : List ℕ} {d k i : ℕ} {held : Held} {n : ℕ} {p : Progress} {ts : List Stmt} (out lengths : List ℕ) → BodiesAhead g s rows d k i held n p ts
-    → BodiesWriting g.id rows held n (each flatten (work_bodies ts (work_of held) n p.max_id).0) (work_bodies ts (work_of held) n p.max_id).1 out out lengths lengths p (record { next = i; progress = p }) ts
+pub bodies-begun : {g : Frame} {s rows : List ℕ} {width d k i : ℕ} {held : Held} {n : ℕ} {p : Progress} {ts : List Stmt} (out lengths : List ℕ) → BodiesAhead g s rows width d k i held n p ts
+    → BodiesWriting width rows held n (each flatten (work_bodies ts (work_of held) n p.max_id).0) (work_bodies ts (work_of held) n p.max_id).1 out out lengths lengths p (record { next = i; progress = p }) ts
 bodies-begun out lengths h = record { scope = h.scope; rows_are = h.rows_are; fits = h.fits; writing = writing-begun out lengths h.room }
 
-module _ {g : Frame} {s rows : List ℕ} (q : Sources g s) {d : ℕ} {held : Held} {n : ℕ} {all : List Record} {top : ℕ} {out out' lengths lengths' : List ℕ} {p : Progress} {place left : ℕ} {z : Linearized}
-    (x : BodyNext d (records_in g s) place left z.next (BodiesWriting g.id rows held n all top out out' lengths lengths' p z)) where
+module _ {g : Frame} {s rows : List ℕ} {width : ℕ} (q : Sources g s) {d : ℕ} {held : Held} {n : ℕ} {all : List Record} {top : ℕ} {out out' lengths lengths' : List ℕ} {p : Progress} {place left : ℕ} {z : Linearized}
+    (x : BodyNext d (records_in g s) place left z.next (BodiesWriting width rows held n all top out out' lengths lengths' p z)) where
   abbrev first : Stmt
   first = stmt_at d (records_in g s) z.next
 
   abbrev first_is : Stmt × ℕ
   first_is = work_stmt first (work_of held) n z.progress.max_id
 
-  ahead' : Writing g.id all top out out' lengths lengths' p z.progress (flatten first_is.0 ++ each flatten (work_bodies x.rest (work_of held) n first_is.1).0) (work_bodies x.rest (work_of held) n first_is.1).1
+  ahead' : Writing width all top out out' lengths lengths' p z.progress (flatten first_is.0 ++ each flatten (work_bodies x.rest (work_of held) n first_is.1).0) (work_bodies x.rest (work_of held) n first_is.1).1
   ahead' = let v = bodies-view first x.rest (work_of held) n z.progress.max_id in writing_as v.flat v.max x.holds.writing
 
-  pub first_body : held.len ≡ length (work_of held) → StmtAhead g s rows d z.next held n z.progress first
+  pub first_body : held.len ≡ length (work_of held) → StmtAhead g s rows width d z.next held n z.progress first
   first_body c = record {
     sources = q;
     stands = x.body;
@@ -205,8 +202,8 @@ module _ {g : Frame} {s rows : List ℕ} (q : Sources g s) {d : ℕ} {held : Hel
   }
 
   pub body-done : {out₁ lengths₁ : List ℕ} {v : Linearized}
-      → LinearizedTo g.id out' out₁ lengths' lengths₁ z.progress v (z.next + length (flatten first)) (flatten first_is.0) first_is.1
-      → BodiesLeft d (records_in g s) place (left - 1) v.next (BodiesWriting g.id rows held n all top out out₁ lengths lengths₁ p v)
+      → LinearizedTo width out' out₁ lengths' lengths₁ z.progress v (z.next + length (flatten first)) (flatten first_is.0) first_is.1
+      → BodiesLeft d (records_in g s) place (left - 1) v.next (BodiesWriting width rows held n all top out out₁ lengths lengths₁ p v)
   body-done {v = v} w =
       let rest : work_bodies x.rest (work_of held) n first_is.1 ≡ work_bodies x.rest (work_of held) n v.progress.max_id = ap (λ (u : ℕ). work_bodies x.rest (work_of held) n u) (sym w.writes.max_id) in
       body-turn x w.next_is (record {
@@ -224,17 +221,17 @@ bodies-done l h = let e = bodies-end l h in record { next_is = e.0; writes = wri
 
 -- ── one body is its statement ──
 
-module _ {g : Frame} {s rows : List ℕ} {d k i : ℕ} {held : Held} {n : ℕ} {p : Progress} {ts : List Stmt} (one : k ≡ 1) (h : BodiesAhead g s rows d k i held n p ts) where
+module _ {g : Frame} {s rows : List ℕ} {width d k i : ℕ} {held : Held} {n : ℕ} {p : Progress} {ts : List Stmt} (one : k ≡ 1) (h : BodiesAhead g s rows width d k i held n p ts) where
   abbrev bodies_are : List Stmt × ℕ
   bodies_are = work_bodies ts (work_of held) n p.max_id
 
-  only : (out lengths : List ℕ) → BodyNext d (records_in g s) (i + length (each flatten ts)) k i (BodiesWriting g.id rows held n (each flatten bodies_are.0) bodies_are.1 out out lengths lengths p (record { next = i; progress = p }))
+  only : (out lengths : List ℕ) → BodyNext d (records_in g s) (i + length (each flatten ts)) k i (BodiesWriting width rows held n (each flatten bodies_are.0) bodies_are.1 out out lengths lengths p (record { next = i; progress = p }))
   only out lengths = body-next (record { rest = ts; stand = h.stand; size = refl; holds = bodies-begun out lengths h }) (omega (arith, one))
 
-  pub one-body : StmtAhead g s rows d i held n p (stmt_at d (records_in g s) i)
+  pub one-body : StmtAhead g s rows width d i held n p (stmt_at d (records_in g s) i)
   one-body = first_body h.sources (only [] []) h.count
 
   pub one-body-done : {out out' lengths lengths' : List ℕ} {v : Linearized}
-      → (let t = stmt_at d (records_in g s) i in let b = work_stmt t (work_of held) n p.max_id in LinearizedTo g.id out out' lengths lengths' p v (i + length (flatten t)) (flatten b.0) b.1)
-      → LinearizedTo g.id out out' lengths lengths' p v (i + length (each flatten ts)) (each flatten bodies_are.0) bodies_are.1
+      → (let t = stmt_at d (records_in g s) i in let b = work_stmt t (work_of held) n p.max_id in LinearizedTo width out out' lengths lengths' p v (i + length (flatten t)) (flatten b.0) b.1)
+      → LinearizedTo width out out' lengths lengths' p v (i + length (each flatten ts)) (each flatten bodies_are.0) bodies_are.1
   one-body-done {out} {lengths = lengths} w = bodies-done (body-done h.sources (only out lengths) w) (omega (arith, one))

@@ -6,8 +6,7 @@ use native.Mathlib.Omega.{arith}
 use lib.ListN.{length, length-append}
 use Rattle.image_spec.specs.Parse.{each}
 use Rattle.image_spec.specs.Records.{Record, record_bytes}
-use Rattle.image_write_directory.specs.Emitting.{Emits}
-use Rattle.image_write_directory.specs.declared.progress.Progress.{Progress}
+use Rattle.image_write_directory.specs.Emitting.{Emits, Progress}
 use Rattle.image_spec.proofs.ListLaws.{each_append}
 use Rattle.image_write_directory.proofs.EmitLaws.{emits_none, emits_then, emits-count}
 use Rattle.pass_step.specs.Stepping.{RoomAt}

@@ -29,7 +29,7 @@ use Rattle.scope_spec.specs.Flat.{plain_record_lem, small_record_lem}
 use Rattle.scope_spec.specs.FreeRows.{bit, mask_of}
 use Rattle.scope_spec.proofs.FreeViews.{Plain}
 use Rattle.scope_spec.proofs.RowLaws.{mask_at}
-use Rattle.image_read_nodes.specs.Nodes.{At}
+use Rattle.image_read_parts.specs.Indexed.{At}
 use Rattle.scope_records.proofs.FlatLaws.{record_at_lem}
 use Rattle.pass_work_spec.specs.Work.{Work}
 use Rattle.pass_work_spec.specs.Placed.{Placed, AllFit}
@@ -128,8 +128,11 @@ params_first_lem (print newline var) = refl
 params_first_lem (exit var) = refl
 
 -- is it a Create?
-pub a-create : (k : Kind) {t : Bool} → t ≡ sameb the_type k kind.Create → t ≡ true → code_of k ≡ 6
-a-create k e h = ap code_of (same_true the_type (search rules) k kind.Create (sym e ∙ h))
+pub a-create : (k : Kind) {t : Bool} → t ≡ sameb the_type k kind.Create → t ≡ true → k ≡ kind.Create
+a-create k e h = same_true the_type (search rules) k kind.Create (sym e ∙ h)
+
+pub a-switch : (k : Kind) → (5 ≤ code_of k) × (code_of k ≤ 6) → (code_of k ≡ 6 → ⊥) → k ≡ kind.Switch
+a-switch k b n = same_code k kind.Switch (omega (arith, b.0, b.1, n))
 
 pub no-create : (k : Kind) {t : Bool} → t ≡ sameb the_type k kind.Create → t ≡ false → code_of k ≡ 6 → ⊥
 no-create k e h q = true≢false (subst (λ (z : Kind). sameb the_type z kind.Create ≡ false) (same_code k kind.Create q) (sym e ∙ h))

@@ -16,7 +16,7 @@ use Rattle.image_spec.specs.Shape.{flatten, flatten_clauses}
 use Rattle.image_directory.specs.Slots.{Ready, records_in}
 use Rattle.image_directory.specs.declared.Frame.{Frame}
 use Rattle.image_directory.proofs.Places.{records-length}
-use Rattle.image_write_directory.specs.declared.progress.Progress.{Progress}
+use Rattle.image_write_directory.specs.Emitting.{Progress}
 use Rattle.image_places_spec.specs.Views.{record_of, clauses_in, bodies_of, binders}
 use Rattle.image_places_spec.specs.Places.{stmt_at, clauses_at, bodies_at, Begins}
 use Rattle.image_places_spec.proofs.PlaceLaws.{begins-left, begins-right}
@@ -24,7 +24,7 @@ use Rattle.image_places_spec.proofs.Steps.{head-inside, Below}
 use Rattle.scope_spec.specs.Flat.{plain_record_lem}
 use Rattle.scope_spec.specs.FreeRows.{mask_of, row_of, rows_clauses, rows_bodies}
 use Rattle.scope_spec.proofs.FreeViews.{Plain, rows-view, rows-clauses-length}
-use Rattle.image_read_nodes.specs.Nodes.{record_at}
+use Rattle.image_read_parts.specs.Indexed.{record_at}
 use Rattle.image_read_nodes.specs.Nodes.{Followed}
 use Rattle.image_read_nodes.specs.declared.Follows.{Follows}
 use Rattle.image_read_nodes.proofs.StepLaws.{head_is, above_at, below_at}
@@ -66,7 +66,7 @@ no-bodies e d rs i = ap (λ (m : ℕ). bodies_at d m rs i) e
 
 -- ── a statement ──
 
-module _ {g : Frame} {s rows : List ℕ} {d i : ℕ} {held : Held} {n : ℕ} {p : Progress} (h : StmtAhead g s rows d i held n p (stmt_at d (records_in g s) i)) where
+module _ {g : Frame} {s rows : List ℕ} {width d i : ℕ} {held : Held} {n : ℕ} {p : Progress} (h : StmtAhead g s rows width d i held n p (stmt_at d (records_in g s) i)) where
   abbrev here : Stmt
   here = stmt_at d (records_in g s) i
 
@@ -129,9 +129,9 @@ module _ {g : Frame} {s rows : List ℕ} {d i : ℕ} {held : Held} {n : ℕ} {p 
   drawn-bodies = bodies_rise (bodies_of here) S.context S.in_scope_lem S.max_id
 
   -- room for the step's records, for the clauses' and for the bodies'
-  pub room-view : RoomTo g.id p (S.front ++ (flatten_clauses C.0 ++ each flatten B.0)) B.1
-  room-view = subst (λ (z : ℕ). RoomTo g.id p (S.front ++ (flatten_clauses C.0 ++ each flatten B.0)) z) view.max
-      (subst (λ (z : List Record). RoomTo g.id p z (work_stmt here W n p.max_id).1) view.flat h.room)
+  pub room-view : RoomTo width p (S.front ++ (flatten_clauses C.0 ++ each flatten B.0)) B.1
+  room-view = subst (λ (z : ℕ). RoomTo width p (S.front ++ (flatten_clauses C.0 ++ each flatten B.0)) z) view.max
+      (subst (λ (z : List Record). RoomTo width p z (work_stmt here W n p.max_id).1) view.flat h.room)
 
   pub room_open : RoomAt p
   room_open = room-here room-view (omega (arith, drawn-clauses, drawn-step, drawn-bodies))

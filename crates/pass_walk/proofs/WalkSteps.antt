@@ -18,14 +18,13 @@ use Rattle.image_kinds.specs.contracts.kinds.Kind.{the_type}
 use Rattle.image_kinds.proofs.KindNames.{code-kind}
 use Rattle.image_directory.specs.Slots.{records_in}
 use Rattle.image_directory.specs.declared.Frame.{Frame}
-use Rattle.image_write_directory.specs.Emitting.{Emits}
-use Rattle.image_write_directory.specs.declared.progress.Progress.{Progress}
+use Rattle.image_write_directory.specs.Emitting.{Emits, Progress}
 use Rattle.image_write_directory.proofs.EmitLaws.{emits_none, emits_then, emits_reserved, emits-count}
 use Rattle.image_places_spec.specs.Views.{record_of, clauses_in, binders}
 use Rattle.image_places_spec.specs.Places.{stmt_at, clauses_at, Begins}
 use Rattle.image_places_spec.proofs.Steps.{Above, Below}
 use Rattle.scope_spec.specs.FreeRows.{rows_clauses, rows_bodies}
-use Rattle.image_read_nodes.specs.Nodes.{record_at}
+use Rattle.image_read_parts.specs.Indexed.{record_at}
 use Rattle.image_read_nodes.specs.Nodes.{Followed}
 use Rattle.image_read_nodes.specs.declared.Follows.{Follows}
 use Rattle.image_read_nodes.proofs.StepLaws.{above_at}
@@ -37,16 +36,13 @@ use Rattle.pass_step_spec.specs.Fronts.{front_records, front_bytes}
 use Rattle.pass_step_spec.proofs.WorkViews.{free_in_clauses, free_in_bodies, clauses_done, step_done, bodies_done}
 use Rattle.pass_step_spec.proofs.FrontLaws.{front-records, front-bytes}
 use Rattle.pass_step.specs.Drawn.{drawn_to}
-use Rattle.pass_step.specs.Stepping.{RoomAt, Steps, Opens, OpensAs}
-use Rattle.pass_step.specs.declared.stepped.Stepped.{Stepped}
-use Rattle.pass_step.specs.declared.stepped.Opened.{Opened}
-use Rattle.pass_walk.specs.Walking.{RoomTo, StmtAhead, ClausesAhead, BodiesAhead, LinearizedTo}
-use Rattle.pass_walk.specs.declared.walk.Linearized.{Linearized}
+use Rattle.pass_step.specs.Stepping.{RoomAt, Steps, Opens, OpensAs, Stepped, Opened}
+use Rattle.pass_walk.specs.Walking.{RoomTo, StmtAhead, ClausesAhead, BodiesAhead, LinearizedTo, Linearized}
 use Rattle.pass_walk.proofs.RoomLaws.{emits-at, room-first, room-second}
 use Rattle.pass_walk.proofs.SourceLaws.{params_first_lem}
 use Rattle.pass_walk.proofs.StatementLaws.{is_record, view, fit, drawn-step, drawn-bodies, room-view, say_clauses, say_next, rows-clauses, rows-bodies}
 
-module _ {g : Frame} {s rows : List ℕ} {d i : ℕ} {held : Held} {n : ℕ} {p : Progress} (h : StmtAhead g s rows d i held n p (stmt_at d (records_in g s) i)) where
+module _ {g : Frame} {s rows : List ℕ} {width d i : ℕ} {held : Held} {n : ℕ} {p : Progress} (h : StmtAhead g s rows width d i held n p (stmt_at d (records_in g s) i)) where
   abbrev here : Stmt
   here = stmt_at d (records_in g s) i
 
@@ -68,9 +64,9 @@ module _ {g : Frame} {s rows : List ℕ} {d i : ℕ} {held : Held} {n : ℕ} {p 
   pub record Begun (k : ℕ) (before : Bool) (o : Opened) : Type 0 where
     pub count : k ≡ clauses_of (record_at g s i)
     pub first : before ≡ params_first (record_at g s i)
-    pub opens : Opens g.id (record_at g s i) (free_in_clauses here) (free_in_bodies here) W p o
+    pub opens : Opens width (record_at g s i) (free_in_clauses here) (free_in_bodies here) W p o
 
-  pub begun : {f : Follows} {before : Bool} {o : Opened} → Followed g s i f → before ≡ sameb the_type f.kind Create → OpensAs g.id (record_at g s i) (get_or rows (2 * i) 0) (get_or rows (2 * i + 1) 0) W p o → Begun f.clauses before o
+  pub begun : {f : Follows} {before : Bool} {o : Opened} → Followed g s i f → before ≡ sameb the_type f.kind Create → OpensAs width (record_at g s i) (get_or rows (2 * i) 0) (get_or rows (2 * i + 1) 0) W p o → Begun f.clauses before o
   begun {f = follows} f e o = record {
     count = f.clauses;
     first = e ∙ ap (λ (z : Kind). sameb the_type z Create) (code-kind follows.kind (record_at g s i) (sym f.at.kind)) ∙ params_first_lem (record_at g s i);
@@ -94,9 +90,9 @@ module _ {g : Frame} {s rows : List ℕ} {d i : ℕ} {held : Held} {n : ℕ} {p 
     same-clauses = rw (a.are_clauses, first, in_clauses, x.opens.max_id)
 
     -- behind the place of the step's records
-    behind-at : o.progress.at ≡ p.at + length (each (record_bytes g.id) S.front)
+    behind-at : o.progress.at ≡ p.at + length (each (record_bytes width) S.front)
     behind-at = x.opens.at ∙ ap (λ (z : ℕ). p.at + z)
-        (ap (λ (r : Record). front_bytes g.id r (free_in_clauses here) (free_in_bodies here) W) (is_record h) ∙ sym (front-bytes (record_of here) (free_in_clauses here) (free_in_bodies here) W n C.1 g.id))
+        (ap (λ (r : Record). front_bytes width r (free_in_clauses here) (free_in_bodies here) W) (is_record h) ∙ sym (front-bytes (record_of here) (free_in_clauses here) (free_in_bodies here) W n C.1 width))
 
     behind-count : o.progress.count ≡ p.count + length S.front
     behind-count = x.opens.count ∙ ap (λ (z : ℕ). p.count + z)
@@ -104,13 +100,13 @@ module _ {g : Frame} {s rows : List ℕ} {d i : ℕ} {held : Held} {n : ℕ} {p 
 
     -- room for the step, with the max_id after the clauses
     pub room-drawn : {out out₁ lengths lengths₁ : List ℕ} {z : Linearized} {place : ℕ} {q : Progress}
-        → (let all = work_clauses cs before (work_of o.context) n o.progress.max_id in LinearizedTo g.id out out₁ lengths lengths₁ o.progress z place (flatten_clauses all.0) all.1)
+        → (let all = work_clauses cs before (work_of o.context) n o.progress.max_id in LinearizedTo width out out₁ lengths lengths₁ o.progress z place (flatten_clauses all.0) all.1)
         → q ≡ drawn_to p z.progress.max_id → RoomAt q
     room-drawn {z = z} y e =
         let m : z.progress.max_id ≡ C.1 = y.writes.max_id ∙ ap (λ (v : Clauses × ℕ). v.1) same-clauses in
         subst RoomAt (sym e) (record { at = omega (arith, (room-view h).at); count = omega (arith, (room-view h).count); max_id = omega (arith, m, (room-view h).max_id, drawn-step h, drawn-bodies h) })
 
-    pub clauses-ahead : ClausesAhead g s rows (d - 1) k (i + 1) before o.context n o.progress cs
+    pub clauses-ahead : ClausesAhead g s rows width (d - 1) k (i + 1) before o.context n o.progress cs
     clauses-ahead = record {
       sources = h.sources;
       stand = a.clauses;
@@ -118,7 +114,7 @@ module _ {g : Frame} {s rows : List ℕ} {d i : ℕ} {held : Held} {n : ℕ} {p 
       scope = h.scope;
       rows_are = subst (λ (z : Clauses). Begins rows (2 * (i + 1)) (rows_clauses z h.scope)) (sym a.are_clauses) (rows-clauses h);
       fits = rw (a.are_clauses, first, in_clauses) (fit h).clauses;
-      room = subst (λ (z : Clauses × ℕ). RoomTo g.id o.progress (flatten_clauses z.0) z.1) (sym same-clauses)
+      room = subst (λ (z : Clauses × ℕ). RoomTo width o.progress (flatten_clauses z.0) z.1) (sym same-clauses)
           (room-first (flatten_clauses C.0) (each flatten B.0) (room-second S.front (flatten_clauses C.0 ++ each flatten B.0) (room-view h) behind-at behind-count) (omega (arith, drawn-step h, drawn-bodies h)));
     }
 
@@ -126,7 +122,7 @@ module _ {g : Frame} {s rows : List ℕ} {d i : ℕ} {held : Held} {n : ℕ} {p 
 
   -- the step's records and the clauses are written, up to q, and this is the context for the bodies
   pub record Reached (out out' lengths lengths' : List ℕ) (q : Progress) (st : Stepped) : Type 0 where
-    pub emits : Emits g.id out out' lengths lengths' p q (S.front ++ flatten_clauses C.0)
+    pub emits : Emits width out out' lengths lengths' p q (S.front ++ flatten_clauses C.0)
     pub context : HoldsWork st.context S.context
     pub in_scope_lem : st.in_scope ≡ S.in_scope_lem
     pub max_id : q.max_id ≡ S.max_id
@@ -137,15 +133,15 @@ module _ {g : Frame} {s rows : List ℕ} {d i : ℕ} {held : Held} {n : ℕ} {p 
   next-straight c e = omega (arith, ap (λ (z : Clauses). length (flatten_clauses z)) ((above_at d (records_in g s) i h.stands _ c).are_clauses ∙ e))
 
   pub reached-straight : {out out' lengths lengths' : List ℕ} {st : Stepped} → clauses_in here ≡ end
-      → Steps g.id out out' lengths lengths' p st (step_of (record_at g s i) (free_in_clauses here) (free_in_bodies here) W n p.max_id)
+      → Steps width out out' lengths lengths' p st (step_of (record_at g s i) (free_in_clauses here) (free_in_bodies here) W n p.max_id)
       → Reached out out' lengths lengths' st.progress st
   unfolding work_stmt flatten
   reached-straight {out} {out'} {lengths} {lengths'} {st} e x =
       let none : C ≡ (end, p.max_id) = rw e in
       let same : step_of (record_at g s i) (free_in_clauses here) (free_in_bodies here) W n p.max_id ≡ S = rw (is_record h, none) in
-      let y : Steps g.id out out' lengths lengths' p st S = subst (Steps g.id out out' lengths lengths' p st) same x in
+      let y : Steps width out out' lengths lengths' p st S = subst (Steps width out out' lengths lengths' p st) same x in
       record {
-        emits = subst (Emits g.id out out' lengths lengths' p st.progress) (sym (ap (λ (z : Clauses × ℕ). S.front ++ flatten_clauses z.0) none ∙ append-nil S.front)) y.emits;
+        emits = subst (Emits width out out' lengths lengths' p st.progress) (sym (ap (λ (z : Clauses × ℕ). S.front ++ flatten_clauses z.0) none ∙ append-nil S.front)) y.emits;
         context = y.context;
         in_scope_lem = y.in_scope_lem;
         max_id = y.max_id;
@@ -154,24 +150,24 @@ module _ {g : Frame} {s rows : List ℕ} {d i : ℕ} {held : Held} {n : ℕ} {p 
   -- behind clauses, once they are done
   pub reached-opened : {k : ℕ} {before : Bool} {o : Opened} (x : Begun k before o)
       {out out₁ out₂ lengths lengths₁ lengths₂ : List ℕ} {z : Linearized} {place : ℕ} {q r : Progress} {st : Stepped}
-      → (let cs = work_clauses (clauses_at (d - 1) k (records_in g s) (i + 1)) before (work_of o.context) n o.progress.max_id in LinearizedTo g.id out out₁ lengths lengths₁ o.progress z place (flatten_clauses cs.0) cs.1)
+      → (let cs = work_clauses (clauses_at (d - 1) k (records_in g s) (i + 1)) before (work_of o.context) n o.progress.max_id in LinearizedTo width out out₁ lengths lengths₁ o.progress z place (flatten_clauses cs.0) cs.1)
       → q ≡ drawn_to p z.progress.max_id
-      → Steps g.id out₁ out₂ lengths₁ lengths₂ q st (step_of (record_at g s i) (free_in_clauses here) (free_in_bodies here) W n q.max_id)
+      → Steps width out₁ out₂ lengths₁ lengths₂ q st (step_of (record_at g s i) (free_in_clauses here) (free_in_bodies here) W n q.max_id)
       → r ≡ drawn_to z.progress st.progress.max_id
       → Reached out out₂ lengths lengths₂ r st
   reached-opened {o = o} x {out} {out₁} {out₂} {lengths} {lengths₁} {lengths₂} {z} {place} {q} {r} {st} y e t u =
       let max : z.progress.max_id ≡ C.1 = y.writes.max_id ∙ ap (λ (v : Clauses × ℕ). v.1) (same-clauses x) in
       let same : step_of (record_at g s i) (free_in_clauses here) (free_in_bodies here) W n z.progress.max_id ≡ S = rw (is_record h, max) in
-      let t' : Steps g.id out₁ out₂ lengths₁ lengths₂ (drawn_to p z.progress.max_id) st S =
-      subst (Steps g.id out₁ out₂ lengths₁ lengths₂ (drawn_to p z.progress.max_id) st) same
-      (subst (λ (v : Progress). Steps g.id out₁ out₂ lengths₁ lengths₂ v st (step_of (record_at g s i) (free_in_clauses here) (free_in_bodies here) W n v.max_id)) e t) in
-      let clauses : Emits g.id out out₁ lengths lengths₁ o.progress z.progress (flatten_clauses C.0) =
-      subst (λ (v : Clauses × ℕ). Emits g.id out out₁ lengths lengths₁ o.progress z.progress (flatten_clauses v.0)) (same-clauses x) y.writes.emits in
-      let front : Emits g.id out₁ out₂ lengths₁ lengths₂ p st.progress S.front = record { bytes = t'.emits.bytes; noted = t'.emits.noted } in
-      let both : Emits g.id out out₂ lengths lengths₂ p z.progress (S.front ++ flatten_clauses C.0) = emits_reserved (behind-at x) (behind-count x) clauses front in
-      let drawn : Emits g.id out out₂ lengths lengths₂ p (drawn_to z.progress st.progress.max_id) (S.front ++ flatten_clauses C.0) = record { bytes = both.bytes; noted = both.noted } in
+      let t' : Steps width out₁ out₂ lengths₁ lengths₂ (drawn_to p z.progress.max_id) st S =
+      subst (Steps width out₁ out₂ lengths₁ lengths₂ (drawn_to p z.progress.max_id) st) same
+      (subst (λ (v : Progress). Steps width out₁ out₂ lengths₁ lengths₂ v st (step_of (record_at g s i) (free_in_clauses here) (free_in_bodies here) W n v.max_id)) e t) in
+      let clauses : Emits width out out₁ lengths lengths₁ o.progress z.progress (flatten_clauses C.0) =
+      subst (λ (v : Clauses × ℕ). Emits width out out₁ lengths lengths₁ o.progress z.progress (flatten_clauses v.0)) (same-clauses x) y.writes.emits in
+      let front : Emits width out₁ out₂ lengths₁ lengths₂ p st.progress S.front = record { bytes = t'.emits.bytes; noted = t'.emits.noted } in
+      let both : Emits width out out₂ lengths lengths₂ p z.progress (S.front ++ flatten_clauses C.0) = emits_reserved (behind-at x) (behind-count x) clauses front in
+      let drawn : Emits width out out₂ lengths lengths₂ p (drawn_to z.progress st.progress.max_id) (S.front ++ flatten_clauses C.0) = record { bytes = both.bytes; noted = both.noted } in
       record {
-        emits = subst (λ (v : Progress). Emits g.id out out₂ lengths lengths₂ p v (S.front ++ flatten_clauses C.0)) (sym u) drawn;
+        emits = subst (λ (v : Progress). Emits width out out₂ lengths lengths₂ p v (S.front ++ flatten_clauses C.0)) (sym u) drawn;
         context = t'.context;
         in_scope_lem = t'.in_scope_lem;
         max_id = ap (λ (v : Progress). v.max_id) u ∙ t'.max_id;
@@ -182,7 +178,7 @@ module _ {g : Frame} {s rows : List ℕ} {d i : ℕ} {held : Held} {n : ℕ} {p 
     same-bodies : work_bodies ts (work_of st.context) st.in_scope q.max_id ≡ B
     same-bodies = rw (b.are_bodies, r.context.list, r.in_scope_lem, r.max_id)
 
-    pub bodies-ahead : BodiesAhead g s rows (d - 1) m next st.context st.in_scope q ts
+    pub bodies-ahead : BodiesAhead g s rows width (d - 1) m next st.context st.in_scope q ts
     bodies-ahead = record {
       sources = h.sources;
       stand = b.bodies;
@@ -191,29 +187,29 @@ module _ {g : Frame} {s rows : List ℕ} {d i : ℕ} {held : Held} {n : ℕ} {p 
       rows_are = subst (λ (z : List Stmt). Begins rows (2 * next) (rows_bodies z (h.scope ++ binders (record_of here)))) (sym b.are_bodies)
           (rows-bodies h next (b.clauses_size ∙ ap (λ (z : Clauses). i + 1 + length (flatten_clauses z)) b.are_clauses));
       fits = rw (b.are_bodies, r.context.list, r.in_scope_lem) ((fit h).bodies C.1);
-      room = subst (λ (z : List Stmt × ℕ). RoomTo g.id q (each flatten z.0) z.1) (sym same-bodies)
+      room = subst (λ (z : List Stmt × ℕ). RoomTo width q (each flatten z.0) z.1) (sym same-bodies)
           (room-second (S.front ++ flatten_clauses C.0) (each flatten B.0)
-          (subst (λ (z : List Record). RoomTo g.id p z B.1) (sym (append_assoc S.front (flatten_clauses C.0) (each flatten B.0))) (room-view h))
+          (subst (λ (z : List Record). RoomTo width p z B.1) (sym (append_assoc S.front (flatten_clauses C.0) (each flatten B.0))) (room-view h))
           (emits-at r.emits) (emits-count r.emits));
     }
 
     pub statement-done : {out₂ lengths₂ : List ℕ} {z : Linearized}
-        → (let bs = work_bodies ts (work_of st.context) st.in_scope q.max_id in LinearizedTo g.id out₁ out₂ lengths₁ lengths₂ q z (next + length (each flatten ts)) (each flatten bs.0) bs.1)
-        → LinearizedTo g.id out out₂ lengths lengths₂ p z (i + length (flatten here)) (flatten (work_stmt here W n p.max_id).0) (work_stmt here W n p.max_id).1
+        → (let bs = work_bodies ts (work_of st.context) st.in_scope q.max_id in LinearizedTo width out₁ out₂ lengths₁ lengths₂ q z (next + length (each flatten ts)) (each flatten bs.0) bs.1)
+        → LinearizedTo width out out₂ lengths lengths₂ p z (i + length (flatten here)) (flatten (work_stmt here W n p.max_id).0) (work_stmt here W n p.max_id).1
     statement-done {out₂} {lengths₂} {z} y =
         let all : (S.front ++ flatten_clauses C.0) ++ each flatten (work_bodies ts (work_of st.context) st.in_scope q.max_id).0 ≡ flatten (work_stmt here W n p.max_id).0 =
         ap (λ (v : List Stmt × ℕ). (S.front ++ flatten_clauses C.0) ++ each flatten v.0) same-bodies ∙ append_assoc S.front (flatten_clauses C.0) (each flatten B.0) ∙ sym (view h).flat in
         record {
           next_is = y.next_is ∙ sym b.size;
           writes = record {
-            emits = subst (Emits g.id out out₂ lengths lengths₂ p z.progress) all (emits_then r.emits y.writes.emits);
+            emits = subst (Emits width out out₂ lengths lengths₂ p z.progress) all (emits_then r.emits y.writes.emits);
             max_id = y.writes.max_id ∙ ap (λ (v : List Stmt × ℕ). v.1) same-bodies ∙ sym (view h).max;
           };
         }
 
     -- without bodies
     pub statement-ended : ts ≡ []
-        → LinearizedTo g.id out out₁ lengths lengths₁ p (record { next = next; progress = q }) (i + length (flatten here)) (flatten (work_stmt here W n p.max_id).0) (work_stmt here W n p.max_id).1
+        → LinearizedTo width out out₁ lengths lengths₁ p (record { next = next; progress = q }) (i + length (flatten here)) (flatten (work_stmt here W n p.max_id).0) (work_stmt here W n p.max_id).1
     unfolding work_bodies flatten
-    statement-ended e = statement-done (subst (λ (us : List Stmt). let bs = work_bodies us (work_of st.context) st.in_scope q.max_id in LinearizedTo g.id out₁ out₁ lengths₁ lengths₁ q (record { next = next; progress = q }) (next + length (each flatten us)) (each flatten bs.0) bs.1)
-        (sym e) (record { next_is = omega arith; writes = record { emits = emits_none g.id out₁ lengths₁ q; max_id = refl } }))
+    statement-ended e = statement-done (subst (λ (us : List Stmt). let bs = work_bodies us (work_of st.context) st.in_scope q.max_id in LinearizedTo width out₁ out₁ lengths₁ lengths₁ q (record { next = next; progress = q }) (next + length (each flatten us)) (each flatten bs.0) bs.1)
+        (sym e) (record { next_is = omega arith; writes = record { emits = emits_none width out₁ lengths₁ q; max_id = refl } }))

@@ -1,2 +1,3 @@
 -- What linearization over records needs and does.
 pub mod Walking
+pub mod Outputs

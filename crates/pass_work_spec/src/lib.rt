@@ -12,6 +12,6 @@ pub struct Entry {
     pub source: VarId,
     // The variable's place in scope, from 0.
     pub place: u8,
-    // Whether uses of the variable take the binding's spelling.
+    // Whether uses of the variable take the binding's spelling. A yes or no, and both have the binding.
     pub spelled: bool,
 }

@@ -29,10 +29,10 @@ use Rattle.scope_spec.proofs.RoomLaws.{room-here}
 use Rattle.scope_spec.proofs.FreeViews.{rows-length}
 use Rattle.scope_check.specs.Definitions.{defs_in, DefsStand, Defined}
 use Rattle.scope_check.specs.Deciding.{program_in}
-use Rattle.scope_places.specs.Scoping.{scope_in, scoped_of}
+use Rattle.scope_places.specs.Scoping.{scope_of, scoped_of}
 use Rattle.scope_walk.specs.Walks.{WalkedTo}
 use Rattle.scope_walk.specs.Masks.{Sourced, SourcedDefs, Passed, MaskedTo}
-use Rattle.scope_places.specs.declared.scoping.Entering.{Entering}
+use Rattle.scope_places.specs.declared.scope.InScope.{InScope}
 use Rattle.scope_walk.specs.declared.walk.Walked.{Walked}
 use Rattle.scope_check.proofs.CheckLaws.{answer-room, walk_stand}
 use Rattle.scope_check.proofs.DefLaws.{DefsLeft, DefNext, def_of, def-turn, defs-end}
@@ -92,25 +92,25 @@ pub record WalksDefs (Q : Type 0) (M : ℕ) (whole : Verdict) (stored rows : Lis
   pub masks : Q → MasksDefs stored rows here ds
 
 module _ {rs : List Record} {Q : Type 0} {M : ℕ} {whole : Verdict} {stored rows : List ℕ} {left : ℕ} {here : Walked} where
-  pub def-walked : (n : DefNext 64 rs left here.next (WalksDefs Q M whole stored rows here)) (xs : List ℕ) (e : Entering) (w : Walked) {rows₁ rows₂ : List ℕ}
-      → scoped_of xs e ≡ enter_all M (ids (list_of (head_of (drop here.next rs)))) (record { scope = []; verdict = here.verdict })
-      → WalkedTo w (here.next + 1 + length (flatten (stmt_at 64 rs (here.next + 1)))) (walk_stmt (stmt_at 64 rs (here.next + 1)) M (scope_in e.n xs) e.verdict)
-      → (Sourced (scope_in e.n xs) (stmt_at 64 rs (here.next + 1))
-      → MaskedTo w rows₁ (mask_of (free_vars (stmt_at 64 rs (here.next + 1))) (scope_in e.n xs)) (sets rows (2 * (here.next + 1)) (rows_stmt (stmt_at 64 rs (here.next + 1)) (scope_in e.n xs))))
+  pub def-walked : (n : DefNext 64 rs left here.next (WalksDefs Q M whole stored rows here)) {Δ : List VarId} (bound : InScope) (u : Verdict) (w : Walked) {rows₁ rows₂ : List ℕ}
+      → Δ ≡ [] → scoped_of bound u ≡ enter_all M (ids (list_of (head_of (drop here.next rs)))) (record { scope = Δ; verdict = here.verdict })
+      → WalkedTo w (here.next + 1 + length (flatten (stmt_at 64 rs (here.next + 1)))) (walk_stmt (stmt_at 64 rs (here.next + 1)) M (scope_of bound) u)
+      → (Sourced (scope_of bound) (stmt_at 64 rs (here.next + 1))
+      → MaskedTo w rows₁ (mask_of (free_vars (stmt_at 64 rs (here.next + 1))) (scope_of bound)) (sets rows (2 * (here.next + 1)) (rows_stmt (stmt_at 64 rs (here.next + 1)) (scope_of bound))))
       → rows₂ ≡ sets rows₁ (2 * here.next) (0 ∷ w.free ∷ [])
       → DefsLeft 64 rs (left - 1) w.next (WalksDefs Q M whole stored rows₂ w)
   unfolding walk_defs
-  def-walked n xs e w a b m p =
+  def-walked n bound u w o a b m p =
       let t = stmt_at 64 rs (here.next + 1) in
       let x = def_of n.name n.context t in
-      let z : scoped_of xs e ≡ enter_all M (ids n.context) (record { scope = []; verdict = here.verdict }) =
-      a ∙ ap (λ (l : List Record). enter_all M (ids (list_of (head_of l))) (record { scope = []; verdict = here.verdict })) n.head in
+      let z : scoped_of bound u ≡ enter_all M (ids n.context) (record { scope = []; verdict = here.verdict }) =
+      a ∙ ap₂ (λ (l : List Record) (D : List VarId). enter_all M (ids (list_of (head_of l))) (record { scope = D; verdict = here.verdict })) n.head o in
       def-turn n b.next (record {
         same = n.holds.same ∙ ap (walk_defs n.rest M) (sym (b.verdict ∙ ap (λ (y : Scoped). walk_stmt t M y.scope y.verdict) z));
         masks = λ q.
             let h = n.holds.masks q in
             let s = def_body x n.rest h.sourced in
-            let y : scope_in e.n xs ≡ ids n.context = entered_all M (ids n.context) [] here.verdict z (room-here (ids n.context) t s.room) in
+            let y : scope_of bound ≡ ids n.context = entered_all M (ids n.context) [] here.verdict z (room-here (ids n.context) t s.room) in
             def_masked x n.rest h w y b.next (m (subst (λ (D : List VarId). Sourced D t) (sym y) s)) p;
       })
 

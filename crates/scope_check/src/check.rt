@@ -30,7 +30,7 @@ pub fn within_limits(opened: &Opened<'_>) -> bool
         && all_shallow(opened)
 }
 
-// What the walk's verdict says of questions 7 to 10.
+// What the walk's verdict says of questions 7 to 10, one after the other as the paper asks them. (No chain: each no has a number of its own.)
 fn decide(v: Verdict, max_id: u32) -> Answer
     ensures { result ≡ decided v max_id }
 {
@@ -49,7 +49,7 @@ fn decide(v: Verdict, max_id: u32) -> Answer
     Ok(Accepted { length: 0, max_id })
 }
 
-// Questions 6 to 10 of an image that is opened, with d definitions. If 6, 7 and 8 have a yes, the rows have two masks for each record then. (A
+// Questions 6 to 10 of an image that is opened. If 6, 7 and 8 have a yes, the rows have two masks for each record then. (A
 // mask past the end of the rows is left out.)
 pub fn check_image(opened: &Opened<'_>, rows: &mut [u64]) -> Answer
     requires { Defined opened.now.definitions (records_of opened.now.image) }

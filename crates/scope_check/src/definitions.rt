@@ -11,13 +11,16 @@ ghost use Rattle.image_directory.specs.Images.{records_of};
 use image_directory::Frame;
 use image_kinds::kinds::Kind;
 use image_open::opened::Opened;
+use image_read_parts::record::RecordAt;
 use image_shape::statement as shape_statement;
+use scope_nodes::nodes::enter_list;
 use scope_places::mask::put_row;
+use scope_places::scope::InScope;
 use scope_spec::Verdict;
-use scope_walk::walk::{Walked, enter_head, statement};
+use scope_walk::walk::{Walked, statement};
 use syntax::context::TypingContext;
 
-// Question 7: are the bodies of the d definitions at most 64 statements deep?
+// Question 7: are the bodies of the definitions at most 64 statements deep? (A `for` that returns: each place is the end of the body before.)
 pub fn all_shallow(opened: &Opened<'_>) -> bool
     requires { DefsStand 128 opened.now.definitions (records_of opened.now.image) 0 (defs_in opened.now.definitions (records_of opened.now.image)) }
     ensures { result ≡ leb (depth_defs (defs_in opened.now.definitions (records_of opened.now.image))) 64 }
@@ -32,12 +35,16 @@ pub fn all_shallow(opened: &Opened<'_>) -> bool
     true
 }
 
-// The d definitions, each of depth at most 64. Stores two masks for each record. (A mask past the end of the rows is left out.)
+// The walk of the definitions, each of depth at most 64. Stores two masks for each record. (A mask past the end of the rows is left out.)
 pub fn walk_definitions(opened: &Opened<'_>, rows: &mut [u64]) -> Verdict
     requires { DefsStand 64 opened.now.definitions (records_of opened.now.image) 0 (defs_in opened.now.definitions (records_of opened.now.image)) }
     ensures { (result ≡ walk_defs (defs_in opened.now.definitions (records_of opened.now.image)) opened.now.max_id clean) × (SourcedDefs (defs_in opened.now.definitions (records_of opened.now.image)) → rows.new ≡ sets rows.old 0 (rows_defs (defs_in opened.now.definitions (records_of opened.now.image)))) }
 {
-    let mut scope = [0u32; TypingContext::MAX];
+    let mut ids = [0u32; TypingContext::MAX];
+    let mut scope = InScope {
+        ids: &mut ids,
+        n: 0,
+    };
     let mut here = Walked {
         next: 0,
         verdict: Verdict {
@@ -49,24 +56,21 @@ pub fn walk_definitions(opened: &Opened<'_>, rows: &mut [u64]) -> Verdict
         free: 0,
     };
     for _ in 0..opened.definitions {
-        let e = enter_head(
-            &opened.image,
-            Kind::Definition,
-            here,
-            &mut scope,
-            0,
-            opened.max_id,
-        );
+        let node = RecordAt {
+            image: opened.image,
+            index: here.next,
+            kind: Kind::Definition,
+        };
+        let bound = enter_list(&node, &mut scope, here.verdict, opened.max_id);
         let b = statement(
-            &opened.image,
+            opened,
             Frame::MAX_SOURCE_DEPTH,
             here.next + 1,
             &mut scope,
-            e.n,
-            opened.max_id,
-            e.verdict,
+            bound,
             rows,
         );
+        scope.n = 0;
         put_row(rows, here.next, 0, b.free);
         here = b;
     }

@@ -1,4 +1,4 @@
-// What the record at an index uses and binds.
+// What a record uses and binds.
 #![tactic(auto)]
 
 pub mod nodes;

@@ -1,7 +1,7 @@
 -- Scopes in a lent array, a place at a time; what stays of them; and what the walk finds at a binder, as the code holds it. (At a use:
 -- UseLaws.antt.) With room, the scope takes all that is bound (`entered_all`). Assumes nothing.
 use Prim.Native.Nat.{ℕ, zero, suc, ◌+◌, ◌≤◌, ◌<◌}
-use mathlib.Core.Path.{◌≡◌, refl, sym, ap, ap₂, ◌∙◌, subst}
+use mathlib.Core.Path.{◌≡◌, refl, sym, ap, ap₂, ◌∙◌}
 use mathlib.Core.Bool.{Bool, not, ◌&&◌, ◌||◌}
 use mathlib.Core.List.{List, [], ◌∷◌, ◌++◌, map, map-append, append-nil, append_assoc}
 use native.Mathlib.Omega.{arith}
@@ -16,8 +16,9 @@ use Rattle.syntax.specs.declared.names.VarId.{VarId}
 use Rattle.syntax.proofs.Lists.{take-stored}
 use Rattle.scope_spec.specs.declared.Verdict.{Verdict}
 use Rattle.scope_spec.specs.Walk.{Scoped, judged, full, enter_one_lem, enter_all}
-use Rattle.scope_places.specs.Scoping.{id_of, scope_in, ScopeAt, Kept, scoped_of, Entered}
-use Rattle.scope_places.specs.declared.scoping.Entering.{Entering}
+use Rattle.scope_places.specs.Places.{id_of, scope_in, ScopeAt, Kept}
+use Rattle.scope_places.specs.Scoping.{scope_of, scoped_of, Entered}
+use Rattle.scope_places.specs.declared.scope.InScope.{InScope}
 
 -- ── a scope in a lent array ──
 
@@ -49,38 +50,35 @@ kept_then {n} {m} {xs} {ys} {zs} h a b = record {
   first = sym (take-take n m zs h) ∙ (ap (take n) b.first ∙ (take-take n m ys h ∙ a.first));
 }
 
-pub kept-scope : {n : ℕ} {xs ys : List ℕ} → Kept n xs ys → ScopeAt xs n → ScopeAt ys n
-kept-scope k s = record { small = s.small; room = omega (arith, s.room, k.long) }
-
 pub kept-ids : {n : ℕ} {xs ys : List ℕ} → Kept n xs ys → scope_in n ys ≡ scope_in n xs
 kept-ids k = ap (map id_of) k.first
 
 -- ── a binder ──
 
-pub entered-same : (M : ℕ) (s : Scoped) {xs ys : List VarId} {n : ℕ} {before after : List ℕ} {e : Entering} → ys ≡ xs
-    → Entered n before after e (enter_all M xs s) → Entered n before after e (enter_all M ys s)
-entered-same M s {xs} {ys} {n} {before} {after} {e} q h = subst (λ (zs : List VarId). Entered n before after e (enter_all M zs s)) (sym q) h
+-- one binder after others
+pub entered_then : {s t u : InScope} {v w : Verdict} {x y : Scoped} → Entered s t v x → Entered t u w y → Entered s u w y
+entered_then h k = record { is = k.is; kept = kept_then h.more h.kept k.kept; more = omega (arith, h.more, k.more); same = k.same ∙ h.same }
 
-pub entered-room : (M : ℕ) (x : VarId) (xs : List ℕ) (e : Entering) {b l : Bool} → ScopeAt xs e.n → e.n < 64
-    → b ≡ (e.verdict.binders && not (elem x (scope_in e.n xs))) → l ≡ (e.verdict.ids && leb x.0 M)
-    → Entered e.n xs (set xs e.n x.0) (record { n = e.n + 1; verdict = record { room = e.verdict.room; binders = b; uses = e.verdict.uses; ids = l } })
-    (enter_one_lem M x (scoped_of xs e))
-entered-room M x xs e s h p q =
-    let k : length (scope_in e.n xs) < 64 = omega (arith, scope-count s) in
-    let z : scope_in (e.n + 1) (set xs e.n x.0) ≡ scope_in e.n xs ++ (x ∷ []) =
-    ap (map id_of) (take-stored xs e.n x.0 (omega (arith, s.room))) ∙ map-append id_of (take e.n xs) (x.0 ∷ []) in
+pub entered-room : (M : ℕ) (x : VarId) (s s' : InScope) (v : Verdict) {b l : Bool} → s.n < 64
+    → s'.n ≡ s.n + 1 → s'.ids.now ≡ set s.ids.now s.n x.0 → s'.ids.ghost_name ≡ s.ids.ghost_name
+    → b ≡ (v.binders && not (elem x (scope_of s))) → l ≡ (v.ids && leb x.0 M)
+    → Entered s s' (record { room = v.room; binders = b; uses = v.uses; ids = l }) (enter_one_lem M x (scoped_of s v))
+entered-room M x s s' v {b} {l} h j o g p q =
+    let xs = s.ids.now in
+    let k : length (scope_of s) < 64 = omega (arith, scope-count s.fits) in
+    let z : scope_of s' ≡ scope_of s ++ (x ∷ []) =
+    ap₂ scope_in j o ∙ (ap (map id_of) (take-stored xs s.n x.0 (omega (arith, s.fits.room))) ∙ map-append id_of (take s.n xs) (x.0 ∷ [])) in
     record {
-      is = rw (lt-ltb _ _ k) (λ j. record { scope = z j; verdict = record { room = e.verdict.room; binders = p j; uses = e.verdict.uses; ids = q j } });
-      scope = record { small = omega arith; room = omega (arith, s.room, length-set xs e.n x.0) };
-      kept = record { long = length-set xs e.n x.0; first = take-set-le e.n xs e.n x.0 (omega arith) };
-      more = omega arith;
+      is = rw (lt-ltb _ _ k) (λ i. record { scope = z i; verdict = record { room = v.room; binders = p i; uses = v.uses; ids = q i } });
+      kept = rw o (record { long = length-set xs s.n x.0; first = take-set-le s.n xs s.n x.0 (omega arith) });
+      more = omega (arith, j);
+      same = g;
     }
 
-pub entered-full : (M : ℕ) (x : VarId) (xs : List ℕ) (e : Entering) → ScopeAt xs e.n → 64 ≤ e.n
-    → Entered e.n xs xs (record { n = e.n; verdict = full e.verdict }) (enter_one_lem M x (scoped_of xs e))
-entered-full M x xs e s h =
-    let k : 64 ≤ length (scope_in e.n xs) = omega (arith, scope-count s) in
-    record { is = rw (le-ltb _ _ k) refl; scope = s; kept = kept-all e.n xs; more = omega arith }
+pub entered-full : (M : ℕ) (x : VarId) (s : InScope) (v : Verdict) → 64 ≤ s.n → Entered s s (full v) (enter_one_lem M x (scoped_of s v))
+entered-full M x s v h =
+    let k : 64 ≤ length (scope_of s) = omega (arith, scope-count s.fits) in
+    record { is = rw (le-ltb _ _ k) refl; kept = kept-all s.n s.ids.now; more = omega arith; same = refl }
 
 enter_one : (M : ℕ) (x : VarId) (Δ : List VarId) (v : Verdict) → length Δ < 64
     → enter_one_lem M x (record { scope = Δ; verdict = v }) ≡ record { scope = Δ ++ (x ∷ []); verdict = judged M Δ x v }

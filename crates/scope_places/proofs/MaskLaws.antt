@@ -12,7 +12,7 @@ use Rattle.std.specs.Int.{from_bool}
 use Rattle.syntax.specs.declared.names.VarId.{VarId}
 use Rattle.scope_spec.specs.FreeRows.{bit, mask_of}
 use Rattle.scope_spec.proofs.RowLaws.{mask_lt}
-use Rattle.scope_places.specs.Scoping.{id_of, scope_in, ScopeAt}
+use Rattle.scope_places.specs.Places.{id_of, scope_in, ScopeAt}
 use Rattle.scope_places.proofs.EnterLaws.{scope-count, scope-from}
 
 -- the bit of place n

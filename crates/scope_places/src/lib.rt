@@ -2,4 +2,5 @@
 #![tactic(auto)]
 
 pub mod mask;
+pub mod scope;
 pub mod scoping;

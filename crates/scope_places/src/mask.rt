@@ -3,19 +3,19 @@ ghost use Rattle.std.specs.Prelude.{◌≡◌, ◌∷◌, [], ◌+◌, ◌*◌, 
 ghost use Rattle.std.specs.Int.Bits.{bit_or};
 ghost use Rattle.std.proofs.lemmas.List.Edits.{sets};
 ghost use Rattle.scope_spec.specs.FreeRows.{mask_of};
-ghost use Rattle.scope_places.specs.Scoping.{scope_in, ScopeAt};
+ghost use Rattle.scope_places.specs.Scoping.{scope_of};
 
+use crate::scope::InScope;
 use syntax::context::TypingContext;
 use syntax::names::VarId;
 
-// The places at which an ID stands among the n in scope.
-pub fn mask_one(scope: &[u32], n: usize, id: VarId) -> u64
-    requires { ScopeAt scope.now n }
-    ensures { result ≡ mask_of (id ∷ []) (scope_in n scope.now) }
+// The places in scope at which an ID stands.
+pub fn mask_one(scope: &InScope<'_>, id: VarId) -> u64
+    ensures { result ≡ mask_of (id ∷ []) (scope_of scope.now) }
 {
     let mut mask = 0;
-    for i in (0..n).rev() {
-        mask = 2 * mask + u64::from(scope[i] == id.0);
+    for i in (0..scope.n).rev() {
+        mask = 2 * mask + u64::from(scope.ids[i] == id.0);
     }
     mask
 }

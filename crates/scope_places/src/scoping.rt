@@ -1,11 +1,11 @@
-// Scopes, and what the walk finds at a use and at a binder (questions 8, 9, 10, and the room of question 7).
-// A scope is the first n numbers of a lent array.
+// What the walk finds at a use and at a binder (questions 8, 9, 10, and the room of question 7).
 ghost use Rattle.std.specs.Prelude.{◌≡◌, ◌∷◌, []};
 ghost use Rattle.syntax.specs.Sets.{elem};
 ghost use Rattle.scope_spec.specs.Walk.{enter_one_lem};
-ghost use Rattle.scope_places.specs.Scoping.{scope_in, ScopeAt, used_all_lem, scoped_of, Entered};
+ghost use Rattle.scope_places.specs.Scoping.{scope_of, used_all_lem, scoped_of, Entered};
 
 use crate::mask::mask_one;
+use crate::scope::InScope;
 use scope_spec::Verdict;
 use syntax::context::TypingContext;
 use syntax::names::VarId;
@@ -17,27 +17,18 @@ pub struct Using {
     pub verdict: Verdict,
 }
 
-// How many are in scope, and the verdict with which the scope was reached.
-#[derive(Clone, Copy)]
-pub struct Entering {
-    pub n: usize,
-    pub verdict: Verdict,
-}
-
 // Is the ID in scope?
-fn contains(scope: &[u32], n: usize, id: VarId) -> bool
-    requires { ScopeAt scope.now n }
-    ensures { result ≡ elem id (scope_in n scope.now) }
+fn contains(scope: &InScope<'_>, id: VarId) -> bool
+    ensures { result ≡ elem id (scope_of scope.now) }
 {
-    scope[..n].contains(&id.0)
+    scope.ids[..scope.n].contains(&id.0)
 }
 
 // A variable is used.
-pub fn use_one(scope: &[u32], n: usize, id: VarId, u: Using) -> Using
-    requires { ScopeAt scope.now n }
-    ensures { result ≡ used_all_lem (scope_in n scope.now) (id ∷ []) u }
+pub fn use_one(scope: &InScope<'_>, id: VarId, u: Using) -> Using
+    ensures { result ≡ used_all_lem (scope_of scope.now) (id ∷ []) u }
 {
-    let one = mask_one(scope, n, id);
+    let one = mask_one(scope, id);
     let uses = u.verdict.uses && one != 0;
     Using {
         mask: u.mask | one,
@@ -45,30 +36,24 @@ pub fn use_one(scope: &[u32], n: usize, id: VarId, u: Using) -> Using
     }
 }
 
-// A binder's ID comes into a scope that has room for it.
-pub fn enter_one(scope: &mut [u32], e: Entering, id: VarId, max_id: u32) -> Entering
-    requires { ScopeAt scope.old e.n }
-    ensures { Entered e.n scope.old scope.new result (enter_one_lem max_id id (scoped_of scope.old e)) }
+// A binder's ID comes into a scope that has room for it. The verdict is the one with which the scope was reached.
+pub fn enter_one(scope: &mut InScope<'_>, verdict: Verdict, id: VarId, max_id: u32) -> Verdict
+    ensures { Entered scope.old scope.new result (enter_one_lem max_id id (scoped_of scope.old verdict)) }
 {
-    let Entering { n, verdict } = e;
+    let n = scope.n;
     if n < TypingContext::MAX {
-        let binders = verdict.binders && !contains(scope, n, id);
+        let binders = verdict.binders && !contains(scope, id);
         let ids = verdict.ids && id.0 <= max_id;
-        scope[n] = id.0;
-        return Entering {
-            n: n + 1,
-            verdict: Verdict {
-                binders,
-                ids,
-                ..verdict
-            },
+        scope.ids[n] = id.0;
+        scope.n = n + 1;
+        return Verdict {
+            binders,
+            ids,
+            ..verdict
         };
     }
-    Entering {
-        n,
-        verdict: Verdict {
-            room: false,
-            ..verdict
-        },
+    Verdict {
+        room: false,
+        ..verdict
     }
 }

@@ -1,16 +1,18 @@
 // The questions that are asked of each record alone: question 6, and the counts of question 7.
-ghost use Rattle.std.specs.Prelude.{◌≡◌, ◌&&◌, ◌<◌, leb};
+ghost use Rattle.std.specs.Prelude.{◌≡◌, ◌&&◌, leb};
 ghost use Rattle.image_spec.specs.Kinds.{clauses_of};
 ghost use Rattle.scope_spec.specs.Flat.{all_records_lem, plain_record_lem, small_record_lem};
 ghost use Rattle.scope_records.specs.Environments.{small_environment_lem};
 ghost use Rattle.scope_records.specs.Tests.{test_of};
 ghost use Rattle.image_directory.specs.Images.{records_of};
-ghost use Rattle.image_read_nodes.specs.Opened.{record_of, IsAt};
+ghost use Rattle.image_read_parts.specs.Recorded.{record_in};
+ghost use Rattle.image_kinds.specs.declared.kinds.Kind.TheVariants.{Create};
 
 use image_directory::Frame;
 use image_directory::image::Image;
 use image_kinds::kinds::Kind;
 use image_read_parts::byte;
+use image_read_parts::record::RecordAt;
 use image_shape::look;
 
 // What is asked of each record alone.
@@ -22,65 +24,75 @@ pub enum Alone {
     Small,
 }
 
-// Question 6 of the record at index i.
-fn plain_record(image: &Image<'_>, i: usize) -> bool
-    requires { i < image.now.frame.count }
-    ensures { result ≡ plain_record_lem (record_of image.now i) }
+// Question 6 of a record.
+fn plain_record(node: &RecordAt<'_>) -> bool
+    ensures { result ≡ plain_record_lem (record_in node.now) }
 {
-    match look(image, i).unwrap().kind {
+    match node.kind {
         Kind::Substitute => false,
-        Kind::Create => byte(image, i, Kind::Create.fixed(image.frame.id)) == 0,
+        Kind::Create => byte(
+            &node.image,
+            node.index,
+            Kind::Create.fixed(node.image.frame.id),
+        ) == 0,
         _ => true,
     }
 }
 
-// Has the environment of the Create at index i few bindings, if there is one?
-fn small_environment(image: &Image<'_>, i: usize) -> bool
-    requires { IsAt image.now i 6 }
-    ensures { result ≡ small_environment_lem (record_of image.now i) }
+// Has the environment of a Create few bindings, if there is one?
+fn small_environment(node: &RecordAt<'_>) -> bool
+    requires { node.now.kind ≡ Create }
+    ensures { result ≡ small_environment_lem (record_in node.now) }
 {
-    let mark = Kind::Create.fixed(image.frame.id);
-    byte(image, i, mark) == 0 || byte(image, i, mark + 1) <= Frame::MAX_SOURCE_COUNT
+    let mark = Kind::Create.fixed(node.image.frame.id);
+    byte(&node.image, node.index, mark) == 0
+        || byte(&node.image, node.index, mark + 1) <= Frame::MAX_SOURCE_COUNT
 }
 
-// The counts in the Create at index i.
-fn small_create(image: &Image<'_>, i: usize) -> bool
-    requires { IsAt image.now i 6 }
-    ensures { result ≡ (small_environment_lem (record_of image.now i) && leb (clauses_of (record_of image.now i)) 32) }
+// The counts in a Create.
+fn small_create(node: &RecordAt<'_>) -> bool
+    requires { node.now.kind ≡ Create }
+    ensures { result ≡ (small_environment_lem (record_in node.now) && leb (clauses_of (record_in node.now)) 32) }
 {
-    let node = look(image, i).unwrap();
-    small_environment(image, i) && node.clauses <= Frame::MAX_SOURCE_COUNT
+    let clauses = look(&node.image, node.index).unwrap().clauses;
+    small_environment(node) && clauses <= Frame::MAX_SOURCE_COUNT
 }
 
-// The counts in the record at index i (question 7).
-fn small_record(image: &Image<'_>, i: usize) -> bool
-    requires { i < image.now.frame.count }
-    ensures { result ≡ small_record_lem (record_of image.now i) }
+// The counts in a record (question 7).
+fn small_record(node: &RecordAt<'_>) -> bool
+    ensures { result ≡ small_record_lem (record_in node.now) }
 {
-    match look(image, i).unwrap().kind {
+    match node.kind {
         Kind::Literal | Kind::Op | Kind::IfC | Kind::Print | Kind::Exit => true,
-        Kind::Create => small_create(image, i),
-        kind => byte(image, i, kind.fixed(image.frame.id)) <= Frame::MAX_SOURCE_COUNT,
+        Kind::Create => small_create(node),
+        kind => byte(&node.image, node.index, kind.fixed(node.image.frame.id))
+            <= Frame::MAX_SOURCE_COUNT,
     }
 }
 
-// Does the record at index i pass?
-fn passes(image: &Image<'_>, i: usize, question: Alone) -> bool
-    requires { i < image.now.frame.count }
-    ensures { result ≡ test_of question (record_of image.now i) }
+// Does a record pass?
+fn passes(node: &RecordAt<'_>, question: Alone) -> bool
+    ensures { result ≡ test_of question (record_in node.now) }
 {
     match question {
-        Alone::Plain => plain_record(image, i),
-        Alone::Small => small_record(image, i),
+        Alone::Plain => plain_record(node),
+        Alone::Small => small_record(node),
     }
 }
 
 // Does every record of the image pass?
+// (A `for` that returns, and no chain with `all`: its closure would need a contract that each index is below the bound.)
 pub fn all_records(image: &Image<'_>, question: Alone) -> bool
     ensures { result ≡ all_records_lem (test_of question) (records_of image.now) }
 {
     for i in 0..image.frame.count {
-        if !passes(image, i, question) {
+        let kind = look(image, i).unwrap().kind;
+        let node = RecordAt {
+            image: *image,
+            index: i,
+            kind,
+        };
+        if !passes(&node, question) {
             return false;
         }
     }

@@ -4,6 +4,7 @@
 // What the walk over the statements has found so far: yes, for each thing that it looks at.
 #[derive(Clone, Copy)]
 pub struct Verdict {
+    // Each is the answer to a question, not a mark of a value that is there or not.
     // No scope has more than 64 bindings (a part of question 7).
     pub room: bool,
     // Questions 8, 9 and 10.

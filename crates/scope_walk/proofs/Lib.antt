@@ -1,4 +1,5 @@
 -- Laws of the walk.
+pub mod ScopeLaws
 pub mod SourceLaws
 pub mod WalkSteps
 pub mod WalkViews

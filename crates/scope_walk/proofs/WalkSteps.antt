@@ -22,10 +22,10 @@ use Rattle.scope_spec.specs.declared.Verdict.{Verdict}
 use Rattle.scope_spec.specs.Walk.{Scoped, use_all, enter_all, walk_stmt, walk_clauses, walk_bodies}
 use Rattle.scope_spec.specs.FreeRows.{mask_of, rows_stmt}
 use Rattle.scope_spec.proofs.RoomLaws.{room-here}
-use Rattle.scope_places.specs.Scoping.{scope_in, scoped_of}
+use Rattle.scope_places.specs.Scoping.{scope_of, scoped_of}
 use Rattle.scope_walk.specs.Walks.{WalkedTo}
 use Rattle.scope_walk.specs.Masks.{Sourced, MaskedTo}
-use Rattle.scope_places.specs.declared.scoping.Entering.{Entering}
+use Rattle.scope_places.specs.declared.scope.InScope.{InScope}
 use Rattle.scope_walk.specs.declared.walk.Walked.{Walked}
 use Rattle.scope_places.proofs.EnterLaws.{entered_all}
 use Rattle.scope_walk.proofs.SourceLaws.{clause-body}
@@ -36,21 +36,21 @@ use Rattle.scope_walk.proofs.MaskSteps.{binders-fit, MasksClauses, clause_masked
 
 -- a statement whose parts were walked
 pub walked : {d : ℕ} {rs : List Record} {i n m next : ℕ} {t : Stmt} {r : Record} {cs : Clauses} {ts : List Stmt} → Below d rs i n m next t r cs ts
-    → (M : ℕ) (Δ : List VarId) (v : Verdict) {used c : Verdict} {Δ' : List VarId} (xs : List ℕ) (e : Entering) {w x : Walked}
-    → used ≡ use_all Δ (uses_of r) v → c ≡ walk_clauses cs M Δ used → Δ' ≡ Δ → scoped_of xs e ≡ enter_all M (binders r) (record { scope = Δ'; verdict = c })
-    → WalkedTo w (next + length (each flatten ts)) (walk_bodies ts M (scope_in e.n xs) e.verdict)
+    → (M : ℕ) (Δ : List VarId) (v : Verdict) {used c : Verdict} {Δ' : List VarId} (bound : InScope) (u : Verdict) {w x : Walked}
+    → used ≡ use_all Δ (uses_of r) v → c ≡ walk_clauses cs M Δ used → Δ' ≡ Δ → scoped_of bound u ≡ enter_all M (binders r) (record { scope = Δ'; verdict = c })
+    → WalkedTo w (next + length (each flatten ts)) (walk_bodies ts M (scope_of bound) u)
     → x.next ≡ w.next → x.verdict ≡ w.verdict → WalkedTo x (i + length (flatten t)) (walk_stmt t M Δ v)
-walked {t = t} {r = r} {cs = cs} {ts = ts} b M Δ v {used} {c} {Δ'} xs e p q o a y f g =
+walked {t = t} {r = r} {cs = cs} {ts = ts} b M Δ v {used} {c} {Δ'} bound u p q o a y f g =
     let k : c ≡ walk_clauses cs M Δ (use_all Δ (uses_of r) v) = q ∙ ap (walk_clauses cs M Δ) p in
-    let z : scoped_of xs e ≡ after_clauses r cs M Δ v = a ∙ (λ j. enter_all M (binders r) (record { scope = o j; verdict = k j })) in
+    let z : scoped_of bound u ≡ after_clauses r cs M Δ v = a ∙ (λ j. enter_all M (binders r) (record { scope = o j; verdict = k j })) in
     let l : walk_stmt t M Δ v ≡ walk_bodies ts M (after_clauses r cs M Δ v).scope (after_clauses r cs M Δ v).verdict =
     by-view b (λ r cs ts. walk_stmt t M Δ v ≡ walk_bodies ts M (after_clauses r cs M Δ v).scope (after_clauses r cs M Δ v).verdict) (walk_view t M Δ v) in
     record { next = f ∙ (y.next ∙ sym b.size); verdict = g ∙ (y.verdict ∙ (ap (λ (a : Scoped). walk_bodies ts M a.scope a.verdict) z ∙ sym l)) }
 
 -- .. and with room the scope of its bodies has all that it binds
 pub bound-here : {d : ℕ} {rs : List Record} {i n m next : ℕ} {t : Stmt} {r : Record} {cs : Clauses} {ts : List Stmt} → Below d rs i n m next t r cs ts → (Δ : List VarId) → Sourced Δ t
-    → (M : ℕ) (v : Verdict) {Δ' : List VarId} (xs : List ℕ) (e : Entering) → Δ' ≡ Δ → scoped_of xs e ≡ enter_all M (binders r) (record { scope = Δ'; verdict = v }) → scope_in e.n xs ≡ Δ ++ binders r
-bound-here {r = r} b Δ q M v xs e o a = entered_all M (binders r) Δ v (a ∙ ap (λ (D : List VarId). enter_all M (binders r) (record { scope = D; verdict = v })) o) (binders-fit b Δ q)
+    → (M : ℕ) (v : Verdict) {Δ' : List VarId} (bound : InScope) (u : Verdict) → Δ' ≡ Δ → scoped_of bound u ≡ enter_all M (binders r) (record { scope = Δ'; verdict = v }) → scope_of bound ≡ Δ ++ binders r
+bound-here {r = r} b Δ q M v bound u o a = entered_all M (binders r) Δ v (a ∙ ap (λ (D : List VarId). enter_all M (binders r) (record { scope = D; verdict = v })) o) (binders-fit b Δ q)
 
 -- ── what is left of clauses ──
 
@@ -65,24 +65,24 @@ pub record WalksClauses (Q : Type 0) (M : ℕ) (Δ : List VarId) (whole : Verdic
 
 module _ {d : ℕ} {rs : List Record} {Q : Type 0} {M : ℕ} {Δ : List VarId} {place : ℕ} {whole : Verdict} {free : ℕ} {stored rows : List ℕ} {left : ℕ} {here : Walked} where
   -- a clause whose body was walked, and whose row is stored
-  pub clause-walked : (n : ClauseNext d rs place left here.next (WalksClauses Q M Δ whole free stored rows here)) {Δ' : List VarId} (xs : List ℕ) (e : Entering) (w : Walked)
-      {rows₁ rows₂ : List ℕ} {len : ℕ} {after : Walked} → Δ' ≡ Δ → scoped_of xs e ≡ enter_all M (ids (list_of (head_of (drop here.next rs)))) (record { scope = Δ'; verdict = here.verdict })
-      → WalkedTo w (here.next + 1 + length (flatten (stmt_at d rs (here.next + 1)))) (walk_stmt (stmt_at d rs (here.next + 1)) M (scope_in e.n xs) e.verdict)
-      → (Sourced (scope_in e.n xs) (stmt_at d rs (here.next + 1))
-      → MaskedTo w rows₁ (mask_of (free_vars (stmt_at d rs (here.next + 1))) (scope_in e.n xs)) (sets rows (2 * (here.next + 1)) (rows_stmt (stmt_at d rs (here.next + 1)) (scope_in e.n xs))))
+  pub clause-walked : (n : ClauseNext d rs place left here.next (WalksClauses Q M Δ whole free stored rows here)) {Δ' : List VarId} (bound : InScope) (u : Verdict) (w : Walked)
+      {rows₁ rows₂ : List ℕ} {len : ℕ} {after : Walked} → Δ' ≡ Δ → scoped_of bound u ≡ enter_all M (ids (list_of (head_of (drop here.next rs)))) (record { scope = Δ'; verdict = here.verdict })
+      → WalkedTo w (here.next + 1 + length (flatten (stmt_at d rs (here.next + 1)))) (walk_stmt (stmt_at d rs (here.next + 1)) M (scope_of bound) u)
+      → (Sourced (scope_of bound) (stmt_at d rs (here.next + 1))
+      → MaskedTo w rows₁ (mask_of (free_vars (stmt_at d rs (here.next + 1))) (scope_of bound)) (sets rows (2 * (here.next + 1)) (rows_stmt (stmt_at d rs (here.next + 1)) (scope_of bound))))
       → len ≡ length Δ → rows₂ ≡ sets rows₁ (2 * here.next) (0 ∷ w.free ∷ []) → after.free ≡ bit_or here.free (w.free % 2 ^ len) → after.next ≡ w.next → after.verdict ≡ w.verdict
       → ClausesLeft d rs place (left - 1) after.next (WalksClauses Q M Δ whole free stored rows₂ after)
   unfolding walk_stmt
-  clause-walked n xs e w o a b m l p f k g =
+  clause-walked n bound u w o a b m l p f k g =
       let t = stmt_at d rs (here.next + 1) in
-      let z : scoped_of xs e ≡ enter_all M (ids n.context) (record { scope = Δ; verdict = here.verdict }) =
+      let z : scoped_of bound u ≡ enter_all M (ids n.context) (record { scope = Δ; verdict = here.verdict }) =
       a ∙ (λ j. enter_all M (ids (list_of (head_of (n.head j)))) (record { scope = o j; verdict = here.verdict })) in
       clause-turn n (k ∙ b.next) (record {
         same = n.holds.same ∙ ap (walk_clauses n.rest M Δ) (sym (g ∙ (b.verdict ∙ ap (λ (y : Scoped). walk_stmt t M y.scope y.verdict) z)));
         masks = λ q.
             let h = n.holds.masks q in
             let s = clause-body n.name n.context t n.rest h.sourced in
-            let y : scope_in e.n xs ≡ Δ ++ ids n.context = entered_all M (ids n.context) Δ here.verdict z (room-here (Δ ++ ids n.context) t s.room) in
+            let y : scope_of bound ≡ Δ ++ ids n.context = entered_all M (ids n.context) Δ here.verdict z (room-here (Δ ++ ids n.context) t s.room) in
             clause_masked n.name n.context t n.rest h w l y b.next (m (subst (λ (D : List VarId). Sourced D t) (sym y) s)) p f k;
       })
 

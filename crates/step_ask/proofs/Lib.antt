@@ -1,3 +1,2 @@
 -- The laws of a stepper's questions.
-pub mod KindLaws
 pub mod AskLaws

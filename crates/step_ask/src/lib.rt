@@ -10,6 +10,7 @@ use image_spec::{Layout, Refusal};
 use scope_check::check::check_image;
 use step_spec::MachineKind;
 
+// `image`, `layout` and `machine`: bytes of which nothing is known yet, how to read them, and the machine; `open` takes no machine.
 pub fn ask(image: &[u8], layout: Layout, machine: MachineKind) -> Result<Opened<'_>, Refusal>
     requires { Known layout }
     ensures { Asks layout machine image.now result }

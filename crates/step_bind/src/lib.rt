@@ -23,6 +23,7 @@ fn moving(machine: MachineKind, entries: usize) -> usize
     }
 }
 
+// `scratch` and `kind`: bytes that rules are lent, and the kind that the event shows.
 pub fn bind(
     machine: MachineKind,
     work: &mut Work<'_, '_>,

@@ -17,6 +17,7 @@ use step_header::state::State;
 use step_open::open_store;
 use step_order::list::entries_row;
 use step_order::stops;
+use step_order::sure::SureState;
 use step_places::ends::fill_ends;
 use step_places::stepper::Stepper;
 use step_rows::distinct;
@@ -33,7 +34,11 @@ fn is_forged(stepper: &Stepper<'_>, state: &State<'_>) -> bool
     if header.ended || header.stopped || stepper.machine == MachineKind::Source {
         return false;
     }
-    stops(stepper, state, false)
+    let known = SureState {
+        state: *state,
+        sure: false,
+    };
+    stops(stepper, &known)
 }
 
 // Are the IDs of the linear machine's list distinct? It is asked once a call: steps keep them so.
@@ -59,6 +64,7 @@ fn answer(ran: Ran) -> Result<Shown, Failure>
     Ok(shown)
 }
 
+// `steps`, `store` and `events`: as the caller of the C interface lends them; where there is a header, the buffers become a `Work`.
 // At most so many steps on an image whose questions were answered with yes.
 fn step_on(
     opened: &Opened<'_>,

@@ -21,7 +21,7 @@ use Rattle.image_directory.specs.Slots.{Ready}
 use Rattle.image_directory.specs.declared.Frame.{Frame}
 use Rattle.image_directory.proofs.Places.{records-length}
 use Rattle.image_read_parts.specs.Standing.{head_of}
-use Rattle.image_read_nodes.specs.Nodes.{record_at, At}
+use Rattle.image_read_parts.specs.Indexed.{record_at, At}
 use Rattle.step_spec.specs.Located.{Machine, made, Located, records_in, stmt_in}
 use Rattle.step_spec.specs.Store.{first_record, is_a_create, create_at}
 use Rattle.step_spec.proofs.Lists.{all-at}

@@ -1,8 +1,7 @@
 // The cell that a value refers to, in the slots of a store's cells: what Switch and Invoke look into.
 #![tactic(auto)]
 
-ghost use Rattle.std.specs.Prelude.{◌≡◌, true, ◌+◌, ◌*◌, ◌≤◌, ◌<◌, length, drop};
-ghost use Rattle.step_slots.specs.Views.{slots_at, all_slots};
+ghost use Rattle.std.specs.Prelude.{◌≡◌, ◌+◌, ◌<◌, length, drop};
 ghost use Rattle.step_spec.specs.Store.{leading};
 ghost use Rattle.step_slots.specs.Slots.{as_slot};
 ghost use Rattle.step_header.specs.States.{heap_of};
@@ -24,13 +23,14 @@ pub struct Cell {
 }
 
 // How many slots are behind the one at `place`, up to the next cell's own or the end. Only the sorts are read.
-pub fn held_count(store: &[u8], heap: usize, place: usize) -> usize
-    requires { (64 + 16 * heap ≤ length store.now) × ((place < heap) × (all_slots (slots_at store.now 64 heap) ≡ true)) }
-    ensures { result ≡ length (leading (drop (place + 1) (slots_at store.now 64 heap))) }
+pub fn held_count(state: &State<'_>, place: usize) -> usize
+    requires { place < state.now.header.heap }
+    ensures { result ≡ length (leading (drop (place + 1) (heap_of state.now))) }
 {
+    let heap = state.header.heap as usize;
     let first = place + 1;
     for j in first..heap {
-        let sort = store[64 + 16 * j];
+        let sort = state.store[64 + 16 * j];
         if Sort::LetCell as u8 <= sort {
             return j - first;
         }
@@ -48,7 +48,7 @@ pub fn cell_of(state: &State<'_>, value: Slot) -> Option<Cell>
         return None;
     }
     let own = read(state.store, 64 + 16 * at)?;
-    let len = held_count(state.store, heap, at);
+    let len = held_count(state, at);
     Some(Cell {
         sort: own.sort,
         id: own.id,

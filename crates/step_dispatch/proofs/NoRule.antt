@@ -12,7 +12,7 @@ use Rattle.image_spec.specs.Kinds.{kind_of}
 use Rattle.image_kinds.specs.Codes.{code_of}
 use Rattle.image_kinds.specs.declared.kinds.Kind.{Kind}
 use Rattle.image_kinds.proofs.KindNames.{same_code}
-use Rattle.image_read_nodes.specs.Nodes.{record_at, At}
+use Rattle.image_read_parts.specs.Indexed.{record_at, At}
 use Rattle.step_spec.specs.Located.{Machine, source_machine, Located, stmt_in, cell_in}
 use Rattle.step_write.specs.declared.Work.{Work}
 use Rattle.step_write.specs.declared.Stop.TheVariants.{NoStep}

@@ -23,7 +23,8 @@ use step_statement_substitute::substitute;
 use step_statement_switch::switch;
 use step_write::{Step, Stop, Work};
 
-// The statements whose rules are the source machine's alone. (It has none for a Substitute.)
+// `scratch` and `kind`, here and below: bytes that rules are lent, and what chooses the rule.
+// The statements whose rules are the source machine's alone. (It has none for a Substitute. Under `_`, here and below, is what has no rule or another function's.)
 fn source(
     stepper: &Stepper<'_>,
     work: &mut Work<'_, '_>,

@@ -7,26 +7,13 @@ use native.Mathlib.Omega.{arith}
 use lib.ListN.{length, take, drop}
 use lib.Seq.{sets}
 use Rattle.std.specs.Prelude.{Result}
-use Rattle.syntax.specs.Context.{ids}
 use Rattle.syntax.specs.declared.names.VarId.{VarId}
-use Rattle.syntax.proofs.Filters.{ids-length}
 use Rattle.image_spec.specs.Parse.{each}
-use Rattle.image_spec.specs.Fields.{max_count}
-use Rattle.image_directory.specs.Slots.{Ready}
-use Rattle.image_directory.specs.declared.Frame.{Frame}
-use Rattle.image_read_parts.specs.Parts.{list_of}
-use Rattle.image_read_nodes.specs.Nodes as nodes
-use Rattle.image_read_nodes.specs.Nodes.{record_at, has_list}
-use Rattle.image_read_nodes.proofs.NodeLaws.{record_ok}
-use Rattle.image_read_nodes.proofs.ListLaws.{list-stands}
 use Rattle.image_write_parts.specs.Puts.{Puts}
 use Rattle.step_slots.specs.Slots.{Slot, slot_bytes}
 use Rattle.step_slots.specs.Views.{slots_at, all_slots}
 use Rattle.step_slots.proofs.SlotBytes.{slots-taken, slots-count, slots_length}
 use Rattle.step_header.specs.declared.Header.{Header}
-use Rattle.step_rows.specs.declared.row.Row.{Row}
-use Rattle.step_rows.specs.Rows.{ids_of}
-use Rattle.step_rows.proofs.RowLaws.{row-length}
 use Rattle.step_gather.specs.Gathering.{renamed}
 use Rattle.step_gather.proofs.GatheredSlots.{slots-put, slots-ok}
 use Rattle.step_gather.proofs.Renaming.{renamed-length}
@@ -35,12 +22,6 @@ use Rattle.step_write.specs.declared.Stop.{Stop}
 use Rattle.step_write.specs.Writing.{Finishes}
 use Rattle.step_write.proofs.Regions.{taken-put}
 use Rattle.step_enter.specs.Entering.{entered, Enters}
-
--- a record's list has at most 128 bindings
-pub list-short : (row : Row) {g : Frame} {s : List ℕ} {i k : ℕ} → Ready g s → nodes.At g s i k → has_list k ≡ true → ids_of row ≡ ids (list_of (record_at g s i)) → row.places.len ≤ max_count
-list-short row {g} {s} {i} {k} ready a h r =
-    let Γ = list_of (record_at g s i) in
-    omega (arith, (list-stands g.id (record_at g s i) k a.kind h (record_ok g s i k ready a)).fits.0, row-length row r, ids-length Γ)
 
 -- slots that were copied
 pub fetched : (store : List ℕ) (from n : ℕ) {scratch scratch' : List ℕ} {r : ℕ} → all_slots (slots_at store from n) ≡ true → 16 * n ≤ length scratch

@@ -19,7 +19,8 @@ use Rattle.image_directory.specs.declared.Frame.{Frame}
 use Rattle.image_directory.specs.Slots as image
 use Rattle.image_read_parts.specs.Parts.{list_of}
 use Rattle.image_read_nodes.specs.declared.Follows.{Follows}
-use Rattle.image_read_nodes.specs.Nodes.{record_at, Followed}
+use Rattle.image_read_nodes.specs.Nodes.{Followed}
+use Rattle.image_read_parts.specs.Indexed.{record_at}
 use Rattle.step_slots.specs.Slots.{Slot, value_slot}
 use Rattle.step_spec.specs.Store.{entry_slot}
 use Rattle.step_places.specs.Heads.{head_record}

@@ -6,7 +6,7 @@ use Rattle.image_spec.specs.Fields.{max_count}
 use Rattle.image_spec.specs.Kinds.{clauses_of}
 use Rattle.image_directory.specs.declared.Frame.{Frame}
 use Rattle.image_read_parts.specs.Parts.{list_of}
-use Rattle.image_read_nodes.specs.Nodes.{record_at}
+use Rattle.image_read_parts.specs.Indexed.{record_at}
 use Rattle.step_slots.specs.Slots.{Slot, slot_bytes}
 use Rattle.step_header.specs.declared.Header.{Header}
 use Rattle.step_places.specs.Searches.{FindsClause}

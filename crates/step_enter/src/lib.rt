@@ -8,13 +8,12 @@ ghost use Rattle.step_gather.specs.Gathering.{renamed};
 ghost use Rattle.step_write.specs.Writing.{head_bytes};
 ghost use Rattle.step_enter.specs.Entering.{ParametersOf, ClauseOf, Enters};
 ghost use Rattle.image_kinds.specs.Codes.{code_of};
-ghost use Rattle.image_read_nodes.specs.Opened.{IsAt};
 ghost use Rattle.step_write.specs.Working.{Fit, Keeps};
 ghost use Rattle.step_rows.specs.Rows.{ids_of};
 
-use image_directory::image::Image;
 use image_kinds::kinds::Kind;
 use image_read_nodes::parts_of;
+use image_read_parts::record::RecordAt;
 use image_write_bytes::bytes::copy;
 use step_gather::rename;
 use step_header::Header;
@@ -31,14 +30,14 @@ pub struct Parameters<'a> {
     pub body: u32,
 }
 
-// The parameters of the clause or definition at index j.
-pub fn parameters_of<'a>(image: &Image<'a>, j: usize, kind: Kind) -> Parameters<'a>
-    requires { IsAt image.now j (code_of kind) × (has_list (code_of kind) ≡ true) }
-    ensures { ParametersOf image.now.frame image.now.bytes.now (Some j) (Some result) }
+// The parameters of a clause or a definition.
+pub fn parameters_of<'a>(node: &RecordAt<'a>) -> Parameters<'a>
+    requires { has_list (code_of node.now.kind) ≡ true }
+    ensures { ParametersOf node.now.image.frame node.now.image.bytes.now (Some node.now.index) (Some result) }
 {
     Parameters {
-        row: list_row(image, j, kind),
-        body: (j + 1) as u32,
+        row: list_row(node),
+        body: (node.index + 1) as u32,
     }
 }
 
@@ -50,19 +49,26 @@ pub fn clause_of<'a>(stepper: &Stepper<'a>, place: u32, tag: u32) -> Option<Para
     let i = place as usize;
     let follows = parts_of(&stepper.image, i);
     let j = find_clause(stepper, i + 1, follows.clauses, tag)?;
-    Some(parameters_of(&stepper.image, j, Kind::Clause))
+    let node = RecordAt {
+        image: stepper.image,
+        index: j,
+        kind: Kind::Clause,
+    };
+    Some(parameters_of(&node))
 }
 
+// `from` and `n`: of the entries in one caller, of a part of them or of what a cell holds in others; the store is lent without a header.
 // The n slots of the store from `from`, at the beginning of scratch.
 pub fn fetch(store: &[u8], from: usize, n: usize, scratch: &mut [u8])
     requires { (from + 16 * n ≤ length store.now) × ((all_slots (slots_at store.now from n) ≡ true) × (16 * n ≤ length scratch.old)) }
     ensures { slots_at scratch.new 0 n ≡ slots_at store.now from n }
 {
-    copy(store, from, 16 * n, scratch, 0);
+    copy(&store[from..from + 16 * n], scratch, 0);
 }
 
 // A step to the body: the slots at the beginning of scratch become entries under the row's IDs. Of the entries that there are the first `front` stay, and
 // the `back` that follow them come behind the new ones.
+// `row` and `work`, here and in the rules of Call and Invoke: IDs in an image, which are read, and what is written.
 pub fn enter(
     row: &Row<'_>,
     work: &mut Work<'_, '_>,

@@ -1,6 +1,7 @@
 // The first 64 bytes of a store: position, flags and counts.
 #![tactic(auto)]
 
+pub mod heap;
 pub mod state;
 
 ghost use Rattle.std.specs.Prelude.{◌≡◌, ◌+◌, ◌≤◌, length, drop, replicate};
@@ -16,6 +17,7 @@ use step_slots::{all_zero, long_at, put_four, put_long};
 #[derive(Clone, Copy, Debug, PartialEq, Eq)]
 pub struct Header {
     pub position: u32,
+    // The two flags of document 02, each on its own.
     pub ended: bool,
     pub stopped: bool,
     pub cells: u64,

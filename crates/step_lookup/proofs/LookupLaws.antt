@@ -15,7 +15,7 @@ use Rattle.model.specs.Syntax.{Prog}
 use Rattle.model.specs.Lists.{lookup}
 use Rattle.model.specs.Machine.{Value, Entries, Outcome, halts, or_halt, as_int}
 use Rattle.step_slots.specs.Slots.{Slot}
-use Rattle.step_spec.specs.Located.{Machine, source_machine, linear_machine, Located, project, located_step}
+use Rattle.step_spec.specs.Located.{Machine, Located, project, located_step}
 use Rattle.step_header.specs.declared.Header.{Header}
 use Rattle.step_header.specs.Headers.{entries_in}
 use Rattle.step_entries.specs.Named.{named}
@@ -24,10 +24,6 @@ use Rattle.step_rule.specs.Rules.{Stored, resting, Makes, no_step}
 use Rattle.step_rule.proofs.Finds.{Sees, sees_none, sees-int, sees-cell, sees-outside, sees}
 use Rattle.step_rule.proofs.Ways.{halted}
 use Rattle.step_lookup.specs.Integer.{integer_in, of_both}
-
--- the machine that a stepper has
-abbrev pub machine : (linear : Bool) → Machine
-machine b = cond b linear_machine source_machine
 
 -- ── integers ──
 

@@ -1,27 +1,16 @@
-// What a variable has in the environment of a state: its slot, or its integer.
+// The integer that a variable has in the environment of a state.
 #![tactic(auto)]
 
 ghost use Rattle.std.specs.Prelude.{◌≡◌};
 ghost use Rattle.syntax.specs.Options.{option_of};
-ghost use Rattle.step_slots.specs.Views.{found_slot};
 ghost use Rattle.step_header.specs.States.{entries_of};
 ghost use Rattle.step_entries.specs.Named.{named};
 ghost use Rattle.step_lookup.specs.Integer.{integer_in};
 
 use image_integers::from_bits;
-use step_entries::find;
+use step_entries::slot_of;
 use step_header::state::State;
-use step_slots::Slot;
 use step_slots::sort::Sort;
-
-// The slot of a variable that is there.
-pub fn slot_of(state: &State<'_>, id: u32) -> Option<Slot>
-    ensures { found_slot result ≡ named id (entries_of state.now) }
-{
-    let heap = state.header.heap as usize;
-    let entries = state.header.entries as usize;
-    find(state.store, 64 + 16 * heap, entries, id)
-}
 
 // The integer of a variable that is there and has one.
 pub fn integer_of(state: &State<'_>, id: u32) -> Option<i64>

@@ -7,6 +7,7 @@ ghost use Rattle.step_scan.specs.Pass.{Of};
 ghost use Rattle.step_open.specs.Opening.{slots_formed, Opens};
 
 use image_directory::image::Image;
+use step_header::heap::Heap;
 use step_header::{Header, read_header};
 use step_scan::{cells_ok, entries_ok, is_statement};
 
@@ -19,15 +20,19 @@ fn counts_inside(len: usize, header: Header) -> bool
     header.heap <= room && header.entries <= room - header.heap
 }
 
+// `image` and `store`, in step_scan `image` and `heap`: bytes that were opened, and others that may be no state of it, which is what is asked.
 // Are the record at the position, the cells and the environment those of a state?
 fn is_formed(image: &Image<'_>, store: &[u8], header: Header) -> bool
     requires { 64 + 16 * header.heap + 16 * header.entries ≤ length store.now }
     ensures { (P : Prog) → Of P image.now.frame image.now.bytes.now → result ≡ slots_formed P store.now header }
 {
-    let heap = header.heap as usize;
+    let heap = Heap {
+        store,
+        count: header.heap as usize,
+    };
     is_statement(image, header.position)
-        && cells_ok(image, store, header.cells, heap)
-        && entries_ok(store, heap, header.entries as usize)
+        && cells_ok(image, &heap, header.cells)
+        && entries_ok(&heap, header.entries as usize)
 }
 
 // The header of the state that the store begins with, if it begins with one.

@@ -21,7 +21,7 @@ use Rattle.std.specs.Prelude.{Some, None}
 use Rattle.image_directory.specs.declared.Frame.{Frame}
 use Rattle.image_directory.specs.Slots.{records_in}
 use Rattle.image_read_parts.specs.Parts.{list_of}
-use Rattle.image_read_nodes.specs.Nodes.{record_at}
+use Rattle.image_read_parts.specs.Indexed.{record_at}
 use Rattle.step_spec.specs.Located.{is_stop}
 use Rattle.step_places.specs.Heads.{head_record}
 use Rattle.step_places.specs.Searches.{Finds}

@@ -14,7 +14,7 @@ use Rattle.model.specs.Machine.{Value, int, cell, outside, Entries, keys}
 use Rattle.model.specs.Linear.{before_last, ends_in_lem, in_order_lem}
 use Rattle.image_spec.specs.Records.{Record}
 use Rattle.image_directory.specs.declared.Frame.{Frame}
-use Rattle.image_read_nodes.specs.Nodes.{record_at}
+use Rattle.image_read_parts.specs.Indexed.{record_at}
 use Rattle.step_slots.specs.Slots.{value_slot}
 use Rattle.step_spec.specs.Located.{Machine, Located, stmt_in}
 use Rattle.step_spec.specs.Store.{place_of, entry_slot, environment_of}

@@ -48,16 +48,6 @@ module _ (a b c : Bool) where
       go true false e = absurd (false≢true (sym e))
       go false b e = absurd (false≢true (sym e))
 
--- ---- what `!=` says of `==`
-
-pub unlike : {b t : Bool} → t ≡ not b → t ≡ true → b ≡ false
-unlike {b = true} e h = absurd (false≢true (sym e ∙ h))
-unlike {b = false} e h = refl
-
-pub alike : {b t : Bool} → t ≡ not b → t ≡ false → b ≡ true
-alike {b = true} e h = refl
-alike {b = false} e h = absurd (false≢true (sym h ∙ e))
-
 -- ---- the first n
 
 -- .. of distinct IDs are distinct

@@ -1,30 +1,18 @@
--- What is read to tell whether the machine stops: an Invoke's tag, a clause, and the last value with its cell. Assumes nothing.
+-- What is read to tell whether the machine stops: a clause, and the last value with its cell. Assumes nothing.
 use Prim.Native.Nat.{ℕ, zero, suc, ◌+◌, ◌-◌, ◌*◌, ◌<◌}
-use mathlib.Core.Path.{◌≡◌, refl, sym, ap, ◌∙◌, subst}
+use mathlib.Core.Path.{◌≡◌, refl, sym, ap, ◌∙◌}
 use mathlib.Core.List.{List, [], ◌∷◌, map}
 use mathlib.Core.Option.{Option, some}
 use native.Mathlib.Omega.{arith}
 use lib.ListN.{length, drop, get_or, length-map}
 use lib.Seq.{drop-cons}
 use Rattle.syntax.specs.declared.names.VarId.{VarId}
-use Rattle.syntax.specs.declared.names.Identifier.{Identifier}
 use Rattle.model.specs.Syntax.{Prog}
 use Rattle.model.specs.Machine.{Value, outside, Entries, keys, values}
 use Rattle.model.specs.Linear.{first, last_value_lem}
 use Rattle.image_spec.specs.Parse.{All}
-use Rattle.image_spec.specs.Fields.{identifier_bytes, IdentifierOk}
-use Rattle.image_spec.specs.Records.{Record, record_bytes, RecordOk}
 use Rattle.std.specs.Prelude.{None}
-use Rattle.image_directory.specs.Slots.{Ready}
 use Rattle.image_directory.specs.declared.Frame.{Frame}
-use Rattle.image_read_parts.specs.Standing.{Stands}
-use Rattle.image_read_parts.proofs.PartPlaces.{invoke-tag}
-use Rattle.image_read_nodes.specs.Nodes as nodes
-use Rattle.image_read_nodes.specs.Nodes.{record_at, first_of}
-use Rattle.image_read_nodes.proofs.NodeLaws.{record_ok}
-use Rattle.image_read_parts.specs.Parts.{list_of}
-use Rattle.pass_records.proofs.MadeLaws.{parts_of}
-use Rattle.pass_records.proofs.ListPlaces.{at-made}
 use Rattle.step_slots.specs.Slots.{Slot}
 use Rattle.step_slots.specs.Views.{no_slot, slot_at, slots_at}
 use Rattle.step_slots.proofs.SlotBytes.{slots-count}
@@ -43,22 +31,8 @@ use Rattle.step_cells.specs.Cells.{Cell}
 use Rattle.step_cells.proofs.HeldLaws.{no-reference}
 use Rattle.step_cells.proofs.HeapLaws.{cell_holds}
 use Rattle.step_cells.proofs.CellLaws.{no_value, OfCreate, Meets, meets_none, meets}
-use Rattle.step_order.specs.Stopping.{last_slot, last_cell_lem, TagOf}
+use Rattle.step_order.specs.Stopping.{last_slot, last_cell_lem}
 use Rattle.step_order.proofs.InOrderLaws.{entry-ids}
-
--- ---- an Invoke's tag
-
-module _ (g : Frame) (s : List ℕ) (i : ℕ) (a : nodes.At g s i 7) where
-  pub tag-there : Ready g s → Stands (identifier_bytes g.id) (IdentifierOk g.id) (record_bytes g.id (record_at g s i)) (3 + g.id) (parts_of (record_at g s i)).tag
-  tag-there ready =
-      let r = record_at g s i in
-      let p = parts_of r in
-      let e = at-made 7 a in
-      subst (λ (z : Record). Stands (identifier_bytes g.id) (IdentifierOk g.id) (record_bytes g.id z) (3 + g.id) p.tag) (sym e)
-      (invoke-tag g.id (first_of r) p.tag p.ty (list_of r) (subst (RecordOk g.id) e (record_ok g s i 7 ready a)))
-
-  pub tag_is : {x : Identifier} → x ≡ (parts_of (record_at g s i)).tag → TagOf (record_at g s i) x
-  tag_is q = record { is = λ v t u Γ e. q ∙ ap (λ (z : Record). (parts_of z).tag) e }
 
 -- ---- nothing is no place
 

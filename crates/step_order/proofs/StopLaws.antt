@@ -36,8 +36,8 @@ use Rattle.image_directory.specs.Slots.{Ready}
 use Rattle.image_directory.specs.declared.Frame.{Frame}
 use Rattle.image_read_parts.specs.Standing.{head_of}
 use Rattle.image_read_parts.specs.Parts.{list_of}
-use Rattle.image_read_nodes.specs.Nodes.{record_at, At, first_of}
-use Rattle.pass_records.proofs.MadeLaws.{parts_of}
+use Rattle.image_read_nodes.specs.Nodes.{first_of}
+use Rattle.image_read_parts.specs.Indexed.{record_at, At}
 use Rattle.pass_records.proofs.ListPlaces.{at-made}
 use Rattle.step_slots.specs.Slots.{Slot, value_slot}
 use Rattle.step_spec.specs.Located.{Machine, source_machine, Located, records_in, stmt_in, cell_in, state_of, project, is_stop, clause_place, label_place}
@@ -59,10 +59,11 @@ use Rattle.step_cells.proofs.CellLaws as cells
 use Rattle.step_cells.proofs.CellLaws.{OfLet, OfCreate, Meets, cells_of, lacks_halts, matched_let, invoked-create, is_outside, no_let, no_target}
 use Rattle.step_cells.proofs.CreateLaws.{created}
 use Rattle.step_order.specs.Orderly.{IsFront}
-use Rattle.step_order.specs.Stopping.{last_slot, last_cell_lem, TagOf, ClauseOf, work_at, step_at}
+use Rattle.step_tags.specs.Tags.{tag_in}
+use Rattle.step_order.specs.Stopping.{last_slot, last_cell_lem, ClauseOf, work_at, step_at}
 use Rattle.step_order.proofs.InOrderLaws.{entries-keys}
 use Rattle.step_order.proofs.ListLaws.{front_ids}
-use Rattle.step_order.proofs.PartLaws.{tag_is, last_meets}
+use Rattle.step_order.proofs.PartLaws.{last_meets}
 use Rattle.step_order.proofs.EnterLaws.{entering, Enters}
 
 -- the source machine never stops: what is said of stores with it holds before it is known whether the linear machine stops
@@ -262,10 +263,10 @@ module _ {M : Machine} {P : Prog} {frame : Frame} {definitions : ℕ} {bytes sto
 
     -- Invoke
     module _ (a : At frame bytes h.position 7) where
-      invokes : {x : Identifier} → TagOf r x → work_at P l ≡ or_halt (last_value_lem ε) (invoking t ε (cells_of P l) x.name)
+      invokes : {x : Identifier} → x ≡ tag_in r → work_at P l ≡ or_halt (last_value_lem ε) (invoking t ε (cells_of P l) x.name)
       invokes g =
           let e = at-made 7 a in
-          invoke_work P ε (cells_of P l) (here p o _ e) ∙ ap (λ (y : Identifier). or_halt (last_value_lem ε) (invoking t ε (cells_of P l) y.name)) (sym (g.is _ _ _ _ e))
+          invoke_work P ε (cells_of P l) (here p o _ e) ∙ ap (λ (y : Identifier). or_halt (last_value_lem ε) (invoking t ε (cells_of P l) y.name)) (sym (g ∙ ap tag_in e))
 
       -- an outside number
       outside-goes : (tag : Name) {n : ℕ} → last_value_lem ε ≡ some (outside n) → is_stop (or_halt (last_value_lem ε) (invoking t ε (cells_of P l) tag)) ≡ false
@@ -273,16 +274,16 @@ module _ {M : Machine} {P : Prog} {frame : Frame} {definitions : ℕ} {bytes sto
       outside-goes tag e = ap (λ z. is_stop (or_halt z (invoking t ε (cells_of P l) tag))) e
 
       pub invoke-goes : (c.sort ≡ 4 → ⊥) → false ≡ is_stop (work_at P l)
-      invoke-goes n = sym (ap is_stop (invokes (tag_is frame bytes h.position a refl)) ∙ go (eqb u.sort 2) refl)
+      invoke-goes n = sym (ap is_stop (invokes refl) ∙ go (eqb u.sort 2) refl)
         where
           tag : Name
-          tag = (parts_of r).tag.name
+          tag = (tag_in r).name
 
           go : (b : Bool) → eqb u.sort 2 ≡ b → is_stop (or_halt (last_value_lem ε) (invoking t ε (cells_of P l) tag)) ≡ false
           go true e = outside-goes tag (is_outside m (eqb-true u.sort 2 e))
           go false e = ap is_stop (lacks_halts (no_target m (eqb-false u.sort 2 e) n) (invoking t ε (cells_of P l) tag) (λ v e. ap (λ z. or_halt z (aiming t ε (cells_of P l) tag)) e))
 
-      pub invoke-enters : Ready frame bytes → {x : Identifier} → TagOf r x → (w : OfCreate P store h l (last_value_lem ε) c) → {i n : ℕ} {f : code.Option ℕ} → i ≡ c.id → n ≡ x.name.0 → ClauseOf frame bytes i n f
+      pub invoke-enters : Ready frame bytes → {x : Identifier} → x ≡ tag_in r → (w : OfCreate P store h l (last_value_lem ε) c) → {i n : ℕ} {f : code.Option ℕ} → i ≡ c.id → n ≡ x.name.0 → ClauseOf frame bytes i n f
           → Enters frame bytes f (values (before_last 1 ε)) (λ new. new ++ w.entries) (is_stop (work_at P l))
       unfolding linear_enter_lem
       invoke-enters ready {x} g w e k f =

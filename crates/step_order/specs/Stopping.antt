@@ -1,15 +1,11 @@
 -- Does the linear machine stop at the state that a store is read as? And what is read to tell it.
 use Rattle.std.specs.Prelude.{ℕ, ◌+◌, ◌-◌, ◌<◌, ◌≡◌, Bool, false, Option, List, map, length, get_or}
-use Rattle.syntax.specs.Context.{Context}
-use Rattle.syntax.specs.declared.names.Identifier.{Identifier}
-use Rattle.syntax.specs.declared.types.Ty.{Ty}
 use Rattle.model.specs.Syntax.{Prog}
 use Rattle.model.specs.Machine.{Outcome}
 use Rattle.model.specs.Linear.{linear_work, linear_step_lem}
-use Rattle.image_spec.specs.Records.{Record, invoke}
 use Rattle.image_spec.specs.Kinds.{clauses_of}
 use Rattle.image_directory.specs.declared.Frame.{Frame}
-use Rattle.image_read_nodes.specs.Nodes.{record_at}
+use Rattle.image_read_parts.specs.Indexed.{record_at}
 use Rattle.step_slots.specs.Slots.{Slot}
 use Rattle.step_slots.specs.Views.{no_slot}
 use Rattle.step_spec.specs.Located.{Located, stmt_in, cell_in, project, is_stop}
@@ -27,10 +23,6 @@ last_slot ts = get_or ts (length ts - 1) no_slot
 -- the cell of the last entry's value; one of sort 5 where it is none
 abbrev pub last_cell_lem : (store : List ℕ) → Header → Cell
 last_cell_lem store h = cell_in' (heap_in store h) (last_slot (entries_in store h))
-
--- the tag of an Invoke
-pub record TagOf (r : Record) (x : Identifier) : Type 0 where
-  pub is : (v g : Identifier) (t : Ty) (Γ : Context) → r ≡ invoke v g t Γ → x ≡ g
 
 -- the answer for the first clause with this tag of the record at index i; it need not have any, nor be there
 pub record ClauseOf (g : Frame) (s : List ℕ) (i tag : ℕ) (r : Option ℕ) : Type 0 where

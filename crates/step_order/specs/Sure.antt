@@ -12,6 +12,7 @@ use Rattle.step_places.specs.declared.stepper.Stepper.{Stepper}
 abbrev pub Sure : (sure : Bool) → List VarId → Type 0
 Sure sure xs = sure ≡ true → distinct xs ≡ true
 
--- where the linear stepper is sure, those of the store's entries are. The source machine does not ask
+-- where the linear stepper is sure, those of the store's entries are. The source machine does not ask.
+-- (Asked, and no field of `Work`: a step writes the store)
 abbrev pub SureIn : Stepper → (sure : Bool) → (store : List ℕ) → Header → Type 0
 SureIn stepper sure store h = stepper.machine ≡ Linear → Sure sure (map slot_id (entries_in store h))

@@ -1,20 +1,16 @@
-// What is read to tell whether a Switch or an Invoke stops: the last value's cell, an Invoke's tag, the clause with a tag.
+// What is read to tell whether a Switch or an Invoke stops: the last value's cell, the clause with a tag.
 ghost use Rattle.std.specs.Prelude.{◌≡◌};
-ghost use Rattle.step_order.specs.Stopping.{last_slot, last_cell_lem, TagOf, ClauseOf};
-ghost use Rattle.image_read_nodes.specs.Opened.{record_of, IsAt};
+ghost use Rattle.step_order.specs.Stopping.{last_slot, last_cell_lem, ClauseOf};
 ghost use Rattle.step_header.specs.States.{entries_of};
 ghost use Rattle.step_slots.specs.Views.{found_slot};
 ghost use Rattle.step_cells.specs.Cells.{found_cell};
 
-use image_directory::image::Image;
 use image_read_nodes::parts_of;
-use image_read_parts::identifier;
 use step_cells::{Cell, cell_of};
 use step_header::state::State;
 use step_places::search::find_clause;
 use step_places::stepper::Stepper;
 use step_slots::{Slot, read};
-use syntax::names::Identifier;
 
 // The slot of the last entry, if there is one.
 fn last_value(state: &State<'_>) -> Option<Slot>
@@ -33,14 +29,6 @@ pub fn last_cell(state: &State<'_>) -> Option<Cell>
     ensures { found_cell result ≡ last_cell_lem state.now.store.now state.now.header }
 {
     cell_of(state, last_value(state)?)
-}
-
-// The tag of the Invoke at index i.
-pub fn tag(image: &Image<'_>, i: usize) -> Identifier
-    requires { IsAt image.now i 7 }
-    ensures { TagOf (record_of image.now i) result }
-{
-    identifier(image, i, 3 + image.frame.id)
 }
 
 // The first clause with this tag of the statement at index i.

@@ -1,78 +1,79 @@
-// The statements one by one: are the IDs that the one at index i shows in order, where the row has those of the list?
+// The statements one by one: are the IDs that one shows in order, where the row has those of the list?
 ghost use Rattle.std.specs.Prelude.{◌≡◌, ◌∷◌, []};
 ghost use Rattle.syntax.specs.Sets.{elem};
 ghost use Rattle.model.specs.Linear.{ends_in_lem};
 ghost use Rattle.image_read_nodes.specs.Nodes.{first_of};
 ghost use Rattle.step_order.specs.Orderly.{orderly};
-ghost use Rattle.image_read_nodes.specs.Opened.{record_of, IsAt};
 ghost use Rattle.image_kinds.specs.Codes.{code_of};
 ghost use Rattle.step_rows.specs.Rows.{ids_of};
+ghost use Rattle.image_read_parts.specs.Recorded.{record_in};
+ghost use Rattle.image_kinds.specs.declared.kinds.Kind.TheVariants.{Substitute, Let, Create, Literal, Op, IfC};
 
 use crate::list::{adds, last_is, replaces};
 use crate::listed::Listed;
-use image_directory::image::Image;
-use image_kinds::kinds::Kind;
 use image_read_nodes::first;
+use image_read_parts::record::RecordAt;
 use pass_records as records;
 use step_rows::records::{environment_row, list_row, source_row, target_row};
 use step_rows::row::Row;
 use step_rows::{all_present, distinct, has};
 
+// `node` and `list`, or `node` and `row`: the statement stands in the image, the IDs that it is held against in a store.
 // substitute.rs: no target twice, and every source there.
-pub fn substitute(image: &Image<'_>, i: usize, row: &Row<'_>) -> bool
-    requires { IsAt image.now i 2 }
-    ensures { result ≡ orderly (record_of image.now i) (ids_of row.now) }
+pub fn substitute(node: &RecordAt<'_>, row: &Row<'_>) -> bool
+    requires { node.now.kind ≡ Substitute }
+    ensures { result ≡ orderly (record_in node.now) (ids_of row.now) }
 {
-    let targets = target_row(image, i);
-    distinct(&targets) && all_present(&source_row(image, i), row)
+    let targets = target_row(node);
+    distinct(&targets) && all_present(&source_row(node), row)
 }
 
 // let.rs: the args last, and var in their place.
-pub fn let_(image: &Image<'_>, i: usize, list: &Listed<'_>) -> bool
-    requires { IsAt image.now i 4 }
-    ensures { result ≡ orderly (record_of image.now i) (ids_of list.now.row) }
+pub fn let_(node: &RecordAt<'_>, list: &Listed<'_>) -> bool
+    requires { node.now.kind ≡ Let }
+    ensures { result ≡ orderly (record_in node.now) (ids_of list.now.row) }
 {
-    let args = list_row(image, i, Kind::Let);
-    let var = first(image, i, Kind::Let);
+    let args = list_row(node);
+    let var = first(node);
     replaces(&args, list, var.id.0)
 }
 
 // create.rs: the environment last, and var in its place. There must be one.
-pub fn create(image: &Image<'_>, i: usize, list: &Listed<'_>) -> bool
-    requires { IsAt image.now i 6 }
-    ensures { result ≡ orderly (record_of image.now i) (ids_of list.now.row) }
+pub fn create(node: &RecordAt<'_>, list: &Listed<'_>) -> bool
+    requires { node.now.kind ≡ Create }
+    ensures { result ≡ orderly (record_in node.now) (ids_of list.now.row) }
 {
-    let var = first(image, i, Kind::Create);
-    match environment_row(image, i) {
+    let var = first(node);
+    match environment_row(node) {
         None => false,
         Some(listed) => replaces(&listed, list, var.id.0),
     }
 }
 
 // switch.rs, invoke.rs: var last.
-pub fn is_last(image: &Image<'_>, i: usize, row: &Row<'_>, kind: Kind) -> bool
-    requires { IsAt image.now i (code_of kind) × (code_of kind ≡ 2 → ⊥) }
-    ensures { result ≡ ends_in_lem ((first_of (record_of image.now i)).id ∷ []) (ids_of row.now) }
+pub fn is_last(node: &RecordAt<'_>, row: &Row<'_>) -> bool
+    requires { code_of node.now.kind ≡ 2 → ⊥ }
+    ensures { result ≡ ends_in_lem ((first_of (record_in node.now)).id ∷ []) (ids_of row.now) }
 {
-    let var = first(image, i, kind);
+    let var = first(node);
     last_is(row, var.id.0)
 }
 
 // literal.rs: var behind all.
-pub fn literal(image: &Image<'_>, i: usize, list: &Listed<'_>) -> bool
-    requires { IsAt image.now i 8 }
-    ensures { result ≡ orderly (record_of image.now i) (ids_of list.now.row) }
+pub fn literal(node: &RecordAt<'_>, list: &Listed<'_>) -> bool
+    requires { node.now.kind ≡ Literal }
+    ensures { result ≡ orderly (record_in node.now) (ids_of list.now.row) }
 {
-    let var = first(image, i, Kind::Literal);
+    let var = first(node);
     adds(list, var.id.0)
 }
 
 // op.rs: both operands there, and var behind all.
-pub fn op(image: &Image<'_>, i: usize, list: &Listed<'_>) -> bool
-    requires { IsAt image.now i 9 }
-    ensures { result ≡ orderly (record_of image.now i) (ids_of list.now.row) }
+pub fn op(node: &RecordAt<'_>, list: &Listed<'_>) -> bool
+    requires { node.now.kind ≡ Op }
+    ensures { result ≡ orderly (record_in node.now) (ids_of list.now.row) }
 {
-    let statement = records::op(image, i);
+    let statement = records::op(node);
     let fst = statement.fst.id;
     let snd = statement.snd.id;
     let var = statement.var.id;
@@ -80,11 +81,11 @@ pub fn op(image: &Image<'_>, i: usize, list: &Listed<'_>) -> bool
 }
 
 // ifc.rs: the operands there.
-pub fn ifc(image: &Image<'_>, i: usize, row: &Row<'_>) -> bool
-    requires { IsAt image.now i 10 }
-    ensures { result ≡ orderly (record_of image.now i) (ids_of row.now) }
+pub fn ifc(node: &RecordAt<'_>, row: &Row<'_>) -> bool
+    requires { node.now.kind ≡ IfC }
+    ensures { result ≡ orderly (record_in node.now) (ids_of row.now) }
 {
-    let statement = records::ifc(image, i);
+    let statement = records::ifc(node);
     if !has(row, statement.fst.id.0) {
         return false;
     }
@@ -95,10 +96,10 @@ pub fn ifc(image: &Image<'_>, i: usize, row: &Row<'_>) -> bool
 }
 
 // print.rs, exit.rs: var there.
-pub fn is_present(image: &Image<'_>, i: usize, row: &Row<'_>, kind: Kind) -> bool
-    requires { IsAt image.now i (code_of kind) × (code_of kind ≡ 2 → ⊥) }
-    ensures { result ≡ elem (first_of (record_of image.now i)).id (ids_of row.now) }
+pub fn is_present(node: &RecordAt<'_>, row: &Row<'_>) -> bool
+    requires { code_of node.now.kind ≡ 2 → ⊥ }
+    ensures { result ≡ elem (first_of (record_in node.now)).id (ids_of row.now) }
 {
-    let var = first(image, i, kind);
+    let var = first(node);
     has(row, var.id.0)
 }

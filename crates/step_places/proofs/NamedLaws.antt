@@ -21,7 +21,8 @@ use Rattle.image_directory.proofs.Places.{seen, unseen}
 use Rattle.image_shape.specs.Nodes.{IsHead}
 use Rattle.image_read_parts.specs.Standing.{Stands}
 use Rattle.image_read_parts.proofs.StandingLaws.{first_run, inner, stands-room, kind-stands}
-use Rattle.image_read_nodes.specs.Nodes.{record_at, At, first_of, first_at}
+use Rattle.image_read_nodes.specs.Nodes.{first_of, first_at}
+use Rattle.image_read_parts.specs.Indexed.{record_at, At}
 use Rattle.image_read_nodes.proofs.NodeLaws.{first-there}
 use Rattle.step_places.specs.Searches.{name_of, is_named_lem}
 

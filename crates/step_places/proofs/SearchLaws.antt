@@ -29,6 +29,7 @@ use Rattle.image_directory.proofs.Places.{records-length}
 use Rattle.image_shape.specs.Nodes.{IsHead}
 use Rattle.image_read_parts.specs.Standing.{head_of}
 use Rattle.image_read_nodes.specs.Nodes as nodes
+use Rattle.image_read_parts.specs.Indexed.{At}
 use Rattle.scope_check.specs.Definitions.{DefsStand}
 use Rattle.step_spec.specs.Located.{clause_place, label_place, definition_place}
 use Rattle.step_places.specs.Heads.{head_record, flatten_head, heads_in, HeadsStand}
@@ -83,10 +84,10 @@ head-named kind f x Γ l m k h =
     ∙ ap (λ (y : Identifier). same_name f y.name) (head-name kind x Γ))
 
 -- what is named so is of that kind, of every image
-named-at : (g : Frame) (s : List ℕ) (kind : ℕ) (f : Name) (i : ℕ) → Ready g s → is_named_lem kind f (drop i (records_in g s)) ≡ true → nodes.At g s i kind
+named-at : (g : Frame) (s : List ℕ) (kind : ℕ) (f : Name) (i : ℕ) → Ready g s → is_named_lem kind f (drop i (records_in g s)) ≡ true → At g s i kind
 named-at g s kind f i h e = go (drop i (records_in g s)) refl e
   where
-    go : (rs : List Record) → drop i (records_in g s) ≡ rs → is_named_lem kind f rs ≡ true → nodes.At g s i kind
+    go : (rs : List Record) → drop i (records_in g s) ≡ rs → is_named_lem kind f rs ≡ true → At g s i kind
     go [] q t = absurd (false≢true t)
     go (r ∷ rs) q t = record {
       inside = omega (arith, records-length g s h, length-drop i (records_in g s), ap length q);
@@ -159,11 +160,11 @@ module _ {g : Frame} {s : List ℕ} where
   place_none : (kind : ℕ) → PlaceOf g s kind None
   place_none kind j q = let w : ◌≡◌ {A = ℕ} 0 1 = cc in absurd (omega arith)
 
-  place_at : (kind here : ℕ) → nodes.At g s here kind → PlaceOf g s kind (Some here)
-  place_at kind here a j q = let z : here ≡ j = cc in subst (λ (w : ℕ). nodes.At g s w kind) z a
+  place_at : (kind here : ℕ) → At g s here kind → PlaceOf g s kind (Some here)
+  place_at kind here a j q = let z : here ≡ j = cc in subst (λ (w : ℕ). At g s w kind) z a
 
   -- what was found is there
-  found-there : {d place j : ℕ} {o : Option Def} → Ready g s → FindsDef 1 d (records_in g s) place o (Some j) → nodes.At g s j 1
+  found-there : {d place j : ℕ} {o : Option Def} → Ready g s → FindsDef 1 d (records_in g s) place o (Some j) → At g s j 1
   found-there {j = j} h (found {a = e} x r b p) = record { inside = omega (arith, records-length g s h, part-inside (statement e.body) b.begins); kind = ap kind_of r }
 
   pub search_start : {kind f : ℕ} (n i : ℕ) → Searching g s kind f n i 0 i
@@ -199,10 +200,10 @@ module _ {g : Frame} {s : List ℕ} where
     definition-finds : (d : ℕ) (es : List Def) → DefsStand d n (records_in g s) 0 es → FindsDef 1 d (records_in g s) (definition_place k es 0) (nth k es) (Some here)
     definition-finds d es w = rw p.is (head-nth k 0 es t h (defs-heads w))
 
-    pub definition-found : nodes.At g s here 1 → FindsDefinition g s n k (Some here)
+    pub definition-found : At g s here 1 → FindsDefinition g s n k (Some here)
     definition-found a = record { at = place_at 1 here a; finds = definition-finds }
 
-    pub definition-missing : (nodes.At g s here 1 → ⊥) → FindsDefinition g s n k None
+    pub definition-missing : (At g s here 1 → ⊥) → FindsDefinition g s n k None
     definition-missing a = record { at = place_none 1; finds = λ d es w. absurd (a (found-there ready (definition-finds d es w))) }
 
   pub definition-past : {n k : ℕ} → n ≤ k → FindsDefinition g s n k None

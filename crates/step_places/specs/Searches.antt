@@ -14,6 +14,7 @@ use Rattle.image_directory.specs.declared.Frame.{Frame}
 use Rattle.image_directory.specs.Slots.{records_in}
 use Rattle.image_read_parts.specs.Standing.{head_of}
 use Rattle.image_read_nodes.specs.Nodes as nodes
+use Rattle.image_read_parts.specs.Indexed.{At}
 use Rattle.scope_check.specs.Definitions.{DefsStand}
 use Rattle.step_spec.specs.Located.{clause_place, label_place, definition_place}
 use Rattle.step_places.specs.Heads.{head_record, HeadsStand}
@@ -38,7 +39,7 @@ FindsDef = Finds (λ e. e.context) (λ e. e.body)
 
 -- the answer, if it is a place, is that of a record of this kind: of every image, also where the records are no program's
 abbrev pub PlaceOf : Frame → List ℕ → (kind : ℕ) → Option ℕ → Type 0
-PlaceOf g s k r = (j : ℕ) → r ≡ Some j → nodes.At g s j k
+PlaceOf g s k r = (j : ℕ) → r ≡ Some j → At g s j k
 
 -- the answer for the first with this name of the n heads from i on
 pub record FindsHead (g : Frame) (s : List ℕ) (kind n i name : ℕ) (r : Option ℕ) : Type 0 where

@@ -14,6 +14,7 @@ pub fn behind(ends: &[u32], i: usize) -> usize
 }
 
 // The place behind n parts, one after the other, the first of which begins at `from`.
+// `from` and `n`, also in `search::find`: an index, and a number of parts from there on: a record's, the stepper's, or a caller's.
 pub fn hop(ends: &[u32], from: usize, n: usize) -> usize
     ensures { Hopped ends.now n from result }
 {

@@ -14,6 +14,7 @@ use image_read_nodes::parts_of;
 use image_read_parts::offset;
 
 // Is the record at index i a definition or clause, as `kind` says, with this name?
+// `image` and `i`: there may be no record at i, or one of another kind, so it is no `RecordAt`.
 fn is_named(image: &Image<'_>, i: usize, kind: Kind, name: u32) -> bool
     requires { IsHead (code_of kind) }
     ensures { result ≡ is_named_lem (code_of kind) (name_of name) (drop i (records_of image.now)) }

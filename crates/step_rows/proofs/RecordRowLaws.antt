@@ -1,6 +1,7 @@
 -- The rows of a record's list, pairs and environment. Assumes nothing.
 use Prim.Native.Nat.{ℕ, ◌+◌, ◌*◌, ◌≤◌, ◌<◌}
 use mathlib.Core.Path.{◌≡◌, refl, sym, ap, ◌∙◌, subst}
+use mathlib.Core.Bool.{true}
 use mathlib.Core.List.{List, [], ◌∷◌, ◌++◌, append_assoc, append-nil, map}
 use mathlib.Core.Option.{Option, none, some}
 use native.Mathlib.Omega.{arith}
@@ -20,9 +21,14 @@ use Rattle.image_directory.specs.Slots.{Ready}
 use Rattle.image_directory.specs.declared.Frame.{Frame}
 use Rattle.image_read_parts.specs.Standing.{Stands}
 use Rattle.image_read_parts.proofs.StandingLaws.{byte-run, stands_in, stands-room}
-use Rattle.image_read_nodes.specs.Nodes.{record_at, At}
+use Rattle.image_read_parts.specs.Indexed.{record_at, At}
 use Rattle.image_read_nodes.proofs.TailLaws.{tail_from}
 use Rattle.image_read_nodes.proofs.NodeLaws.{record_ok}
+use Rattle.image_read_nodes.proofs.ListLaws.{list-stands}
+use Rattle.image_read_nodes.specs.Nodes.{has_list}
+use Rattle.image_read_parts.specs.Parts.{list_of}
+use Rattle.syntax.proofs.Filters.{ids-length}
+use Rattle.step_rows.proofs.RowLaws.{row-length}
 use Rattle.step_rows.specs.declared.places.Places.{Places}
 use Rattle.step_rows.specs.declared.row.Row.{Row}
 use Rattle.std.specs.Prelude as code
@@ -214,3 +220,9 @@ environment_none (listed h) q = cc
 pub environment_some : {r : code.Option Row} {e : Option Context} {row : Row} → EnvironmentRow r e → r ≡ Some row → Entered row e
 environment_some absent q = let z : ◌≡◌ {A = ℕ} 0 1 = cc (q) in absurd (omega arith)
 environment_some {row = row} (listed {row = other} {Γ = Γ} h) q = let k : other ≡ row = cc (q) in record { context = Γ; is = refl; holds = subst (λ (z : Row). ids_of z ≡ ids Γ) k h }
+
+-- a record's list has at most 128 bindings
+pub list-short : (row : Row) {g : Frame} {s : List ℕ} {i k : ℕ} → Ready g s → At g s i k → has_list k ≡ true → ids_of row ≡ ids (list_of (record_at g s i)) → row.places.len ≤ max_count
+list-short row {g} {s} {i} {k} ready a h r =
+    let Γ = list_of (record_at g s i) in
+    omega (arith, (list-stands g.id (record_at g s i) k a.kind h (record_ok g s i k ready a)).fits.0, row-length row r, ids-length Γ)

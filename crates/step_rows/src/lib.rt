@@ -17,6 +17,7 @@ use crate::row::Row;
 use image_fields::number;
 
 // The places of the IDs of the n slots from at.
+// `at` and `n`: this is where the two become one value.
 pub fn slot_places(at: usize, n: usize) -> Places
     ensures { result ≡ slot_places_lem at n }
 {
@@ -74,6 +75,7 @@ pub fn id_of(row: &Row<'_>, j: usize) -> u32
 }
 
 // Is the ID in the row? The width as in id_at.
+// (A `for` that returns, and no chain with `all`: its closure would need a contract that each index is below the bound.)
 fn search(row: &Row<'_>, width: usize, id: u32) -> bool
     requires { width ≡ row.now.places.width }
     ensures { result ≡ elem (identified id) (ids_of row.now) }
@@ -98,7 +100,8 @@ pub fn has(row: &Row<'_>, id: u32) -> bool
     search(row, row.places.width, id)
 }
 
-// Have two rows the same IDs in the same order?
+// Have two rows the same IDs in the same order? No `==`: rows may differ in their bytes, and IDs alone count.
+// `row` and `other`, here and below: two rows that are compared; each comes from another place, and nothing is said of both as one.
 pub fn same(row: &Row<'_>, other: &Row<'_>) -> bool
     ensures { result ≡ same_ids (ids_of row.now) (ids_of other.now) }
 {

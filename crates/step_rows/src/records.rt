@@ -8,17 +8,18 @@ ghost use Rattle.image_read_parts.specs.Parts.{list_of};
 ghost use Rattle.image_read_nodes.specs.Nodes.{has_list};
 ghost use Rattle.step_rows.specs.Rows.{ids_of};
 ghost use Rattle.step_rows.specs.RecordRows.{bytes_of, AnyBytes, counted_places_lem, pairs_of, environment_of, EnvironmentRow};
-ghost use Rattle.image_read_nodes.specs.Opened.{record_of, IsAt};
 ghost use Rattle.image_kinds.specs.Codes.{code_of};
+ghost use Rattle.image_read_parts.specs.Recorded.{record_in};
+ghost use Rattle.image_kinds.specs.declared.kinds.Kind.TheVariants.{Substitute, Create};
 
 use crate::places::Places;
 use crate::row::Row;
-use image_directory::image::Image;
-use image_kinds::kinds::Kind;
 use image_read_nodes::list_at;
 use image_read_parts::offset;
+use image_read_parts::record::RecordAt;
 
 // The places behind the count at a place.
+// `bytes` and `at`: the image's, and a place that the caller worked out from the record; what they give is the one value.
 fn counted(bytes: &[u8], at: usize, stride: usize, offset: usize, width: usize) -> Places
     requires { at < length bytes.now }
     ensures { result ≡ counted_places_lem bytes.now at stride offset width }
@@ -32,66 +33,65 @@ fn counted(bytes: &[u8], at: usize, stride: usize, offset: usize, width: usize) 
     }
 }
 
-// Where the tail of the record at index i begins.
-fn tail_at(image: &Image<'_>, i: usize, kind: Kind) -> usize
-    requires { IsAt image.now i (code_of kind) }
-    ensures { Stands bytes_of AnyBytes image.now.bytes.now result (tail_bytes image.now.frame.id (record_of image.now i)) }
+// Where the tail of a record begins.
+fn tail_at(node: &RecordAt<'_>) -> usize
+    ensures { Stands bytes_of AnyBytes node.now.image.bytes.now result (tail_bytes node.now.image.frame.id (record_in node.now)) }
 {
-    let w = image.frame.id;
-    offset(image, i) + kind.fixed(w)
+    let image = &node.image;
+    offset(image, node.index) + node.kind.fixed(image.frame.id)
 }
 
-// The IDs of the list of the record at index i.
-pub fn list_row<'a>(image: &Image<'a>, i: usize, kind: Kind) -> Row<'a>
-    requires { IsAt image.now i (code_of kind) × (has_list (code_of kind) ≡ true) }
-    ensures { ids_of result ≡ (ids (list_of (record_of image.now i))) }
+// The IDs of the list of a record.
+pub fn list_row<'a>(node: &RecordAt<'a>) -> Row<'a>
+    requires { has_list (code_of node.now.kind) ≡ true }
+    ensures { ids_of result ≡ (ids (list_of (record_in node.now))) }
 {
-    let w = image.frame.id;
-    let at = list_at(image, i, kind);
+    let w = node.image.frame.id;
+    let at = list_at(node);
     Row {
-        bytes: image.bytes,
-        places: counted(image.bytes, at, 6 + (w + w), 2, w),
+        bytes: node.image.bytes,
+        places: counted(node.image.bytes, at, 6 + (w + w), 2, w),
     }
 }
 
-// The IDs that the Substitute at index i gives.
-pub fn target_row<'a>(image: &Image<'a>, i: usize) -> Row<'a>
-    requires { IsAt image.now i 2 }
-    ensures { ids_of result ≡ (targets (pairs_of (record_of image.now i))) }
+// The IDs that a Substitute gives.
+pub fn target_row<'a>(node: &RecordAt<'a>) -> Row<'a>
+    requires { node.now.kind ≡ Substitute }
+    ensures { ids_of result ≡ (targets (pairs_of (record_in node.now))) }
 {
-    let w = image.frame.id;
-    let at = tail_at(image, i, Kind::Substitute);
+    let w = node.image.frame.id;
+    let at = tail_at(node);
     Row {
-        bytes: image.bytes,
-        places: counted(image.bytes, at, 8 + (w + (w + w)), 2, w),
+        bytes: node.image.bytes,
+        places: counted(node.image.bytes, at, 8 + (w + (w + w)), 2, w),
     }
 }
 
-// The IDs that the Substitute at index i takes.
-pub fn source_row<'a>(image: &Image<'a>, i: usize) -> Row<'a>
-    requires { IsAt image.now i 2 }
-    ensures { ids_of result ≡ (sources (pairs_of (record_of image.now i))) }
+// The IDs that a Substitute takes.
+pub fn source_row<'a>(node: &RecordAt<'a>) -> Row<'a>
+    requires { node.now.kind ≡ Substitute }
+    ensures { ids_of result ≡ (sources (pairs_of (record_in node.now))) }
 {
-    let w = image.frame.id;
-    let at = tail_at(image, i, Kind::Substitute);
+    let w = node.image.frame.id;
+    let at = tail_at(node);
     Row {
-        bytes: image.bytes,
-        places: counted(image.bytes, at, 8 + (w + (w + w)), 8 + (w + w), w),
+        bytes: node.image.bytes,
+        places: counted(node.image.bytes, at, 8 + (w + (w + w)), 8 + (w + w), w),
     }
 }
 
-// The IDs of the environment of the Create at index i, if it has one.
-pub fn environment_row<'a>(image: &Image<'a>, i: usize) -> Option<Row<'a>>
-    requires { IsAt image.now i 6 }
-    ensures { EnvironmentRow result (environment_of (record_of image.now i)) }
+// The IDs of the environment of a Create, if it has one.
+pub fn environment_row<'a>(node: &RecordAt<'a>) -> Option<Row<'a>>
+    requires { node.now.kind ≡ Create }
+    ensures { EnvironmentRow result (environment_of (record_in node.now)) }
 {
-    let w = image.frame.id;
-    let at = tail_at(image, i, Kind::Create);
-    if image.bytes[at] == 0 {
+    let w = node.image.frame.id;
+    let at = tail_at(node);
+    if node.image.bytes[at] == 0 {
         return None;
     }
     Some(Row {
-        bytes: image.bytes,
-        places: counted(image.bytes, at + 1, 6 + (w + w), 2, w),
+        bytes: node.image.bytes,
+        places: counted(node.image.bytes, at + 1, 6 + (w + w), 2, w),
     })
 }

@@ -22,7 +22,7 @@ use Rattle.image_places_spec.specs.Places.{StmtStands}
 use Rattle.image_places_spec.proofs.PlaceLaws.{stmt-parts}
 use Rattle.image_directory.specs.Slots.{Ready}
 use Rattle.image_directory.specs.declared.Frame.{Frame}
-use Rattle.image_read_nodes.specs.Nodes.{record_at, At}
+use Rattle.image_read_parts.specs.Indexed.{record_at, At}
 use Rattle.image_read_parts.specs.Standing.{head_of}
 use Rattle.step_spec.specs.Located.{Machine, Located, records_in, stmt_in}
 use Rattle.step_spec.proofs.Standing.{Stands, Placed}

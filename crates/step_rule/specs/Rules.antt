@@ -14,7 +14,7 @@ use Rattle.step_spec.specs.Store.{header_of, raw_of, store_bytes, state_from}
 use Rattle.step_spec.specs.Events.{shown_bytes}
 use Rattle.step_spec.specs.Calls.{has_room_lem}
 use Rattle.step_header.specs.declared.Header.{Header}
-use Rattle.image_read_nodes.specs.Nodes.{At}
+use Rattle.image_read_parts.specs.Indexed.{At}
 use Rattle.step_header.specs.Headers.{tuple_of}
 use Rattle.step_write.specs.Working.{Fit}
 use Rattle.step_places.specs.declared.stepper.Stepper.{Stepper}
@@ -75,6 +75,7 @@ pub record MakesAs (M : Machine) (stepper : Stepper) (w w' : Work) (m : Result S
 
 -- what a rule for a statement of this kind is given: the record at the position, a store that has what its header says, and a
 -- place in the event buffer. (Scratch has room for 130 slots beside it: a cell of 128 values with its own slot, and a variable.)
+-- No field of `Work`: a rule changes the store, and then it holds no more.
 pub record Given (stepper : Stepper) (w : Work) (kind : ℕ) : Type 0 where
   pub record' : At stepper.image.frame stepper.image.bytes.now w.header.position kind
   pub fit : Fit w

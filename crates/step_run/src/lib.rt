@@ -16,6 +16,7 @@ use step_write::{Stop, Work};
 pub struct Ran {
     pub steps: u64,
     pub length: usize,
+    // The steps made count whether it is full or not.
     pub full: bool,
 }
 

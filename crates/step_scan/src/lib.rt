@@ -9,12 +9,14 @@ ghost use Rattle.step_slots.specs.Slots.{as_slot, is_cell_lem};
 ghost use Rattle.step_slots.specs.Views.{slots_at};
 ghost use Rattle.step_spec.specs.Store.{first_slot, first_record, is_a_statement, is_a_create, entry_ok, every_slot};
 ghost use Rattle.step_spec.specs.Scan.{head_ok, held_ok};
+ghost use Rattle.step_header.specs.States.{slots_of};
 ghost use Rattle.step_scan.specs.Pass.{Of, pass};
 ghost use Rattle.image_directory.specs.Images.{records_of};
 
 use image_directory::image::Image;
 use image_kinds::kinds::Kind;
 use image_shape::look;
+use step_header::heap::Heap;
 use step_slots::sort::Sort;
 use step_slots::{Slot, read};
 
@@ -37,37 +39,34 @@ fn is_create(image: &Image<'_>, i: u32) -> bool
 }
 
 // Is it the place of a cell's slot? What is no slot counts as one here: it is refused where it stands.
-fn is_cell(store: &[u8], heap: usize, p: u64) -> bool
-    requires { 64 + 16 * heap ≤ length store.now }
-    ensures { result ≡ first_slot «is_cell_lem» (drop p (slots_at store.now 64 heap)) }
+fn is_cell(heap: &Heap<'_>, p: u64) -> bool
+    ensures { result ≡ first_slot «is_cell_lem» (drop p (slots_of heap.now)) }
 {
     let i = p as usize;
-    if heap <= i {
+    if heap.count <= i {
         return false;
     }
-    match read(store, 64 + 16 * i) {
+    match read(heap.store, 64 + 16 * i) {
         Some(t) => t.sort.begins_cell(),
         None => true,
     }
 }
 
 // Is it a value: an integer, a cell by the place of its slot, or an outside number?
-fn value_ok(store: &[u8], heap: usize, t: Slot) -> bool
-    requires { 64 + 16 * heap ≤ length store.now }
-    ensures { (P : Prog) → result ≡ entry_ok P (slots_at store.now 64 heap) (as_slot t) }
+fn value_ok(heap: &Heap<'_>, t: Slot) -> bool
+    ensures { (P : Prog) → result ≡ entry_ok P (slots_of heap.now) (as_slot t) }
 {
     match t.sort {
         Sort::Integer => true,
-        Sort::Cell => is_cell(store, heap, t.payload),
+        Sort::Cell => is_cell(heap, t.payload),
         Sort::Outside => t.payload < 256,
         Sort::LetCell | Sort::CreateCell => false,
     }
 }
 
 // May a cell with an own slot of this sort hold it? Before the first cell there is none.
-fn held_ok(store: &[u8], heap: usize, own: Option<Sort>, t: Slot) -> bool
-    requires { 64 + 16 * heap ≤ length store.now }
-    ensures { (P : Prog) → result ≡ held_ok P (slots_at store.now 64 heap) (own_code own) (as_slot t) }
+fn held_ok(heap: &Heap<'_>, own: Option<Sort>, t: Slot) -> bool
+    ensures { (P : Prog) → result ≡ held_ok P (slots_of heap.now) (own_code own) (as_slot t) }
 {
     let Some(sort) = own else {
         return false;
@@ -75,8 +74,8 @@ fn held_ok(store: &[u8], heap: usize, own: Option<Sort>, t: Slot) -> bool
     match sort {
         // No cell has such an own slot.
         Sort::Integer => false,
-        Sort::LetCell => t.id == 0 && value_ok(store, heap, t),
-        _ => value_ok(store, heap, t),
+        Sort::LetCell => t.id == 0 && value_ok(heap, t),
+        _ => value_ok(heap, t),
     }
 }
 
@@ -91,14 +90,13 @@ fn head_ok(image: &Image<'_>, t: Slot) -> bool
 }
 
 // The slots of the cells: numbered from 0, with what each may hold, and as many as the header says.
-pub fn cells_ok(image: &Image<'_>, store: &[u8], cells: u64, heap: usize) -> bool
-    requires { 64 + 16 * heap ≤ length store.now }
-    ensures { (P : Prog) → Of P image.now.frame image.now.bytes.now → result ≡ pass P (slots_at store.now 64 heap) cells 0 0 (slots_at store.now 64 heap) }
+pub fn cells_ok(image: &Image<'_>, heap: &Heap<'_>, cells: u64) -> bool
+    ensures { (P : Prog) → Of P image.now.frame image.now.bytes.now → result ≡ pass P (slots_of heap.now) cells 0 0 (slots_of heap.now) }
 {
     let mut k: u64 = 0;
     let mut own = None;
-    for i in 0..heap {
-        let Some(t) = read(store, 64 + 16 * i) else {
+    for i in 0..heap.count {
+        let Some(t) = read(heap.store, 64 + 16 * i) else {
             return false;
         };
         if t.sort.begins_cell() {
@@ -107,7 +105,7 @@ pub fn cells_ok(image: &Image<'_>, store: &[u8], cells: u64, heap: usize) -> boo
             }
             k += 1;
             own = Some(t.sort);
-        } else if !held_ok(store, heap, own, t) {
+        } else if !held_ok(heap, own, t) {
             return false;
         }
     }
@@ -115,15 +113,16 @@ pub fn cells_ok(image: &Image<'_>, store: &[u8], cells: u64, heap: usize) -> boo
 }
 
 // The entries of the environment.
-pub fn entries_ok(store: &[u8], heap: usize, entries: usize) -> bool
-    requires { 64 + 16 * (heap + entries) ≤ length store.now }
-    ensures { (P : Prog) → result ≡ every_slot (entry_ok P (slots_at store.now 64 heap)) (slots_at store.now (64 + 16 * heap) entries) }
+// (A `for` that returns, and no chain with `all`: its closure would need a contract that each index is below the bound.)
+pub fn entries_ok(heap: &Heap<'_>, entries: usize) -> bool
+    requires { 64 + 16 * (heap.now.count + entries) ≤ length heap.now.store.now }
+    ensures { (P : Prog) → result ≡ every_slot (entry_ok P (slots_of heap.now)) (slots_at heap.now.store.now (64 + 16 * heap.now.count) entries) }
 {
     for i in 0..entries {
-        let Some(t) = read(store, 64 + 16 * (heap + i)) else {
+        let Some(t) = read(heap.store, 64 + 16 * (heap.count + i)) else {
             return false;
         };
-        if !value_ok(store, heap, t) {
+        if !value_ok(heap, t) {
             return false;
         }
     }

@@ -4,13 +4,10 @@ use mathlib.Core.Path.{◌≡◌, refl, sym, ap, ◌∙◌, subst}
 use mathlib.Core.Bool.{Bool, true, false, false≢true}
 use mathlib.Core.List.{List, ◌++◌, map}
 use native.Mathlib.Omega.{arith}
-use borrow.Author.Rules.{rules}
-use denote.Enum.Bare.{sameb, same_true, same_false}
 use lib.ListN.{length, drop, set, length-append}
 use lib.Seq.{sets, sets-eq, drop-append_seam}
 use Rattle.model.specs.Syntax.{Prog}
 use Rattle.model.specs.Linear.{linear_step_lem}
-use Rattle.step_spec.specs.contracts.MachineKind.{the_type}
 use Rattle.step_spec.specs.declared.MachineKind.{MachineKind}
 use Rattle.step_spec.specs.declared.MachineKind.TheVariants.{Source, Linear}
 use Rattle.step_spec.specs.Located.{Machine, Located, stmt_in, cell_in, state_of, project, is_stop}
@@ -80,17 +77,6 @@ module _ {M : Machine} {stepper : Stepper} {bytes store : List ℕ} {h : Header}
 pub settles_as : {stepper : Stepper} {bytes store store' : List ℕ} {h h' : Header} {c : MachineKind} → stepper.machine ≡ c → Settles (machine_for c) stepper bytes store h store' h'
     → Settles (machine_in stepper) stepper bytes store h store' h'
 settles_as {stepper} {bytes} {store} {store'} {h} {h'} e x = subst (λ (z : MachineKind). Settles (machine_for z) stepper bytes store h store' h') (sym e) x
-
--- which it is, by the test for the source machine
-pub is_source : (k : MachineKind) {t : Bool} → t ≡ sameb the_type k Source → t ≡ true → k ≡ Source
-is_source k e h = same_true the_type (search rules) k Source (sym e ∙ h)
-
-other : (k : MachineKind) → (k ≡ Source → ⊥) → k ≡ Linear
-other Source n = absurd (n refl)
-other Linear n = refl
-
-pub is-linear : (k : MachineKind) {t : Bool} → t ≡ sameb the_type k Source → t ≡ false → k ≡ Linear
-is-linear k e h = other k (same_false the_type k Source (sym e ∙ h))
 
 -- a state that has ended does not stop
 pub ended-goes : {P : Prog} {store : List ℕ} {h : Header} {l : Located} (b : MachineKind) → Reads P store h l → h.ended ≡ true → is_stop ((machine_for b).step P (project P l)) ≡ false

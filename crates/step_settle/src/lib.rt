@@ -10,10 +10,12 @@ ghost use Rattle.step_settle.specs.Settling.{stopping, Settles};
 use step_header::Header;
 use step_header::state::State;
 use step_order::stops;
+use step_order::sure::SureState;
 use step_places::stepper::Stepper;
 use step_spec::MachineKind;
 
 // The flag set, in the store and in the header.
+// `store` and `header`, also in step_start: the store is written here, and a `State` lends it to be read.
 pub fn stop(store: &mut [u8], header: Header) -> Header
     requires { 64 ≤ length store.old }
     ensures { (store.new ≡ set store.old 5 1) × (result ≡ stopping header) }
@@ -33,7 +35,8 @@ pub fn settle(stepper: &Stepper<'_>, store: &mut [u8], header: Header, sure: boo
     if header.ended || stepper.machine == MachineKind::Source {
         return header;
     }
-    if stops(stepper, &State { store, header }, sure) {
+    let state = State { store, header };
+    if stops(stepper, &SureState { state, sure }) {
         return stop(store, header);
     }
     header

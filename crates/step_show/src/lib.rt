@@ -9,10 +9,12 @@ ghost use Rattle.step_write.specs.Writing.{Ending, Finishes};
 ghost use Rattle.step_show.specs.Showing.{shown_with};
 
 use step_gather::show;
+use step_header::heap::Heap;
 use step_header::{Header, put_header};
 use step_write::{EventHead, Step, Stop, Work, fits, put_event, store_of};
 
 // The n values are the slots of the store from byte `from` on.
+// `from` and `n`: here they are values that are shown, and not slots that stay. `event` and `header` as at `step_write::finish`.
 pub fn finish_showing(
     work: &mut Work<'_, '_>,
     event: EventHead,
@@ -26,12 +28,15 @@ pub fn finish_showing(
     if !fits(work, header, 16 + 16 * n) {
         return Err(Stop::NoRoom);
     }
-    let heap = header.heap as usize;
     let at = work.at;
     let values = put_event(work.events, at, event);
     let events = std::mem::take(&mut work.events);
     let store = store_of(work);
-    let next = show(store, heap, store, from, n, events, values);
+    let heap = Heap {
+        store,
+        count: header.heap as usize,
+    };
+    let next = show(&heap, store, from, n, events, values);
     work.events = events;
     put_header(work.store, header);
     Ok(Step { header, at: next })
@@ -51,11 +56,14 @@ pub fn finish_showing_from(
     if !fits(work, header, 16 + 16 * n) {
         return Err(Stop::NoRoom);
     }
-    let heap = header.heap as usize;
     let at = work.at;
     let values = put_event(work.events, at, event);
     let events = std::mem::take(&mut work.events);
-    let end = show(store_of(work), heap, scratch, 0, n, events, values);
+    let heap = Heap {
+        store: store_of(work),
+        count: header.heap as usize,
+    };
+    let end = show(&heap, scratch, 0, n, events, values);
     work.events = events;
     put_header(work.store, header);
     Ok(Step { header, at: end })

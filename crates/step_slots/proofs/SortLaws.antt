@@ -1,10 +1,10 @@
 -- The sorts by name and by byte, the test whether two are one, and slots with a sort by name. In order: a byte belongs to one sort; the test of two
--- sorts is that of their bytes; what is found where there is a slot, and where there is none. Assumes nothing.
+-- sorts is that of their bytes, and what `!=` says of `==`; what is found where there is a slot, and where there is none. Assumes nothing.
 use Rattle.std.specs.Prelude.{Option, Some, None}
 use Prim.Native.Nat.{ℕ, ◌≤◌}
 use mathlib.Core.List.{List, [], ◌∷◌}
 use mathlib.Core.Path.{◌≡◌, refl, ap, sym, ◌∙◌}
-use mathlib.Core.Bool.{Bool, true, false, true≢false}
+use mathlib.Core.Bool.{Bool, true, false, not, false≢true, true≢false}
 use native.Mathlib.Omega.{arith}
 use borrow.Author.Rules.{rules}
 use borrow.Author.Tests.{le-leb}
@@ -63,6 +63,15 @@ codes_same a b e h = ap sort_code (same_true sort_type (search rules) a b (sym e
 
 pub codes_differ : (a b : Sort) {t : Bool} → t ≡ sameb sort_type a b → t ≡ false → sort_code a ≡ sort_code b → ⊥
 codes_differ a b e h q = same_false sort_type a b (sym e ∙ h) (same-sort a b q)
+
+-- what `!=` says of `==`
+pub unlike : {b t : Bool} → t ≡ not b → t ≡ true → b ≡ false
+unlike {b = true} e h = absurd (false≢true (sym e ∙ h))
+unlike {b = false} e h = refl
+
+pub alike : {b t : Bool} → t ≡ not b → t ≡ false → b ≡ true
+alike {b = true} e h = refl
+alike {b = false} e h = absurd (true≢false (sym e ∙ h))
 
 -- ── slots with a sort by name ──
 

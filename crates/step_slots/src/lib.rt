@@ -21,6 +21,7 @@ pub struct Slot {
     pub payload: u64,
 }
 
+// Bytes and a place (`s, at` and `out, at`, also in step_header): callers work out places in stores; a `Writer` goes on from its own.
 // The number in the eight bytes from at, the lowest first.
 pub fn long_at(s: &[u8], at: usize) -> u64
     requires { at + 8 ≤ length s.now }
@@ -32,6 +33,8 @@ pub fn long_at(s: &[u8], at: usize) -> u64
 }
 
 // Are the n bytes from at zero?
+// `at` and `n`: a place in a header or in a slot, and how many bytes the layout leaves empty there; no value has the two.
+// (A `for` that returns, and no chain with `all`: its closure would need a contract that each index is below the bound.)
 pub fn all_zero(s: &[u8], at: usize, n: usize) -> bool
     requires { at + n ≤ length s.now }
     ensures { zeros n (drop at s.now) ≡ only_if result (got tt (drop (at + n) s.now)) }
@@ -78,7 +81,7 @@ pub fn put_long(out: &mut [u8], at: usize, n: u64) -> usize
     put_four(out, next, (n / 0x1_0000_0000) as u32)
 }
 
-// A sort, and three zero bytes. Four stores, which become one where the places are known (docs/SPEED.md).
+// A sort, and three zero bytes. (The sort as a byte: slots that are none are written too, decision 99.) Four stores, which become one where the places are known (docs/SPEED.md).
 fn put_sort(out: &mut [u8], at: usize, sort: u8) -> usize
     requires { at + 4 ≤ length out.old }
     ensures { Puts out.old out.new at result (sort ∷ 0 ∷ 0 ∷ 0 ∷ []) }

@@ -1,5 +1,6 @@
 -- Laws of the steppers' definitions, bottom up.
 pub mod Lists
+pub mod KindLaws
 pub mod Standing
 pub mod Landing
 pub mod SourceLands

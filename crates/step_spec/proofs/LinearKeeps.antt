@@ -12,7 +12,7 @@ use Rattle.syntax.specs.declared.names.Name.{Name}
 use Rattle.model.specs.Syntax.{Stmt, Substitute, Call, Let, Switch, Create, Invoke, Literal, Op, IfC, PrintI64, Exit, Prog}
 use Rattle.model.specs.Lists.{lookup, lookups}
 use Rattle.model.specs.Integers.{eval_op, holds}
-use Rattle.model.specs.Machine.{Value, int, cell, Entries, keys, values, xtor, closure, Cells, State, at, ended, Event, Switch', Invoke', Call', Outcome, pair_up, find_def, find_clause_lem, as_int, second, matched, Target, out, clo, invoked, Let', Create', Literal', Outside', PrintI64', Exit'}
+use Rattle.model.specs.Machine.{Value, int, cell, Entries, keys, values, xtor, closure, Cells, State, at, ended, Event, Switch', Invoke', Call', Outcome, pair_up, find_def, find_clause_lem, as_int, second, matched, Target, out, clo, invoked, Let', Create', Literal', Outside'}
 use Rattle.model.specs.Linear.{last_of, before_last, sources, targets, in_order_lem, stop_unless, shows_unless_twice, last_value_lem, size_of, linear_enter_lem, linear_work, linear_step_lem}
 use Rattle.image_spec.specs.Parse.{All}
 use Rattle.image_spec.specs.Records.{RecordOk}

@@ -8,7 +8,7 @@ use lib.ListN.{length, take, drop, length-map}
 use lib.Seq.{take-append-add, drop-append-add}
 use Rattle.model.specs.Machine.{Value, int, cell, outside}
 use Rattle.image_spec.specs.Parse.{Parsed, got, and_then, times, each, All}
-use Rattle.image_spec.proofs.ParseLaws.{Exact, both_exact, via_exact, code_exact, times_exact, zeros_exact, number_exact}
+use Rattle.image_spec.proofs.ParseLaws.{Exact, both_exact, code_exact, times_exact, zeros_exact, number_exact}
 use Rattle.step_spec.specs.Located.{Kept, held, made}
 use Rattle.step_slots.specs.Slots.{Slot, slot_bytes, SlotOk, slot_parser, is_cell_lem, value_slot}
 use Rattle.step_spec.specs.Store.{size_of, place_of, entry_slot, Block, block_of, blocks_of, block_slots, Raw, Header, header_of, header_bytes, raw_bytes, header_parser, raw_from, raw_parser, leading, blocks, cells_in, first_slot}

@@ -11,7 +11,6 @@ use lib.Dec.{ltb, eqb}
 use lib.ListN.{length, length-map}
 use mir.Syntax.{w64}
 use mir.Val.{SFits, to_z}
-use mir.Val as Val
 use mir.ValLaws.{to_z-Fits}
 use Rattle.syntax.specs.Context.{ids}
 use Rattle.syntax.specs.Sets.{distinct}

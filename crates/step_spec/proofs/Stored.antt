@@ -14,7 +14,7 @@ use Rattle.model.specs.Syntax.{Prog}
 use Rattle.model.specs.Machine.{Value, int, cell, outside}
 use Rattle.image_spec.specs.Parse.{each, All}
 use Rattle.step_spec.specs.Located.{Kept, held, made, Located, records_in}
-use Rattle.step_slots.specs.Slots.{Slot, slot_bytes, SlotOk, value_slot}
+use Rattle.step_slots.specs.Slots.{Slot, SlotOk, value_slot}
 use Rattle.step_spec.specs.Store.{place_of, entry_slot, block_of, blocks_of, block_slots, heap_of, environment_of, Raw, raw_of, raw_bytes, store_bytes, held_in, store_size, ValueFits, EntryFits, blocks, every_slot, statement_at, create_at, KeptFits, Fits, entry_ok, field_ok, cell_ok, cells_ok, formed, field_in, entry_in, kept_in, state_in, state_from}
 use Rattle.step_slots.proofs.SlotBytes.{slots_length}
 use Rattle.step_spec.proofs.Lists.{all-++, all_map, record_inside, bit-back, bit-small}

@@ -4,8 +4,8 @@ use mathlib.Core.Path.{◌≡◌, sym, ap, ◌∙◌}
 use mathlib.Core.Bool.{true}
 use mathlib.Core.List.{List, ◌++◌}
 use native.Mathlib.Omega.{arith}
-use lib.ListN.{length, take, drop, length-append}
-use lib.Seq.{sets}
+use lib.ListN.{length, take, length-append}
+use lib.Seq.{sets, take-length}
 use Rattle.syntax.specs.declared.names.VarId.{VarId}
 use Rattle.image_spec.specs.Parse.{each}
 use Rattle.image_write_parts.proofs.Putting.{sets_reserved}
@@ -22,11 +22,11 @@ module _ (s values : List ℕ) (n : ℕ) (count : length values ≡ 16 * n) (roo
   ts = slots_at values 0 n
 
   abbrev copied : List ℕ
-  copied = sets s 64 (take (16 * n) (drop 0 values))
+  copied = sets s 64 values
 
   -- the values as they stand in the store
-  taken : take (16 * n) (drop 0 values) ≡ each slot_bytes ts
-  taken = slots-taken values 0 n (slots-count values 0 n) slots
+  taken : values ≡ each slot_bytes ts
+  taken = sym (take-length values) ∙ (ap (λ (i : ℕ). take i values) count ∙ slots-taken values 0 n (slots-count values 0 n) slots)
 
   pub copied-slots : slots_at copied 64 n ≡ ts
   copied-slots =
@@ -38,7 +38,6 @@ module _ (s values : List ℕ) (n : ℕ) (count : length values ≡ 16 * n) (roo
   begun-bytes xs A x a =
       let R = each slot_bytes (renamed xs ts) in
       let r : length R ≡ 16 * n = slots_length (renamed xs ts) ∙ omega (arith, renamed-length xs ts (omega (arith, x, slots-count values 0 n)), x) in
-      let v : length (take (16 * n) (drop 0 values)) ≡ 16 * n = ap length taken ∙ (slots_length ts ∙ omega (arith, slots-count values 0 n)) in
       ap (λ (z : List Slot). sets (sets copied 64 (each slot_bytes (renamed xs z))) 0 A) copied-slots
       ∙ (sets_reserved A copied 0 64 R a
-      ∙ hidden s 64 (take (16 * n) (drop 0 values)) (A ++ R) (omega (arith, a, r, v, length-append A R)) (omega (arith, a, r, room, length-append A R)))
+      ∙ hidden s 64 values (A ++ R) (omega (arith, a, r, count, length-append A R)) (omega (arith, a, r, room, length-append A R)))

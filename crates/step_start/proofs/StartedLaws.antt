@@ -16,7 +16,7 @@ use Rattle.image_spec.specs.Parse.{each}
 use Rattle.image_spec.specs.Records.{Record}
 use Rattle.image_write_bytes.proofs.Covering.{hidden}
 use Rattle.image_read_parts.specs.Parts.{list_of}
-use Rattle.image_read_nodes.specs.Nodes.{record_at}
+use Rattle.image_read_parts.specs.Indexed.{record_at}
 use Rattle.step_slots.specs.Slots.{Slot, slot_bytes}
 use Rattle.step_slots.specs.Views.{slots_at}
 use Rattle.step_slots.proofs.SlotBytes.{slots-count}

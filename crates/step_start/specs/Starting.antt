@@ -8,7 +8,7 @@ use Rattle.syntax.specs.declared.names.Identifier.{Identifier}
 use Rattle.model.specs.Syntax.{Def, Prog}
 use Rattle.model.specs.Machine.{nth}
 use Rattle.image_spec.specs.Records.{definition}
-use Rattle.image_read_nodes.specs.Nodes.{record_at, At}
+use Rattle.image_read_parts.specs.Indexed.{record_at, At}
 use Rattle.image_open.specs.declared.opened.Opened.{Opened}
 use Rattle.step_spec.specs.declared.MachineKind.{MachineKind}
 use Rattle.step_spec.specs.declared.MachineKind.TheVariants.{Source, Linear}

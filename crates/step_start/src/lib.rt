@@ -18,6 +18,7 @@ ghost use Rattle.step_rows.specs.Rows.{ids_of};
 
 use image_kinds::kinds::Kind;
 use image_open::opened::Opened;
+use image_read_parts::record::RecordAt;
 use image_spec::Layout;
 use image_write_bytes::bytes::copy;
 use step_answer_spec::{Failure, Shown};
@@ -35,12 +36,12 @@ use step_spec::MachineKind;
 use step_values::are_given;
 
 // The header, and the values under the row's IDs.
+// `values` and `store`, here and below: one is read, the other written; the caller lends both.
 fn begin(row: &Row<'_>, values: &[u8], store: &mut [u8], header: Header)
     requires { (length values.now ≡ 16 * row.now.places.len) × ((64 + 16 * row.now.places.len ≤ length store.old) × (all_slots (slots_at values.now 0 row.now.places.len) ≡ true)) }
     ensures { store.new ≡ sets store.old 0 (header_bytes (tuple_of header) ++ each slot_bytes (renamed (ids_of row.now) (slots_at values.now 0 row.now.places.len))) }
 {
-    let len = row.places.len;
-    copy(values, 0, 16 * len, store, 64);
+    copy(values, store, 64);
     rename(row, store, 64);
     put_header(store, header);
 }
@@ -83,7 +84,12 @@ fn start_in(
     requires { HasDefinition stepper.now stepper.now.image.bytes.now i }
     ensures { StartsIn stepper.now stepper.now.image.bytes.now i values.now store.old store.new result }
 {
-    let row = list_row(&stepper.image, i, Kind::Definition);
+    let node = RecordAt {
+        image: stepper.image,
+        index: i,
+        kind: Kind::Definition,
+    };
+    let row = list_row(&node);
     let len = row.places.len;
     let none = Shown {
         steps: 0,
@@ -101,6 +107,7 @@ fn start_in(
     Ok(none)
 }
 
+// `definition` and `values`: what the caller asks for, in the order of the C interface; whether they fit is asked later.
 // A start on an image whose questions were answered with yes.
 fn start_on(
     opened: &Opened<'_>,

@@ -1,6 +1,6 @@
 -- Call: the source machine's. Assumes nothing.
 use Prim.Native.Nat.{ℕ, ◌+◌, ◌*◌, ◌≤◌}
-use mathlib.Core.Path.{◌≡◌, sym, ap, ◌∙◌, subst}
+use mathlib.Core.Path.{◌≡◌, sym, ap, ◌∙◌, subst₂}
 use mathlib.Core.Bool.{Bool, true, false}
 use mathlib.Core.List.{List, map}
 use mathlib.Core.Option.{Option}
@@ -33,10 +33,10 @@ use Rattle.step_enter.proofs.ParameterLaws.{with_values}
 use Rattle.step_enter.proofs.Around.{nothing_makes}
 use Rattle.step_statement_call.proofs.CallLaws.{cells, Calls, Laid}
 
--- what was gathered of the slots in one store, in the same store
-pub gathers_in : {s t : List ℕ} (from n : ℕ) {xs : List VarId} {scratch scratch' : List ℕ} {r : Bool} → s ≡ t → Gathers (slots_at s from n) xs scratch 0 scratch' r
-    → Gathers (slots_at t from n) xs scratch 0 scratch' r
-gathers_in from n {xs} {scratch} {scratch'} {r} e g = subst (λ (s : List ℕ). Gathers (slots_at s from n) xs scratch 0 scratch' r) e g
+-- what was gathered of the entries of a state is of the store and the header that it has
+pub gathers_in : {s t : List ℕ} {h k : Header} {xs : List VarId} {scratch scratch' : List ℕ} {r : Bool} → s ≡ t → h ≡ k → Gathers (entries_in s h) xs scratch 0 scratch' r
+    → Gathers (entries_in t k) xs scratch 0 scratch' r
+gathers_in {xs = xs} {scratch} {scratch'} {r} e f g = subst₂ (λ (s : List ℕ) (h : Header). Gathers (entries_in s h) xs scratch 0 scratch' r) e f g
 
 -- the values of all args, and their slots
 pub record AllFound (P : Prog) (l : Located) (label : Name) (ts : List Slot) (n : ℕ) : Type 0 where

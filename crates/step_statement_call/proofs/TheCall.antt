@@ -14,7 +14,8 @@ use Rattle.image_spec.specs.Kinds.{kind_of}
 use Rattle.image_spec.specs.Shape.{max_depth}
 use Rattle.image_directory.specs.declared.Frame.{Frame}
 use Rattle.image_directory.specs.Slots as image
-use Rattle.image_read_nodes.specs.Nodes.{record_at, first_of, At}
+use Rattle.image_read_nodes.specs.Nodes.{first_of}
+use Rattle.image_read_parts.specs.Indexed.{record_at, At}
 use Rattle.scope_check.proofs.CheckLaws.{stands-flat}
 use Rattle.step_spec.specs.Located.{Machine, Located, stmt_in, label_place}
 use Rattle.step_header.specs.declared.Header.{Header}

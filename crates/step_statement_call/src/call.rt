@@ -8,27 +8,28 @@ ghost use Rattle.step_gather.specs.Gathering.{renamed};
 ghost use Rattle.step_rule.specs.Rules.{Given, MakesAs};
 ghost use Rattle.step_enter.specs.Entering.{Enters};
 ghost use Rattle.step_statement_call.specs.Calling.{DefinitionOf};
-ghost use Rattle.image_read_nodes.specs.Opened.{record_of, IsAt};
 ghost use Rattle.step_write.specs.Working.{Fit, Keeps};
 ghost use Rattle.step_rows.specs.Rows.{ids_of};
+ghost use Rattle.image_read_parts.specs.Recorded.{record_in};
+ghost use Rattle.image_kinds.specs.declared.kinds.Kind.TheVariants.{Call};
 
-use image_directory::image::Image;
 use image_kinds::kinds::Kind;
 use image_read_nodes::first;
+use image_read_parts::record::RecordAt;
 use step_enter::{Parameters, enter, fetch, parameters_of};
 use step_gather::gather;
 use step_places::search::find_label;
 use step_places::stepper::Stepper;
 use step_rows::records::list_row;
 use step_rows::row::Row;
-use step_write::{EventHead, Step, Stop, Work, store_of};
+use step_write::{EventHead, Step, Stop, Work, state_of, store_of};
 
-// The label of the Call at this place.
-fn label_of(image: &Image<'_>, position: u32) -> u32
-    requires { IsAt image.now position 3 }
-    ensures { result ≡ (first_of (record_of image.now position)).name.0 }
+// The label of a Call.
+fn label_of(node: &RecordAt<'_>) -> u32
+    requires { node.now.kind ≡ Call }
+    ensures { result ≡ (first_of (record_in node.now)).name.0 }
 {
-    let label = first(image, position as usize, Kind::Call);
+    let label = first(node);
     u32::from(label.name.0)
 }
 
@@ -37,7 +38,12 @@ fn definition_of<'a>(stepper: &Stepper<'a>, label: u32) -> Option<Parameters<'a>
     ensures { DefinitionOf stepper.now stepper.now.image.bytes.now label result }
 {
     let j = find_label(stepper, label)?;
-    Some(parameters_of(&stepper.image, j, Kind::Definition))
+    let node = RecordAt {
+        image: stepper.image,
+        index: j,
+        kind: Kind::Definition,
+    };
+    Some(parameters_of(&node))
 }
 
 // A step to the body, with the values at the beginning of scratch as the only entries. The label is shown.
@@ -70,13 +76,17 @@ pub fn source(
     requires { Given stepper.now work.old 3 × (2080 ≤ length scratch.old) }
     ensures { MakesAs source_machine stepper.now work.old work.new result × Keeps work.old work.new }
 {
-    let args = list_row(&stepper.image, work.header.position as usize, Kind::Call);
-    let from = 64 + 16 * work.header.heap as usize;
-    let entries = work.header.entries as usize;
-    if !gather(&args, store_of(work), from, entries, scratch, 0) {
+    let node = RecordAt {
+        image: stepper.image,
+        index: work.header.position as usize,
+        kind: Kind::Call,
+    };
+    let args = list_row(&node);
+    let state = state_of(work);
+    if !gather(&args, &state, scratch, 0) {
         return Err(Stop::NoStep);
     }
-    let label = label_of(&stepper.image, work.header.position);
+    let label = label_of(&node);
     let called = definition_of(stepper, label).ok_or(Stop::NoStep)?;
     if called.row.places.len != args.places.len {
         return Err(Stop::NoStep);
@@ -95,7 +105,12 @@ pub fn linear(
 {
     let from = 64 + 16 * work.header.heap as usize;
     let entries = work.header.entries as usize;
-    let label = label_of(&stepper.image, work.header.position);
+    let node = RecordAt {
+        image: stepper.image,
+        index: work.header.position as usize,
+        kind: Kind::Call,
+    };
+    let label = label_of(&node);
     let called = definition_of(stepper, label).ok_or(Stop::NoStep)?;
     if called.row.places.len != entries {
         return Err(Stop::NoStep);

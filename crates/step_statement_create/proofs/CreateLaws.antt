@@ -11,7 +11,7 @@ use Rattle.syntax.specs.declared.names.Identifier.{Identifier}
 use Rattle.syntax.specs.declared.types.Ty.{Ty}
 use Rattle.model.specs.Syntax.{Stmt, Create, Clauses, Prog}
 use Rattle.model.specs.Sizes.{count_clauses}
-use Rattle.model.specs.Machine.{cell, Entries, closure, Cells, at, shows, Create'}
+use Rattle.model.specs.Machine.{Entries, closure, Cells, at, shows, Create'}
 use Rattle.image_spec.specs.Parse.{All}
 use Rattle.image_spec.specs.Records.{Record, create}
 use Rattle.image_spec.specs.Kinds.{kind_of, clauses_of}
@@ -19,9 +19,10 @@ use Rattle.image_places_spec.specs.Views.{record_of}
 use Rattle.image_directory.specs.Slots as image
 use Rattle.image_directory.specs.declared.Frame.{Frame}
 use Rattle.image_read_nodes.specs.declared.Follows.{Follows}
-use Rattle.image_read_nodes.specs.Nodes.{record_at, first_of, At, Followed}
+use Rattle.image_read_nodes.specs.Nodes.{first_of, Followed}
+use Rattle.image_read_parts.specs.Indexed.{record_at, At}
 use Rattle.step_slots.specs.Slots.{Slot, slot}
-use Rattle.step_spec.specs.Located.{Machine, made, Located, records_in, stmt_in, cell_in, project, bodies_place, next_place_lem}
+use Rattle.step_spec.specs.Located.{Machine, made, Located, stmt_in, cell_in, project, bodies_place, next_place_lem}
 use Rattle.step_spec.specs.Store.{environment_of, EntryFits}
 use Rattle.step_spec.specs.Events.{event_bytes, event_head}
 use Rattle.step_header.specs.declared.Header.{Header}

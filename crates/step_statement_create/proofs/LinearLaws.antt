@@ -22,7 +22,8 @@ use Rattle.image_spec.proofs.DirectoryLaws.{and_left}
 use Rattle.image_directory.specs.declared.Frame.{Frame}
 use Rattle.image_directory.specs.Slots as image
 use Rattle.image_directory.specs.Slots.{Ready}
-use Rattle.image_read_nodes.specs.Nodes.{record_at, first_of, At}
+use Rattle.image_read_nodes.specs.Nodes.{first_of}
+use Rattle.image_read_parts.specs.Indexed.{record_at, At}
 use Rattle.image_read_nodes.proofs.NodeLaws.{record_ok}
 use Rattle.step_slots.specs.Slots.{Slot, slot_bytes}
 use Rattle.step_spec.specs.Located.{linear_machine, made, Located, stmt_in, cell_in, project, located_step}

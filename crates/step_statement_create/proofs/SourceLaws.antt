@@ -12,7 +12,8 @@ use Rattle.image_spec.specs.Parse.{each}
 use Rattle.image_spec.specs.Records.{Record}
 use Rattle.image_directory.specs.declared.Frame.{Frame}
 use Rattle.image_directory.specs.Slots as image
-use Rattle.image_read_nodes.specs.Nodes.{first_of, At}
+use Rattle.image_read_nodes.specs.Nodes.{first_of}
+use Rattle.image_read_parts.specs.Indexed.{At}
 use Rattle.step_slots.specs.Slots.{Slot, slot_bytes}
 use Rattle.step_slots.proofs.SlotBytes.{slots-taken, slots-count}
 use Rattle.step_spec.specs.Located.{source_machine, made, Located, cell_in, located_step}

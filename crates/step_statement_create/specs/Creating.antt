@@ -2,7 +2,8 @@
 use Rattle.std.specs.Prelude.{ℕ, ◌+◌, ◌-◌, ◌*◌, ◌≡◌, false, List, ◌++◌, take, drop, Result}
 use Rattle.image_spec.specs.Kinds.{clauses_of}
 use Rattle.image_directory.specs.declared.Frame.{Frame}
-use Rattle.image_read_nodes.specs.Nodes.{record_at, first_of}
+use Rattle.image_read_nodes.specs.Nodes.{first_of}
+use Rattle.image_read_parts.specs.Indexed.{record_at}
 use Rattle.step_slots.specs.Slots.{Slot, slot, slot_bytes}
 use Rattle.step_spec.specs.Events.{event_head}
 use Rattle.step_header.specs.declared.Header.{Header}

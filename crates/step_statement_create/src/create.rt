@@ -6,11 +6,12 @@ ghost use Rattle.step_spec.specs.Located.{source_machine, linear_machine};
 ghost use Rattle.step_write.specs.Writing.{head_bytes};
 ghost use Rattle.step_rule.specs.Rules.{Given, MakesAs};
 ghost use Rattle.step_statement_create.specs.Creating.{PartsOf, closed, cell_slot_lem, var_slot_lem, Closes};
-ghost use Rattle.image_read_nodes.specs.Opened.{IsAt};
+ghost use Rattle.image_read_parts.specs.Indexed.{IsAt};
 ghost use Rattle.step_write.specs.Working.{Fit, Keeps};
 
 use image_kinds::kinds::Kind;
 use image_read_nodes::{first, parts_of};
+use image_read_parts::record::RecordAt;
 use image_write_bytes::bytes::copy;
 use step_header::Header;
 use step_places::ends::hop;
@@ -33,7 +34,12 @@ fn read_parts(stepper: &Stepper<'_>, position: u32) -> Parts
     ensures { PartsOf stepper.now.image.frame stepper.now.image.bytes.now stepper.now.ends.now position result }
 {
     let i = position as usize;
-    let var = first(&stepper.image, i, Kind::Create);
+    let node = RecordAt {
+        image: stepper.image,
+        index: i,
+        kind: Kind::Create,
+    };
+    let var = first(&node);
     let follows = parts_of(&stepper.image, i);
     let body = hop(stepper.ends, i + 1, follows.clauses);
     Parts {
@@ -113,12 +119,13 @@ pub fn source(stepper: &Stepper<'_>, work: &mut Work<'_, '_>) -> Result<Step, St
 }
 
 // A cell that holds the k entries from byte `from` of the store, at the beginning of `scratch`.
+// `from` and `k`: where the entries begin that the cell takes, and how many they are; on the source machine it takes all.
 fn pack(store: &[u8], from: usize, k: usize, cell: Slot, scratch: &mut [u8])
     requires { (from + 16 * k ≤ length store.now) × (16 * (k + 1) ≤ length scratch.old) }
     ensures { take (16 * (k + 1)) scratch.new ≡ slot_bytes (as_slot cell) ++ take (16 * k) (drop from store.now) }
 {
     let next = put_slot(scratch, 0, cell);
-    copy(store, from, 16 * k, scratch, next);
+    copy(&store[from..from + 16 * k], scratch, next);
 }
 
 // The last k entries become the cell's, and the others stay before var.
@@ -151,7 +158,12 @@ pub fn linear(
     requires { Given stepper.now work.old 6 × (2080 ≤ length scratch.old) }
     ensures { MakesAs linear_machine stepper.now work.old work.new result × Keeps work.old work.new }
 {
-    let row = environment_row(&stepper.image, work.header.position as usize).ok_or(Stop::NoStep)?;
+    let node = RecordAt {
+        image: stepper.image,
+        index: work.header.position as usize,
+        kind: Kind::Create,
+    };
+    let row = environment_row(&node).ok_or(Stop::NoStep)?;
     if (work.header.entries as usize) < row.places.len {
         return Err(Stop::NoStep);
     }

@@ -17,7 +17,7 @@ use Rattle.model.specs.Source.{source_work}
 use Rattle.model.specs.Linear.{linear_work}
 use Rattle.image_spec.specs.Records.{exit}
 use Rattle.image_directory.specs.declared.Frame.{Frame}
-use Rattle.image_read_nodes.specs.Nodes.{record_at}
+use Rattle.image_read_parts.specs.Indexed.{record_at}
 use Rattle.step_slots.specs.Slots.{Slot}
 use Rattle.step_spec.specs.declared.MachineKind.{MachineKind}
 use Rattle.step_spec.specs.declared.MachineKind.TheVariants.{Source, Linear}

@@ -7,9 +7,10 @@ ghost use Rattle.step_header.specs.States.{heap_of};
 ghost use Rattle.step_slots.specs.Slots.{as_slot};
 
 use image_kinds::kinds::Kind;
+use image_read_parts::record::RecordAt;
 use pass_records as records;
+use step_entries::slot_of;
 use step_header::state::State;
-use step_lookup::slot_of;
 use step_places::stepper::Stepper;
 use step_slots::sort::Sort;
 use step_slots::{Slot, read};
@@ -43,7 +44,12 @@ pub fn exit(stepper: &Stepper<'_>, work: &mut Work<'_, '_>) -> Result<Step, Stop
     requires { Given stepper.now work.old 13 }
     ensures { MakesAs (machine_in stepper.now) stepper.now work.old work.new result × Keeps work.old work.new }
 {
-    let statement = records::exit(&stepper.image, work.header.position as usize);
+    let node = RecordAt {
+        image: stepper.image,
+        index: work.header.position as usize,
+        kind: Kind::Exit,
+    };
+    let statement = records::exit(&node);
     let header = work.header;
     let state = state_of(work);
     let value = slot_of(&state, statement.var.id.0).ok_or(Stop::NoStep)?;

@@ -20,7 +20,7 @@ use Rattle.image_spec.specs.Shape.{flatten_clauses, max_depth}
 use Rattle.image_places_spec.specs.Places.{StmtStands}
 use Rattle.image_directory.specs.declared.Frame.{Frame}
 use Rattle.image_directory.specs.Slots as image
-use Rattle.image_read_nodes.specs.Nodes.{record_at}
+use Rattle.image_read_parts.specs.Indexed.{record_at}
 use Rattle.step_spec.specs.declared.MachineKind.{MachineKind}
 use Rattle.step_spec.specs.declared.MachineKind.TheVariants.{Source, Linear}
 use Rattle.step_spec.specs.Located.{Machine, Located, records_in, stmt_in, cell_in, project, second_place, next_place_lem, located_step}

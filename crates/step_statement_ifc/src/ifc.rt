@@ -9,6 +9,7 @@ ghost use Rattle.step_header.specs.States.{entries_of};
 ghost use Rattle.step_write.specs.Working.{Fit, Keeps};
 
 use image_kinds::kinds::Kind;
+use image_read_parts::record::RecordAt;
 use pass_records as records;
 use step_arithmetic::comparison::holds;
 use step_header::state::State;
@@ -49,7 +50,12 @@ pub fn ifc(stepper: &Stepper<'_>, work: &mut Work<'_, '_>) -> Result<Step, Stop>
     ensures { MakesAs (machine_in stepper.now) stepper.now work.old work.new result × Keeps work.old work.new }
 {
     let position = work.header.position as usize;
-    let statement = records::ifc(&stepper.image, position);
+    let node = RecordAt {
+        image: stepper.image,
+        index: position,
+        kind: Kind::IfC,
+    };
+    let statement = records::ifc(&node);
     let header = work.header;
     let state = state_of(work);
     let a = integer_of(&state, statement.fst.id.0).ok_or(Stop::NoStep)?;

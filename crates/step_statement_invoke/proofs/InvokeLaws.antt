@@ -14,7 +14,7 @@ use Rattle.syntax.specs.declared.names.VarId.{VarId}
 use Rattle.syntax.specs.declared.names.Identifier.{Identifier}
 use Rattle.syntax.specs.declared.types.Ty.{Ty}
 use Rattle.model.specs.Syntax.{Stmt, Invoke, Clauses, Prog}
-use Rattle.model.specs.Machine.{Value, outside, Entries, at, ended, Invoke', Outside', Outcome, shows, halts, or_halt, find_clause_lem, Target, out, clo, invoked}
+use Rattle.model.specs.Machine.{Value, Entries, at, ended, Invoke', Outside', Outcome, shows, halts, or_halt, find_clause_lem, Target, out, clo, invoked}
 use Rattle.image_spec.specs.Parse.{each}
 use Rattle.image_spec.specs.Records.{Record, invoke}
 use Rattle.image_spec.specs.Kinds.{kind_of}
@@ -23,7 +23,7 @@ use Rattle.image_places_spec.specs.Views.{clauses_in}
 use Rattle.image_directory.specs.declared.Frame.{Frame}
 use Rattle.image_directory.specs.Slots as image
 use Rattle.image_directory.specs.Slots.{Ready}
-use Rattle.image_read_nodes.specs.Nodes.{record_at, At}
+use Rattle.image_read_parts.specs.Indexed.{record_at, At}
 use Rattle.step_slots.specs.Slots.{Slot, slot_bytes, value_slot}
 use Rattle.step_slots.proofs.SlotBytes.{slots-taken, slots-count}
 use Rattle.step_spec.specs.Located.{Machine, Located, stmt_in, project, closure_place, clause_place, next_place_lem, is_stop, located_step}

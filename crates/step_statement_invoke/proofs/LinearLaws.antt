@@ -14,7 +14,7 @@ use Rattle.image_spec.specs.Parse.{All}
 use Rattle.image_spec.specs.Records.{Record}
 use Rattle.image_directory.specs.declared.Frame.{Frame}
 use Rattle.image_directory.specs.Slots.{Ready}
-use Rattle.image_read_nodes.specs.Nodes.{record_at, At}
+use Rattle.image_read_parts.specs.Indexed.{record_at, At}
 use Rattle.step_slots.specs.Slots.{Slot}
 use Rattle.step_slots.specs.Views.{no_slot, slot_at, slots_at}
 use Rattle.step_spec.specs.Located.{linear_machine, Located, stmt_in, located_step}

@@ -18,7 +18,8 @@ use Rattle.image_spec.specs.Records.{Record}
 use Rattle.image_directory.specs.declared.Frame.{Frame}
 use Rattle.image_directory.specs.Slots.{Ready}
 use Rattle.image_read_parts.specs.Parts.{list_of}
-use Rattle.image_read_nodes.specs.Nodes.{record_at, At, first_of}
+use Rattle.image_read_nodes.specs.Nodes.{first_of}
+use Rattle.image_read_parts.specs.Indexed.{record_at, At}
 use Rattle.step_slots.specs.Slots.{Slot, value_slot}
 use Rattle.step_slots.specs.Views.{no_slot}
 use Rattle.step_spec.specs.Located.{source_machine, Located, stmt_in, project, located_step}

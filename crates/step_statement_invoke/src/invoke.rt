@@ -9,19 +9,20 @@ ghost use Rattle.step_write.specs.Working.{Keeps};
 ghost use Rattle.step_write.specs.Writing.{head_bytes};
 ghost use Rattle.step_rule.specs.Rules.{Given, MakesAs};
 ghost use Rattle.step_statement_invoke.specs.Invoking.{EntranceOf, Enterable, EntersClause, over, Invokes};
-ghost use Rattle.image_read_nodes.specs.Opened.{record_of, IsAt};
 ghost use Rattle.step_slots.specs.Slots.{as_slot};
 ghost use Rattle.step_rows.specs.Rows.{ids_of};
 ghost use Rattle.step_cells.specs.Cells.{as_cell};
+ghost use Rattle.image_read_parts.specs.Recorded.{record_in};
+ghost use Rattle.image_kinds.specs.declared.kinds.Kind.TheVariants.{Invoke};
 
-use image_directory::image::Image;
 use image_kinds::kinds::Kind;
 use image_read_nodes::first;
+use image_read_parts::record::RecordAt;
 use step_cells::{Cell, cell_of};
 use step_enter::{Parameters, clause_of, fetch};
+use step_entries::slot_of;
 use step_gather::{gather, rename};
 use step_header::Header;
-use step_lookup::slot_of;
 use step_places::stepper::Stepper;
 use step_rows::records::list_row;
 use step_rows::row::Row;
@@ -31,15 +32,17 @@ use step_slots::{Slot, read};
 use step_tags::tag_of;
 use step_write::{EventHead, Step, Stop, Work, finish_entering, state_of, store_of};
 
-// The name of the tag of the Invoke at index i.
-fn read_tag(image: &Image<'_>, i: usize) -> u32
-    requires { IsAt image.now i 7 }
-    ensures { result ≡ (tag_in (record_of image.now i)).name.0 }
+// The name of the tag of an Invoke.
+fn read_tag(node: &RecordAt<'_>) -> u32
+    requires { node.now.kind ≡ Invoke }
+    ensures { result ≡ (tag_in (record_in node.now)).name.0 }
 {
-    let tag = tag_of(image, i, Kind::Invoke);
+    let tag = tag_of(node);
     u32::from(tag.name.0)
 }
 
+// `tag` and `k`: a name that the record has, and a count, of its args on one machine and of a state's entries on the other.
+// `cell` and `tag`: what a store has, and what the image asks of it. `scratch` and `value`: bytes that are lent, and a value that was read.
 // The parameters of the first clause with this tag of the closure in a cell; absent also where they are not k, or the cell is no closure.
 fn entrance_of<'a>(stepper: &Stepper<'a>, cell: Cell, tag: u32, k: usize) -> Option<Parameters<'a>>
     ensures { EntranceOf stepper.now.image.frame stepper.now.image.bytes.now (as_cell cell) tag k result }
@@ -158,15 +161,17 @@ pub fn source(
     requires { Given stepper.now work.old 7 × (2080 ≤ length scratch.old) }
     ensures { MakesAs source_machine stepper.now work.old work.new result × Keeps work.old work.new }
 {
-    let i = work.header.position as usize;
-    let from = 64 + 16 * work.header.heap as usize;
-    let n = work.header.entries as usize;
-    let var = first(&stepper.image, i, Kind::Invoke);
+    let node = RecordAt {
+        image: stepper.image,
+        index: work.header.position as usize,
+        kind: Kind::Invoke,
+    };
+    let var = first(&node);
     let state = state_of(work);
     let value = slot_of(&state, var.id.0).ok_or(Stop::NoStep)?;
-    let tag = read_tag(&stepper.image, i);
-    let row = list_row(&stepper.image, i, Kind::Invoke);
-    if !gather(&row, store_of(work), from, n, scratch, 0) {
+    let tag = read_tag(&node);
+    let row = list_row(&node);
+    if !gather(&row, &state, scratch, 0) {
         return Err(Stop::NoStep);
     }
     source_enter(stepper, work, scratch, value, tag, row.places.len)
@@ -213,6 +218,11 @@ pub fn linear(
     }
     let k = n - 1;
     let value = read(store_of(work), 64 + 16 * heap + 16 * k).ok_or(Stop::NoStep)?;
-    let tag = read_tag(&stepper.image, work.header.position as usize);
+    let node = RecordAt {
+        image: stepper.image,
+        index: work.header.position as usize,
+        kind: Kind::Invoke,
+    };
+    let tag = read_tag(&node);
     linear_enter(stepper, work, scratch, value, tag, k)
 }

@@ -1,34 +1,26 @@
 -- Let: the statement by its record, how long its list is, and its step in slots, of either machine. Assumes nothing.
-use Prim.Native.Nat.{ℕ, ◌+◌, ◌≤◌}
+use Prim.Native.Nat.{ℕ, ◌+◌}
 use mathlib.Core.Path.{◌≡◌, refl, sym, ap, ap₂, ◌∙◌, subst}
-use mathlib.Core.Bool.{true}
 use mathlib.Core.List.{List, [], ◌∷◌, ◌++◌, map, append-nil}
 use mathlib.Core.Option.{some}
 use native.Mathlib.Omega.{arith}
-use lib.ListN.{length, length-map}
-use Rattle.syntax.specs.Context.{Context, ids, id_of}
+use lib.ListN.{length}
+use Rattle.syntax.specs.Context.{Context}
 use Rattle.syntax.specs.declared.names.Identifier.{Identifier}
 use Rattle.syntax.specs.declared.types.Ty.{Ty}
 use Rattle.model.specs.Syntax.{Stmt, Let, Prog}
-use Rattle.model.specs.Machine.{Value, cell, Entries, xtor, Cells, at, shows, Let'}
+use Rattle.model.specs.Machine.{Value, Entries, xtor, Cells, at, shows, Let'}
 use Rattle.image_spec.specs.Parse.{All}
 use Rattle.image_spec.specs.Records.{Record, let'}
 use Rattle.image_spec.specs.Kinds.{kind_of}
 use Rattle.image_spec.specs.Shape.{flatten_clauses}
 use Rattle.image_directory.specs.declared.Frame.{Frame}
-use Rattle.image_directory.specs.Slots.{Ready}
-use Rattle.image_read_parts.specs.Parts.{list_of}
-use Rattle.image_read_nodes.specs.Nodes.{record_at, At, has_list}
-use Rattle.image_read_nodes.proofs.NodeLaws.{record_ok}
-use Rattle.image_read_nodes.proofs.ListLaws.{list-stands}
+use Rattle.image_read_parts.specs.Indexed.{record_at, At}
 use Rattle.step_slots.specs.Slots.{Slot, slot, value_slot}
 use Rattle.step_spec.specs.Located.{Machine, held, Located, stmt_in, cell_in, project, next_place_lem}
 use Rattle.step_spec.specs.Store.{place_of, environment_of, ValueFits}
 use Rattle.step_spec.specs.Events.{event_bytes, event_head}
 use Rattle.step_header.specs.declared.Header.{Header}
-use Rattle.step_rows.specs.declared.row.Row.{Row}
-use Rattle.step_rows.specs.Rows.{ids_of}
-use Rattle.step_rows.proofs.RowLaws.{row-length}
 use Rattle.step_rule.specs.Rules.{ImageOf, Stored}
 use Rattle.step_rule.proofs.Views.{viewed}
 use Rattle.step_rule.proofs.Leads.{Leads}
@@ -38,12 +30,6 @@ use Rattle.step_last.proofs.NewCells.{cells_count}
 use Rattle.step_statement_let.specs.Letting.{kept, cell_slot_lem}
 
 -- ── the statement ──
-
--- a list has at most 128 bindings
-pub row-short : (g : Frame) (s : List ℕ) (i k : ℕ) (row : Row) → Ready g s → At g s i k → has_list k ≡ true → ids_of row ≡ ids (list_of (record_at g s i)) → row.places.len ≤ 128
-row-short g s i k row ready a h w =
-    let Γ = list_of (record_at g s i) in
-    omega (arith, row-length row w, length-map Γ id_of, (list-stands g.id (record_at g s i) k a.kind h (record_ok g s i k ready a)).fits.0)
 
 -- it is a Let, and this is its record
 pub record Letting (t : Stmt) (r : Record) : Type 0 where

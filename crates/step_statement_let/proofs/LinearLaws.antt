@@ -17,7 +17,8 @@ use Rattle.image_spec.specs.Records.{Record}
 use Rattle.image_spec.proofs.DirectoryLaws.{and_left}
 use Rattle.image_directory.specs.declared.Frame.{Frame}
 use Rattle.image_read_parts.specs.Parts.{list_of}
-use Rattle.image_read_nodes.specs.Nodes.{record_at, first_of, At}
+use Rattle.image_read_nodes.specs.Nodes.{first_of}
+use Rattle.image_read_parts.specs.Indexed.{record_at, At}
 use Rattle.step_slots.specs.Slots.{Slot, slot_bytes, value_slot}
 use Rattle.step_spec.specs.Located.{linear_machine, held, Located, stmt_in, cell_in, project, located_step}
 use Rattle.step_spec.specs.Store.{place_of, environment_of, ValueFits, EntryFits}

@@ -17,7 +17,8 @@ use Rattle.image_spec.specs.Parse.{each}
 use Rattle.image_spec.specs.Records.{Record}
 use Rattle.image_directory.specs.declared.Frame.{Frame}
 use Rattle.image_read_parts.specs.Parts.{list_of}
-use Rattle.image_read_nodes.specs.Nodes.{record_at, first_of, At}
+use Rattle.image_read_nodes.specs.Nodes.{first_of}
+use Rattle.image_read_parts.specs.Indexed.{record_at, At}
 use Rattle.step_slots.specs.Slots.{Slot, slot_bytes}
 use Rattle.step_slots.proofs.SlotBytes.{slots-taken, slots-count}
 use Rattle.step_spec.specs.Located.{source_machine, held, Located, stmt_in, cell_in, project, located_step}
@@ -44,11 +45,6 @@ use Rattle.step_tags.specs.Tags.{tag_in}
 use Rattle.step_statement_let.specs.declared.let_.Parts.{Parts}
 use Rattle.step_statement_let.specs.Letting.{PartsOf, kept, cell_slot_lem, var_slot_lem, Packs, Adds}
 use Rattle.step_statement_let.proofs.LetLaws.{Letting, let_here, lead_let}
-
--- what was packed from a state, of the store and the header that it has
-pub packs_as : {store store' out : List ℕ} {h h' : Header} {xs : List VarId} {parts : Parts} {b : Bool} → store ≡ store' → h ≡ h'
-    → Packs (entries_in store h) xs h parts out b → Packs (entries_in store' h') xs h' parts out b
-packs_as {out = out} {xs = xs} {parts} {b} e f w = subst (λ (z : List ℕ × Header). Packs (entries_in z.0 z.1) xs z.1 parts out b) (λ i. (e i, f i)) w
 
 module _ {P : Prog} {frame : Frame} {definitions : ℕ} {bytes store : List ℕ} {h : Header} {l : Located} (p : ImageOf P frame definitions bytes) (o : Stored source_machine P store h l)
     (a : At frame bytes h.position 4) where

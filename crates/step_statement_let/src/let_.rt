@@ -8,14 +8,15 @@ ghost use Rattle.step_entries.specs.Named.{under};
 ghost use Rattle.step_write.specs.Writing.{head_bytes};
 ghost use Rattle.step_rule.specs.Rules.{Given, MakesAs};
 ghost use Rattle.step_statement_let.specs.Letting.{PartsOf, kept, cell_slot_lem, var_slot_lem, Packs, Adds};
-ghost use Rattle.image_read_nodes.specs.Opened.{record_of, IsAt};
 ghost use Rattle.step_header.specs.States.{entries_of};
 ghost use Rattle.step_rows.specs.Rows.{ids_of};
 ghost use Rattle.step_write.specs.Working.{Fit, Keeps};
+ghost use Rattle.image_read_parts.specs.Recorded.{record_in};
+ghost use Rattle.image_kinds.specs.declared.kinds.Kind.TheVariants.{Let};
 
-use image_directory::image::Image;
 use image_kinds::kinds::Kind;
 use image_read_nodes::first;
+use image_read_parts::record::RecordAt;
 use image_write_bytes::bytes::copy;
 use step_gather::{erase, gather};
 use step_header::Header;
@@ -36,15 +37,14 @@ pub struct Parts<'a> {
     pub args: Row<'a>,
 }
 
-// The parts of the Let at this place.
-fn read_parts<'a>(image: &Image<'a>, position: u32) -> Parts<'a>
-    requires { IsAt image.now position 4 }
-    ensures { PartsOf (record_of image.now position) result }
+// The parts of a Let.
+fn read_parts<'a>(node: &RecordAt<'a>) -> Parts<'a>
+    requires { node.now.kind ≡ Let }
+    ensures { PartsOf (record_in node.now) result }
 {
-    let i = position as usize;
-    let var = first(image, i, Kind::Let);
-    let tag = tag_of(image, i, Kind::Let);
-    let args = list_row(image, i, Kind::Let);
+    let var = first(node);
+    let tag = tag_of(node);
+    let args = list_row(node);
     Parts {
         id: var.id.0,
         tag: u32::from(tag.name.0),
@@ -108,11 +108,9 @@ fn pack_found(state: &State<'_>, parts: &Parts<'_>, scratch: &mut [u8]) -> bool
     ensures { Packs (entries_of state.now) (ids_of parts.now.args) state.now.header parts.now scratch.new result }
 {
     let header = state.header;
-    let from = 64 + 16 * header.heap as usize;
-    let entries = header.entries as usize;
     let args = &parts.args;
     put_slot(scratch, 0, cell_slot(header, parts.tag));
-    if !gather(args, state.store, from, entries, scratch, 16) {
+    if !gather(args, state, scratch, 16) {
         return false;
     }
     put_slot(
@@ -149,7 +147,12 @@ pub fn source(
     requires { Given stepper.now work.old 4 × (2080 ≤ length scratch.old) }
     ensures { MakesAs source_machine stepper.now work.old work.new result × Keeps work.old work.new }
 {
-    let parts = read_parts(&stepper.image, work.header.position);
+    let node = RecordAt {
+        image: stepper.image,
+        index: work.header.position as usize,
+        kind: Kind::Let,
+    };
+    let parts = read_parts(&node);
     let state = state_of(work);
     if !pack_found(&state, &parts, scratch) {
         return Err(Stop::NoStep);
@@ -157,6 +160,7 @@ pub fn source(
     add_before(work, scratch, &parts, parts.args.places.len)
 }
 
+// `tag` and `k`: all that the linear machine needs of a Let's parts here; the IDs of its args are not read.
 // A cell that holds the values of the last k entries, at the beginning of `scratch`.
 fn pack_last(state: &State<'_>, tag: u32, k: usize, scratch: &mut [u8])
     requires { (k ≤ state.now.header.entries) × (16 * (k + 1) ≤ length scratch.old) }
@@ -166,13 +170,8 @@ fn pack_last(state: &State<'_>, tag: u32, k: usize, scratch: &mut [u8])
     let heap = header.heap as usize;
     let others = header.entries as usize - k;
     put_slot(scratch, 0, cell_slot(header, tag));
-    copy(
-        state.store,
-        64 + 16 * heap + 16 * others,
-        16 * k,
-        scratch,
-        16,
-    );
+    let from = 64 + 16 * heap + 16 * others;
+    copy(&state.store[from..from + 16 * k], scratch, 16);
     erase(scratch, 16, k);
 }
 
@@ -212,7 +211,12 @@ pub fn linear(
     requires { Given stepper.now work.old 4 × (2080 ≤ length scratch.old) }
     ensures { MakesAs linear_machine stepper.now work.old work.new result × Keeps work.old work.new }
 {
-    let parts = read_parts(&stepper.image, work.header.position);
+    let node = RecordAt {
+        image: stepper.image,
+        index: work.header.position as usize,
+        kind: Kind::Let,
+    };
+    let parts = read_parts(&node);
     let k = parts.args.places.len;
     if (work.header.entries as usize) < k {
         return Err(Stop::NoStep);

@@ -16,7 +16,7 @@ use Rattle.model.specs.Linear.{linear_work}
 use Rattle.image_spec.specs.Records.{literal}
 use Rattle.image_spec.specs.Shape.{flatten_clauses}
 use Rattle.image_directory.specs.declared.Frame.{Frame}
-use Rattle.image_read_nodes.specs.Nodes.{record_at}
+use Rattle.image_read_parts.specs.Indexed.{record_at}
 use Rattle.step_spec.specs.declared.MachineKind.{MachineKind}
 use Rattle.step_spec.specs.declared.MachineKind.TheVariants.{Source, Linear}
 use Rattle.step_spec.specs.Located.{Located, stmt_in, cell_in, project, next_place_lem, located_step}

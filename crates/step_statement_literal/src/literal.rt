@@ -5,6 +5,7 @@ ghost use Rattle.std.specs.Prelude.{length, ◌≤◌};
 
 use image_integers::bits;
 use image_kinds::kinds::Kind;
+use image_read_parts::record::RecordAt;
 use pass_records as records;
 use step_bind::bind;
 use step_places::stepper::Stepper;
@@ -18,7 +19,12 @@ pub fn literal(
     requires { Given stepper.now work.old 8 × (2080 ≤ length scratch.old) }
     ensures { MakesAs (machine_in stepper.now) stepper.now work.old work.new result × Keeps work.old work.new }
 {
-    let statement = records::literal(&stepper.image, work.header.position as usize);
+    let node = RecordAt {
+        image: stepper.image,
+        index: work.header.position as usize,
+        kind: Kind::Literal,
+    };
+    let statement = records::literal(&node);
     bind(
         stepper.machine,
         work,

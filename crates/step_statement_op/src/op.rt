@@ -5,6 +5,7 @@ ghost use Rattle.std.specs.Prelude.{length, ◌≤◌};
 
 use image_integers::bits;
 use image_kinds::kinds::Kind;
+use image_read_parts::record::RecordAt;
 use pass_records as records;
 use step_arithmetic::operation::evaluate;
 use step_bind::bind;
@@ -16,7 +17,12 @@ pub fn op(stepper: &Stepper<'_>, work: &mut Work<'_, '_>, scratch: &mut [u8]) ->
     requires { Given stepper.now work.old 9 × (2080 ≤ length scratch.old) }
     ensures { MakesAs (machine_in stepper.now) stepper.now work.old work.new result × Keeps work.old work.new }
 {
-    let statement = records::op(&stepper.image, work.header.position as usize);
+    let node = RecordAt {
+        image: stepper.image,
+        index: work.header.position as usize,
+        kind: Kind::Op,
+    };
+    let statement = records::op(&node);
     let state = state_of(work);
     let a = integer_of(&state, statement.fst.id.0).ok_or(Stop::NoStep)?;
     let b = integer_of(&state, statement.snd.id.0).ok_or(Stop::NoStep)?;

@@ -4,6 +4,7 @@ ghost use Rattle.step_rule.specs.Rules.{Given, machine_in, MakesAs};
 
 use image_integers::bits;
 use image_kinds::kinds::Kind;
+use image_read_parts::record::RecordAt;
 use pass_records as records;
 use step_lookup::integer_of;
 use step_places::stepper::Stepper;
@@ -14,7 +15,12 @@ pub fn print(stepper: &Stepper<'_>, work: &mut Work<'_, '_>) -> Result<Step, Sto
     requires { Given stepper.now work.old 12 }
     ensures { MakesAs (machine_in stepper.now) stepper.now work.old work.new result × Keeps work.old work.new }
 {
-    let statement = records::print(&stepper.image, work.header.position as usize);
+    let node = RecordAt {
+        image: stepper.image,
+        index: work.header.position as usize,
+        kind: Kind::Print,
+    };
+    let statement = records::print(&node);
     let header = work.header;
     let state = state_of(work);
     let z = integer_of(&state, statement.var.id.0).ok_or(Stop::NoStep)?;

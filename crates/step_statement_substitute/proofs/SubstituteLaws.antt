@@ -1,6 +1,6 @@
 -- Substitute: how many pairs it has, the statement by its record, and the linear machine's step. Assumes nothing.
 use Prim.Native.Nat.{ℕ, ◌+◌, ◌*◌, ◌≤◌}
-use mathlib.Core.Path.{◌≡◌, refl, sym, ap, ap₂, ◌∙◌, subst}
+use mathlib.Core.Path.{◌≡◌, refl, sym, ap, ap₂, ◌∙◌}
 use mathlib.Core.Bool.{Bool, true, false}
 use mathlib.Core.List.{List, [], map}
 use mathlib.Core.Option.{Option, none, some}
@@ -19,7 +19,7 @@ use Rattle.image_spec.specs.Kinds.{kind_of}
 use Rattle.image_spec.specs.Shape.{flatten_clauses}
 use Rattle.image_directory.specs.declared.Frame.{Frame}
 use Rattle.image_directory.specs.Slots.{Ready}
-use Rattle.image_read_nodes.specs.Nodes.{record_at, At}
+use Rattle.image_read_parts.specs.Indexed.{record_at, At}
 use Rattle.image_read_nodes.proofs.NodeLaws.{record_ok}
 use Rattle.step_slots.specs.Slots.{Slot}
 use Rattle.step_spec.specs.Located.{linear_machine, Located, stmt_in, cell_in, project, next_place_lem, located_step}
@@ -95,11 +95,6 @@ same_count {r} {parts} q =
     sym (row-length parts.targets q.targets') ∙ (length-map ps (λ (p : Pair). p.0.var.id) ∙ (sym (length-map ps (λ (p : Pair). p.1.id)) ∙ row-length parts.sources q.sources'))
 
 -- ── the step ──
-
--- what was packed from a state, of the store and the header that it has
-pub packs_as : {store store' out : List ℕ} {h h' : Header} {xs ys : List VarId} {b : Bool} → store ≡ store' → h ≡ h'
-    → Packs (entries_in store h) xs ys out b → Packs (entries_in store' h') xs ys out b
-packs_as {out = out} {xs = xs} {ys} {b} e f w = subst (λ (E : List Slot). Packs E xs ys out b) (λ i. entries_in (e i) (f i)) w
 
 module _ {P : Prog} {frame : Frame} {definitions : ℕ} {bytes store : List ℕ} {h : Header} {l : Located} (p : ImageOf P frame definitions bytes) (o : Stored linear_machine P store h l)
     (a : At frame bytes h.position 2) where

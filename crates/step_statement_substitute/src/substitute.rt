@@ -3,12 +3,14 @@ ghost use Rattle.std.specs.Prelude.{◌≡◌, ◌+◌, ◌*◌, ◌≤◌, ◌<
 ghost use Rattle.step_spec.specs.Located.{linear_machine};
 ghost use Rattle.step_rule.specs.Rules.{Given, MakesAs};
 ghost use Rattle.step_statement_substitute.specs.Substituting.{PartsOf, rebuilt, Packs, Replaces};
-ghost use Rattle.image_read_nodes.specs.Opened.{record_of, IsAt};
 ghost use Rattle.step_header.specs.States.{entries_of};
 ghost use Rattle.step_write.specs.Working.{Fit, Keeps};
 ghost use Rattle.step_rows.specs.Rows.{ids_of};
+ghost use Rattle.image_read_parts.specs.Recorded.{record_in};
+ghost use Rattle.image_kinds.specs.declared.kinds.Kind.TheVariants.{Substitute};
 
-use image_directory::image::Image;
+use image_kinds::kinds::Kind;
+use image_read_parts::record::RecordAt;
 use step_gather::{gather, rename};
 use step_header::Header;
 use step_header::state::State;
@@ -24,14 +26,13 @@ pub struct Parts<'a> {
     pub sources: Row<'a>,
 }
 
-// The parts of the Substitute at this place.
-fn read_parts<'a>(image: &Image<'a>, position: u32) -> Parts<'a>
-    requires { IsAt image.now position 2 }
-    ensures { PartsOf (record_of image.now position) result }
+// The parts of a Substitute.
+fn read_parts<'a>(node: &RecordAt<'a>) -> Parts<'a>
+    requires { node.now.kind ≡ Substitute }
+    ensures { PartsOf (record_in node.now) result }
 {
-    let i = position as usize;
-    let targets = target_row(image, i);
-    let sources = source_row(image, i);
+    let targets = target_row(node);
+    let sources = source_row(node);
     Parts { targets, sources }
 }
 
@@ -40,9 +41,7 @@ fn pack(state: &State<'_>, parts: &Parts<'_>, scratch: &mut [u8]) -> bool
     requires { (parts.now.targets.places.len ≡ parts.now.sources.places.len) × (16 * parts.now.targets.places.len ≤ length scratch.old) }
     ensures { Packs (entries_of state.now) (ids_of parts.now.targets) (ids_of parts.now.sources) scratch.new result }
 {
-    let from = 64 + 16 * state.header.heap as usize;
-    let entries = state.header.entries as usize;
-    if !gather(&parts.sources, state.store, from, entries, scratch, 0) {
+    if !gather(&parts.sources, state, scratch, 0) {
         return false;
     }
     rename(&parts.targets, scratch, 0);
@@ -63,7 +62,7 @@ fn after(header: Header, k: u64) -> Header
     }
 }
 
-// The first k slots of `scratch` instead of the entries.
+// The first k slots of `scratch` instead of the entries. (Scratch is lent whole; k is what the header counts too.)
 fn replace(work: &mut Work<'_, '_>, scratch: &[u8], k: usize) -> Result<Step, Stop>
     requires { Fit work.old × ((16 * k ≤ length scratch.now) × (work.old.header.position + 1 < 2 ^ 32)) }
     ensures { Replaces work.old.store.now work.old.events.now work.old.header work.old.at k (take (16 * k) scratch.now) work.new.store.now work.new.events.now result × Keeps work.old work.new }
@@ -82,7 +81,12 @@ pub fn linear(
     requires { Given stepper.now work.old 2 × (2080 ≤ length scratch.old) }
     ensures { MakesAs linear_machine stepper.now work.old work.new result × Keeps work.old work.new }
 {
-    let parts = read_parts(&stepper.image, work.header.position);
+    let node = RecordAt {
+        image: stepper.image,
+        index: work.header.position as usize,
+        kind: Kind::Substitute,
+    };
+    let parts = read_parts(&node);
     let state = state_of(work);
     if !pack(&state, &parts, scratch) {
         return Err(Stop::NoStep);

@@ -12,7 +12,7 @@ use Rattle.model.specs.Syntax.{Stmt, Switch, Prog}
 use Rattle.model.specs.Machine.{Value, Entries, values, at, Outcome, shows, or_halt, matched, Switch'}
 use Rattle.model.specs.Linear.{last_of, before_last, first, last_value_lem, shows_unless_twice, linear_work}
 use Rattle.image_directory.specs.declared.Frame.{Frame}
-use Rattle.image_read_nodes.specs.Nodes.{record_at, At}
+use Rattle.image_read_parts.specs.Indexed.{record_at, At}
 use Rattle.step_slots.specs.Slots.{Slot}
 use Rattle.step_slots.specs.Views.{slot_at, slots_at}
 use Rattle.step_spec.specs.Located.{linear_machine, Located, stmt_in, is_stop, located_step}

@@ -11,7 +11,8 @@ use Rattle.model.specs.Lists.{lookup}
 use Rattle.model.specs.Machine.{Entries, at, shows, Switch'}
 use Rattle.model.specs.Source.{source_work}
 use Rattle.image_directory.specs.declared.Frame.{Frame}
-use Rattle.image_read_nodes.specs.Nodes.{record_at, first_of, At}
+use Rattle.image_read_nodes.specs.Nodes.{first_of}
+use Rattle.image_read_parts.specs.Indexed.{record_at, At}
 use Rattle.step_slots.specs.Slots.{Slot}
 use Rattle.step_spec.specs.Located.{source_machine, Located, stmt_in, located_step}
 use Rattle.step_header.specs.declared.Header.{Header}

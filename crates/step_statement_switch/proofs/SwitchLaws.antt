@@ -11,7 +11,7 @@ use Rattle.syntax.specs.declared.names.Name.{Name}
 use Rattle.model.specs.Syntax.{Stmt, Clauses, Prog}
 use Rattle.model.specs.Machine.{Value, Entries, at, Outcome, shows, or_halt, Switch', find_clause_lem, matched}
 use Rattle.image_directory.specs.declared.Frame.{Frame}
-use Rattle.image_read_nodes.specs.Nodes.{record_at}
+use Rattle.image_read_parts.specs.Indexed.{record_at}
 use Rattle.step_slots.specs.Slots.{Slot, value_slot}
 use Rattle.step_slots.specs.Views.{no_slot, slots_at}
 use Rattle.step_spec.specs.Located.{Machine, Located, stmt_in, project, located_step}

@@ -18,7 +18,7 @@ use Rattle.image_places_spec.specs.Places.{StmtStands, ClausesStand}
 use Rattle.image_places_spec.proofs.PlaceLaws.{stmt-parts}
 use Rattle.image_directory.specs.declared.Frame.{Frame}
 use Rattle.image_directory.specs.Slots as image
-use Rattle.image_read_nodes.specs.Nodes.{record_at, At}
+use Rattle.image_read_parts.specs.Indexed.{record_at, At}
 use Rattle.step_spec.specs.Located.{Machine, Located, records_in, stmt_in, clause_place, next_place_lem}
 use Rattle.step_header.specs.declared.Header.{Header}
 use Rattle.step_places.specs.Searches.{name_of, Finds, FindsClause}

@@ -6,15 +6,16 @@ ghost use Rattle.step_write.specs.Working.{Keeps};
 ghost use Rattle.step_write.specs.Writing.{head_bytes};
 ghost use Rattle.step_rule.specs.Rules.{Given, MakesAs};
 ghost use Rattle.step_statement_switch.specs.Switching.{ClauseFor, Switches};
-ghost use Rattle.image_read_nodes.specs.Opened.{IsAt};
+ghost use Rattle.image_read_parts.specs.Indexed.{IsAt};
 ghost use Rattle.step_slots.specs.Slots.{as_slot};
 ghost use Rattle.step_cells.specs.Cells.{as_cell};
 
 use image_kinds::kinds::Kind;
 use image_read_nodes::first;
+use image_read_parts::record::RecordAt;
 use step_cells::{Cell, cell_of};
 use step_enter::{Parameters, clause_of, enter, fetch};
-use step_lookup::slot_of;
+use step_entries::slot_of;
 use step_places::stepper::Stepper;
 use step_slots::sort::Sort;
 use step_slots::{Slot, read};
@@ -48,6 +49,7 @@ fn event(cell: Cell) -> EventHead
     }
 }
 
+// `scratch` and `value`: bytes that rules are lent, and a value that one machine looks up and the other takes from the end.
 // A Switch on this value. Of the entries that there are the first `front` stay, and the `back` that follow them come behind the new ones.
 fn switch(
     stepper: &Stepper<'_>,
@@ -85,8 +87,12 @@ pub fn source(
     requires { Given stepper.now work.old 5 × (2080 ≤ length scratch.old) }
     ensures { MakesAs source_machine stepper.now work.old work.new result × Keeps work.old work.new }
 {
-    let i = work.header.position as usize;
-    let var = first(&stepper.image, i, Kind::Switch);
+    let node = RecordAt {
+        image: stepper.image,
+        index: work.header.position as usize,
+        kind: Kind::Switch,
+    };
+    let var = first(&node);
     let state = state_of(work);
     let value = slot_of(&state, var.id.0).ok_or(Stop::NoStep)?;
     let back = work.header.entries as usize;

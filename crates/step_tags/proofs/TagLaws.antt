@@ -10,7 +10,7 @@ use Rattle.image_directory.specs.Slots.{Ready}
 use Rattle.image_directory.specs.declared.Frame.{Frame}
 use Rattle.image_read_parts.specs.Standing.{Stands}
 use Rattle.image_read_parts.proofs.PartPlaces.{let_tag, invoke-tag}
-use Rattle.image_read_nodes.specs.Nodes.{record_at, At}
+use Rattle.image_read_parts.specs.Indexed.{record_at, At}
 use Rattle.image_read_nodes.proofs.NodeLaws.{record_ok}
 use Rattle.step_tags.specs.Tags.{has_tag, tag_at, tag_in}
 

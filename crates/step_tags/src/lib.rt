@@ -3,12 +3,12 @@
 
 ghost use Rattle.std.specs.Prelude.{◌≡◌, true, ◌≤◌};
 ghost use Rattle.step_tags.specs.Tags.{has_tag, tag_at, tag_in};
-ghost use Rattle.image_read_nodes.specs.Opened.{record_of, IsAt};
 ghost use Rattle.image_kinds.specs.Codes.{code_of};
+ghost use Rattle.image_read_parts.specs.Recorded.{record_in};
 
-use image_directory::image::Image;
 use image_kinds::kinds::Kind;
 use image_read_parts::identifier;
+use image_read_parts::record::RecordAt;
 use syntax::names::Identifier;
 
 fn tag_at(kind: Kind, w: usize) -> usize
@@ -21,10 +21,14 @@ fn tag_at(kind: Kind, w: usize) -> usize
     }
 }
 
-// The tag of the Let or Invoke at index i.
-pub fn tag_of(image: &Image<'_>, i: usize, kind: Kind) -> Identifier
-    requires { IsAt image.now i (code_of kind) × (has_tag (code_of kind) ≡ true) }
-    ensures { result ≡ tag_in (record_of image.now i) }
+// The tag of a Let or an Invoke.
+pub fn tag_of(node: &RecordAt<'_>) -> Identifier
+    requires { has_tag (code_of node.now.kind) ≡ true }
+    ensures { result ≡ tag_in (record_in node.now) }
 {
-    identifier(image, i, tag_at(kind, image.frame.id))
+    identifier(
+        &node.image,
+        node.index,
+        tag_at(node.kind, node.image.frame.id),
+    )
 }

@@ -21,6 +21,7 @@ fn given_ok(value: Slot) -> bool
     value.id == 0 && is_value
 }
 
+// (A `for` that returns, and no chain with `all`: its closure would need a contract that each index is below the bound.)
 fn every_given(values: &[u8], n: usize) -> bool
     requires { 16 * n ≤ length values.now }
     ensures { result ≡ every_slot given_ok_lem (slots_at values.now 0 n) }
@@ -36,7 +37,7 @@ fn every_given(values: &[u8], n: usize) -> bool
     true
 }
 
-// Are they n slots, each a value that a start may give?
+// Are they n slots, each a value that a start may give? (The caller lends them, and the definition has n parameters: the lengths are compared.)
 pub fn are_given(values: &[u8], n: usize) -> bool
     ensures { result ≡ are_given_lem n values.now }
 {

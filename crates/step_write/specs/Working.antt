@@ -3,7 +3,7 @@ use Rattle.std.specs.Prelude.{◌≡◌, ◌≤◌, length}
 use Rattle.step_header.specs.Headers.{Holds}
 use Rattle.step_write.specs.declared.Work.{Work}
 
--- the store has what its header says, and the place is one of the event buffer
+-- the store has what its header says, and the place is one of the event buffer. (No field of `Work`: between two writes it does not hold, decision 101.)
 pub record Fit (w : Work) : Type 0 where
   pub holds : Holds w.store.now w.header
   pub place : w.at ≤ length w.events.now

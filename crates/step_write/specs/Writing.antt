@@ -18,7 +18,8 @@ head_bytes e = event_head (code_of e.kind) e.detail e.name e.count e.payload
 abbrev pub size : Header → ℕ
 size h = 64 + 16 * (h.heap + h.entries)
 
--- what is asked before a step is finished: a store that has a header, a place in the event buffer, and a header whose counts can be added
+-- what is asked before a step is finished: a store that has a header, a place in the event buffer, and a header whose counts can be added.
+-- (No field of `Work`: the header that is asked of is the one to be written, not the one that is there.)
 pub record Ending (store events : List ℕ) (at : ℕ) (header : Header) : Type 0 where
   pub headed : 64 ≤ length store
   pub placed : at ≤ length events

@@ -32,6 +32,8 @@ pub enum Stop {
 
 // What a step is made in: a store and the header of the state in it, an event buffer and the place of the next event. (Each of the two has a lifetime
 // of its own, so that one can be taken out while the other is lent.)
+// `scratch` stays beside it: two fields of one `&mut` cannot be lent at one time in a form that the check covers (tried: decision 101).
+// `stepper` stays beside it: it is only read, and one for all steps of a call; what ties them (`Given`) is asked for the reason of `Fit`.
 #[derive(Drop)]
 pub struct Work<'s, 'e> {
     pub store: &'s mut [u8],
@@ -89,13 +91,14 @@ pub fn put_event(events: &mut [u8], at: usize, event: EventHead) -> usize
     put_long(events, after_count, event.payload)
 }
 
-// The n slots from at move up, and the first k of `slots` are before them.
+// `at` and `n` here and in `put_closure`: where slots stand in a store that is written, and how many move; `Places` are of what is read.
+// The n slots from at move up, and the first k of `slots` are before them. (Scratch is lent whole; k is what the header counts too.)
 fn insert(store: &mut [u8], at: usize, n: usize, slots: &[u8], k: usize)
     requires { (at + 16 * (k + n) ≤ length store.old) × (16 * k ≤ length slots.now) }
     ensures { store.new ≡ sets store.old at (take (16 * k) slots.now ++ take (16 * n) (drop at store.old)) }
 {
     move_up(store, at, 16 * n, 16 * k);
-    copy(slots, 0, 16 * k, store, at);
+    copy(&slots[..16 * k], store, at);
 }
 
 // Is there room for the state with this header, and for so many bytes of events?
@@ -118,6 +121,9 @@ fn seal(work: &mut Work<'_, '_>, event: EventHead, header: Header) -> Step
 }
 
 // A step to a state with this header: from byte `from` on the first k slots of scratch, then the n slots that stand there.
+// `event` and `header`, here and below: no fact ties them, `enter` and `stay` are given one and make the other, one step has no event.
+// `header`, `from`, `n` and `k`: how many slots a state of this header must have room for behind `from` differs from function to function.
+// `work`, `scratch`, `event`: what is written, what is copied from, and a value; `finish_holding` has no scratch, `finish_silent` no event.
 pub fn finish(
     work: &mut Work<'_, '_>,
     scratch: &[u8],
@@ -178,7 +184,7 @@ pub fn finish_entering(
     }
     let to = from + 16 * k;
     move_up(work.store, entries, 16 * n, to - entries);
-    copy(scratch, 0, 16 * k, work.store, from);
+    copy(&scratch[..16 * k], work.store, from);
     Ok(seal(work, event, header))
 }
 
@@ -227,7 +233,7 @@ pub fn finish_silent(
     if !fits(work, header, 0) {
         return Err(Stop::NoRoom);
     }
-    copy(scratch, 0, 16 * k, work.store, from);
+    copy(&scratch[..16 * k], work.store, from);
     put_header(work.store, header);
     Ok(Step {
         header,

@@ -31,12 +31,13 @@ pub struct FlatBinding {
     pub name: Name,
     pub ty_name: Name,
     pub chi: Chirality,
-    // Whether the type is declared. I64 has no identifier.
+    // Whether the type is declared. I64 has no identifier. A flag and no Option: 16 bytes and not 24.
     pub declared: bool,
     // Always 0. It leaves no byte of an element unused, so that an array is cleared at once.
     pub unused: u16,
 }
 
+// An array by value with a count, and no Vec: nothing below the programs takes memory, and 64 is the paper's limit.
 #[derive(Clone, Copy)]
 pub struct TypingContext {
     pub bindings: [FlatBinding; TypingContext::MAX],

@@ -5,6 +5,7 @@ ghost use Rattle.syntax.specs.Arrays.{set_of, SetHolds};
 
 use crate::names::VarId;
 
+// (By value, as `TypingContext`: nothing below the programs takes memory.)
 #[derive(Clone, Copy)]
 pub struct IdSet {
     pub ids: [VarId; IdSet::MAX],

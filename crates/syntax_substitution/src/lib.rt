@@ -25,10 +25,11 @@ pub struct FlatPair {
     pub ty_name: Name,
     pub source_name: Name,
     pub chi: Chirality,
-    // Whether the target's type is declared. I64 has no identifier.
+    // Whether the target's type is declared. I64 has no identifier. A flag, as in `FlatBinding`.
     pub declared: bool,
 }
 
+// By value with a count, as `TypingContext`: nothing below the programs takes memory.
 #[derive(Clone, Copy)]
 pub struct Substitution {
     pub pairs: [FlatPair; Substitution::MAX],

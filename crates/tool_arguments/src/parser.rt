@@ -33,6 +33,7 @@ struct Parser<'a> {
     number: Option<usize>,
     values: Vec<Value>,
     view: View,
+    // Options that were given or not, and have no value.
     raw: bool,
     linear: bool,
 }

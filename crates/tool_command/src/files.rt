@@ -40,6 +40,7 @@ pub fn read<'a>(rt: &HostRuntime, input: Input<'a>, most: usize) -> Result<Vec<u
     }
 }
 
+// `rt` and `path`, here, below and in stores.rt: the system, and the name of a file; std takes them side by side too.
 // Makes a file that is not there yet.
 pub fn create(rt: &HostRuntime, path: &[u8]) -> io::Result<File> {
     OpenOptions::new()

@@ -8,6 +8,7 @@ use tool_listing::walk::Walk;
 use try_building::image::Image;
 use try_building::record::Record;
 
+// `program` and `view`: what is listed, and which columns were asked for; `Walk` takes a view without a program.
 // The remark behind a line, where an annotation is there: its free variables, behind the index where that is there.
 fn annotation(
     page: &mut Page<'_>,

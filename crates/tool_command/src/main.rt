@@ -32,6 +32,7 @@ fn accept<'a>(rt: &HostRuntime, max_id: u32) -> Result<(), Failure<'a>> {
     println!(rt; "accepted, max_id {max_id}").map_err(|e| Failure::Call(Subject::Output, e))
 }
 
+// `rt` and `program`, here and below: the system, for all that reads or writes, and the image; what asks the library takes no `rt`.
 fn linearize<'a>(
     rt: &HostRuntime,
     program: &Program<'a>,

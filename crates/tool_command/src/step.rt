@@ -53,6 +53,7 @@ impl<'a, 'p> Stepping<'a, 'p> {
         }
     }
 
+    // `rt` and `book`, here and below: the system, and the names to write, which a start does not take.
     // A start has at most 128 entries, 2,112 bytes.
     fn start(
         self,
@@ -132,6 +133,7 @@ impl<'a, 'p> Stepping<'a, 'p> {
         }
     }
 
+    // `steps` and `store`: a number that was asked for, and the bytes of a file.
     fn write_run(
         self,
         rt: &HostRuntime,

@@ -53,6 +53,7 @@ impl Walk {
         })
     }
 
+    // `due` and `record`, here and below: what may come next, from the list of dues, and what does come, from the image.
     // Question 5: is it not what is due, or one definition too many, or too deep?
     fn is_misplaced(&self, due: Due, record: Record<'_>) -> bool {
         if !due.takes(record) || DEEPEST < due.depth() {

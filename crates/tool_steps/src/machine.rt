@@ -15,6 +15,7 @@ pub struct Made {
 }
 
 impl Machine {
+    // Here and in `step`: the parameters of the library's function, in its order.
     // Starts this definition with these values, which are slots.
     pub fn start(
         self,

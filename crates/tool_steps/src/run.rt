@@ -14,6 +14,7 @@ pub struct Ran {
 
 // Makes at most so many steps and writes a line for each event. An event has at most 65,536 bytes. A call that made steps and had no room for
 // more events is followed by another one, so only a step that has no room by itself ends it.
+// `image`, `steps` and `store`: as for one call of the machine, which is asked again with the steps that are left.
 pub fn run(
     page: &mut Page<'_>,
     machine: Machine,

@@ -65,6 +65,7 @@ impl<'a> Slots<'a> {
 pub struct Store<'a> {
     // The place of the record of the statement at hand.
     pub position: u32,
+    // The two flags of document 02.
     pub has_ended: bool,
     pub has_stopped: bool,
     pub cells: Slots<'a>,

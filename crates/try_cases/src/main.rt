@@ -85,6 +85,7 @@ impl Call {
         }
     }
 
+    // `image` and `out`: one is read, the other written, as in the library's function.
     // Makes the call. Before it length and max_id hold numbers that no answer has.
     fn make(self, image: &[u8], out: &mut [u8]) -> Answer {
         let mut length: usize = 99;
@@ -155,6 +156,7 @@ fn left(out: &mut impl Write, answer: Answer, buffer: &[u8], lent: usize) -> io:
     }
 }
 
+// `out` and `alloc`, here and below: where it is written and where memory comes from; `left` and `annotated` take one, `build` the other.
 // What reading answers for an image that was written, and its records.
 fn read(out: &mut impl Write, alloc: Global, image: &[u8]) -> io::Result<()> {
     let call = Call {

@@ -17,6 +17,7 @@ use tally::Tally;
 use trouble::Trouble;
 use try_building::reader::Reader;
 
+// `out` and `alloc`, here and below: where it is written and where memory comes from; `Tally` takes one, `Left` the other.
 // An image and its calls. A copy of the image is kept, since no call may change it.
 fn image(
     out: &mut impl Write,

@@ -36,6 +36,7 @@ pub fn differs(buffer: &[u8], text: &[u8], rest: u8) -> Option<usize> {
     None
 }
 
+// `call` and `image`, also in steppers.rt: an image comes once, and its calls behind it. `out` is written, as in the library's function.
 // Before the call length and max_id hold numbers that no answer has.
 fn ask(call: Call<'_>, image: &[u8], out: &mut [u8]) -> Answer {
     let mut length: usize = 99999;

@@ -29,6 +29,7 @@ impl<'a> Lent<'a> {
     }
 }
 
+// `values`, `store` and `events`: as the library's functions take them.
 // A start reports no events and no steps. Before a step made and length hold numbers that no answer has.
 fn ask(call: Call<'_>, image: &[u8], values: &[u8], store: &mut [u8], events: &mut [u8]) -> Answer {
     let index = call.index;

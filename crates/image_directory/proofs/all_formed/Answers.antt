@@ -5,51 +5,57 @@ use Rattle.image_directory.proofs.all_formed.Goals as goal
 use Rattle.image_directory.proofs.all_formed.Goals.{In-Some}
 
 -- the others tile too
-next : (c : In-Some) → tiled_from c.args.place (c.args.n - c.loop.counter - 1) (c.loop.at + (c.args.place + c.args.place)) (c.loop.here + c.in-Some.slot.size) c.args.image.now ≡ true
+next : (c : In-Some) → tiled_from c.args.frame.place (c.args.frame.count - c.loop.counter - 1) (c.loop.at + (c.args.frame.place + c.args.frame.place)) (c.loop.here + c.in-Some.slot.size) c.args.image.now ≡ true
 next c =
     let a = c.args in
+    let g = a.frame in
     let l = c.loop in
-    tiled-next a.place a.image.now (a.n - l.counter) l.at l.here _ (omega arith) (sym c.read_slot.ensures ∙ c.in-Some.is) l.invariant.0
+    tiled-next g.place a.image.now (g.count - l.counter) l.at l.here _ (omega arith) (sym c.read_slot.ensures ∙ c.in-Some.is) l.invariant.0
 
 within : (c : In-Some) → c.loop.here + c.in-Some.slot.size ≤ length c.args.image.now
-within c = tiled_le c.args.place c.args.image.now _ _ _ (next c)
+within c = tiled_le c.args.frame.place c.args.image.now _ _ _ (next c)
 
 pub returns-in_default : goal.returns-in_default
 returns-in_default c =
     let a = c.args in
+    let g = a.frame in
     let l = c.loop in
-    sym (l.invariant.1 ∙ formed-short a.place a.image.now a.w (a.n - l.counter) l.at l.here (omega arith) (sym c.read_slot.ensures ∙ c.in_default.is))
+    sym (l.invariant.1 ∙ formed-short g.place a.image.now g.id (g.count - l.counter) l.at l.here (omega arith) (sym c.read_slot.ensures ∙ c.in_default.is))
 
 pub overflow_add-end : goal.overflow_add-end
 overflow_add-end c = omega (arith, within (goal.at.overflow_add-end c).In-Some)
 
-pub slice_bounds-record_formed-end : goal.slice_bounds-record_formed-end
-slice_bounds-record_formed-end c = omega (arith, within (goal.at.slice_bounds-record_formed-end c).In-Some)
+pub slice_bounds-fields-end : goal.slice_bounds-fields-end
+slice_bounds-fields-end c = omega (arith, within (goal.at.slice_bounds-fields-end c).In-Some)
 
 pub returns-then-not-record_formed : goal.returns-then-not-record_formed
 returns-then-not-record_formed c =
     let a = c.args in
+    let g = a.frame in
     let l = c.loop in
     let q = sym c.read_slot.ensures ∙ c.in-Some.is in
-    sym (l.invariant.1 ∙ (formed-part a.place a.image.now a.w (a.n - l.counter) l.at l.here _ _ (omega arith) q c.record_formed.ensures ∙ rw c.if-not-record_formed.true))
+    sym (l.invariant.1 ∙ (formed-part g.place a.image.now g.id (g.count - l.counter) l.at l.here _ _ (omega arith) q c.record_formed.ensures ∙ rw c.if-not-record_formed.true))
 
 pub overflow_add-at-in-loop : goal.overflow_add-at-in-loop
 overflow_add-at-in-loop c =
     let a = c.args in
-    omega (arith, slot-room a.place a.image.now c.loop.at _ (omega arith) (sym c.read_slot.ensures ∙ c.in-Some.is))
+    let g = a.frame in
+    omega (arith, slot-room g.place a.image.now c.loop.at _ (omega arith) (sym c.read_slot.ensures ∙ c.in-Some.is))
 
 pub loop-preserved : goal.loop-preserved
 loop-preserved c =
     let a = c.args in
+    let g = a.frame in
     let l = c.loop in
     let q = sym c.read_slot.ensures ∙ c.in-Some.is in
-    let k : a.n - (l.counter + 1) ≡ a.n - l.counter - 1 = omega arith in (
+    let k : g.count - (l.counter + 1) ≡ g.count - l.counter - 1 = omega arith in (
       rw k (next (goal.at.loop-preserved c).In-Some),
-      rw k (l.invariant.1 ∙ (formed-part a.place a.image.now a.w (a.n - l.counter) l.at l.here _ _ (omega arith) q c.record_formed.ensures ∙ rw c.if-not-record_formed.false)),
+      rw k (l.invariant.1 ∙ (formed-part g.place a.image.now g.id (g.count - l.counter) l.at l.here _ _ (omega arith) q c.record_formed.ensures ∙ rw c.if-not-record_formed.false)),
     )
 
 pub returns : goal.returns
 returns c =
     let a = c.args in
+    let g = a.frame in
     let l = c.loop in
-    sym (l.invariant.1 ∙ formed-end a.place a.image.now a.w _ l.at l.here (omega arith))
+    sym (l.invariant.1 ∙ formed-end g.place a.image.now g.id _ l.at l.here (omega arith))

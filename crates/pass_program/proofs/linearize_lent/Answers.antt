@@ -1,5 +1,5 @@
 -- `linearize_lent` meets its contract. Assumes nothing.
-use mathlib.Core.Path.{sym, ◌∙◌}
+use mathlib.Core.Path.{refl, sym, ◌∙◌}
 use Rattle.std.proofs.Common.{rules}
 use lib.ListN.{length}
 use Rattle.image_directory.specs.Slots.{records_in}
@@ -13,12 +13,13 @@ linearize_program-requires c =
     let x = checked_yes c.requires.0 (sym k.0 ∙ c.in_ok-check_image.was) in
     let ready = c.args.opened.now.image.ready in
     let room = c.requires.1 (few ready x) in
-    (x, (rows-begin ready x c.args.rows.now room.0 (k.1 (passed ready x)), room.1))
+    (x, (rows-begin ready x c.args.rows.now room.0 (k.1 (passed ready x)), (room.1, record { at = refl; id = refl })))
 
 pub returns : goal.returns
 returns c =
     let x = checked_yes c.requires.0 (sym c.check_image.ensures.0 ∙ c.in_ok-check_image.was) in
-    replied x (length c.args.out.now) c.linearize_program.ensures
+    let r = replied x (length c.args.out.now) c.linearize_program.ensures.0 in
+    search (rules, r)
 
 pub returns-in_err-check_image : goal.returns-in_err-check_image
 returns-in_err-check_image c =

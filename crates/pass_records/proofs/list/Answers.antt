@@ -17,16 +17,16 @@ pub overflow_add-size-2 : goal.overflow_add-size-2
 overflow_add-size-2 c = omega (arith, c.requires.width)
 
 pub bounds-image-at : goal.bounds-image-at
-bounds-image-at c = (list-run c.args.w c.requires.stands).inside
+bounds-image-at c = (list-run c.args.image.now.frame.id c.requires.stands).inside
 
 pub overflow_add-from : goal.overflow_add-from
-overflow_add-from c = omega (arith, (list-run c.args.w c.requires.stands).inside)
+overflow_add-from c = omega (arith, (list-run c.args.image.now.frame.id c.requires.stands).inside)
 
 pub loop-j-init : goal.loop-j-init
-loop-j-init c = filling_start c.args.w c.requires c.count-n.ensures (length-map c.empty-out.result.bindings binding_of ∙ search rules)
+loop-j-init c = filling_start c.args.image.now.frame.id c.requires c.from-n.ensures (length-map c.empty-out.result.bindings binding_of ∙ search rules)
 
 pub binding_at-requires : goal.binding_at-requires
-binding_at-requires c = record { width = c.requires.width; inside = filling_inside c.args.w c.loop-j.invariant c.loop-j-test.true }
+binding_at-requires c = record { width = c.requires.width; inside = filling_inside c.args.image.now.frame.id c.loop-j.invariant c.loop-j-test.true }
 
 pub bounds-out-j : goal.bounds-out-j
 bounds-out-j c =
@@ -34,13 +34,13 @@ bounds-out-j c =
     omega (arith, long binding_of l.out.bindings l.invariant.size, l.invariant.count, l.invariant.list.small)
 
 pub overflow_add-from-in-loop-j : goal.overflow_add-from-in-loop-j
-overflow_add-from-in-loop-j c = omega (arith, filling_inside c.args.w c.loop-j.invariant c.loop-j-test.true)
+overflow_add-from-in-loop-j c = omega (arith, filling_inside c.args.image.now.frame.id c.loop-j.invariant c.loop-j-test.true)
 
 pub loop-j-preserved : goal.loop-j-preserved
 loop-j-preserved c =
     let l = c.loop-j in
-    let t = filling_turn c.args.w l.invariant c.loop-j-test.true c.binding_at.ensures in
+    let t = filling_turn c.args.image.now.frame.id l.invariant c.loop-j-test.true c.binding_at.ensures in
     rw (seen-set binding_of l.out.bindings l.j c.flat.result, c.flat.ensures) t
 
 pub returns : goal.returns
-returns c = filling_end c.args.w c.loop-j.invariant c.loop-j-test.false refl refl
+returns c = filling_end c.args.image.now.frame.id c.loop-j.invariant c.loop-j-test.false refl refl

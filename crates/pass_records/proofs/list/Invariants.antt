@@ -4,4 +4,4 @@ use Rattle.pass_records.proofs.FillLaws.{Filling}
 use Rattle.pass_records.proofs.list.Given as goal
 
 abbrev pub invariant-loop-j : goal.invariant-loop-j
-invariant-loop-j l = Filling l.w l.image l.at l.n l.from l.j (bindings_in l.out)
+invariant-loop-j l = Filling l.w l.image.bytes.now l.at l.n l.from l.j (bindings_in l.out)

@@ -9,7 +9,7 @@ use Rattle.scope_check.proofs.CheckLaws.{opened-defined}
 use Rattle.step_spec.specs.declared.MachineKind.{MachineKind}
 use Rattle.step_spec.specs.declared.MachineKind.TheVariants.{Source, Linear}
 use Rattle.step_ask.specs.Asking.{Asks}
-use Rattle.step_ask.proofs.KindLaws.{is-source, is-linear}
+use Rattle.step_spec.proofs.KindLaws.{is-source, is-linear}
 use Rattle.step_ask.proofs.AskLaws.{closed-asks, linear-asks, source-asks, source-closed}
 use Rattle.step_ask.proofs.ask.Goals as goal
 use Rattle.step_ask.proofs.ask.Goals.{In_ok-opened, then-eq+in_ok-check_image, else-eq}

@@ -1,5 +1,5 @@
 -- `is_forged` meets its contract. Assumes nothing.
-use Rattle.step_ask.proofs.KindLaws.{is-source, is-linear}
+use Rattle.step_spec.proofs.KindLaws.{is-source, is-linear}
 use Rattle.step_call.proofs.ForgedLaws.{ended_honest, stopped_honest, source_honest, linear_forged}
 use Rattle.step_call.proofs.is_forged.Goals as goal
 use Rattle.step_call.proofs.is_forged.Goals.{then-header-via-then-header, then-header-via-else-header+then-header-2, then-header-via-else-header+else-header-2+then-eq}

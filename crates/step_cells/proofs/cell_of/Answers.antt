@@ -3,18 +3,10 @@ use mathlib.Core.Path.{◌≡◌, refl, sym, ◌∙◌}
 use mathlib.Core.Bool.{Bool, true, false, not, true≢false, false≢true}
 use Rattle.step_slots.specs.declared.sort.Sort.TheVariants.{Cell}
 use Rattle.step_slots.specs.Slots.{as_slot}
-use Rattle.step_slots.proofs.SortLaws.{codes_same, codes_differ, none_there}
+use Rattle.step_slots.proofs.SortLaws.{codes_same, codes_differ, alike, unlike, none_there}
 use Rattle.step_cells.proofs.HeldLaws.{no-reference, past-reference, own-slot, reference}
 use Rattle.step_cells.proofs.cell_of.Goals as goal
 use Rattle.step_cells.proofs.cell_of.Goals.{then-ne-via-then-ne, then-ne-via-else-ne+then-heap-at}
-
-unlike : {b t : Bool} → t ≡ not b → t ≡ true → b ≡ false
-unlike {b = true} e h = absurd (false≢true (sym e ∙ h))
-unlike {b = false} e h = refl
-
-alike : {b t : Bool} → t ≡ not b → t ≡ false → b ≡ true
-alike {b = true} e h = refl
-alike {b = false} e h = absurd (true≢false (sym e ∙ h))
 
 pub returns-then-ne : goal.returns-then-ne
 returns-then-ne c =

@@ -7,8 +7,9 @@ use native.Mathlib.Omega.{arith}
 use lib.ListN.{length, drop, length-map, get_or-map}
 use Rattle.syntax.specs.declared.names.VarId.{VarId}
 use Rattle.step_slots.specs.Slots.{Slot, as_slot}
-use Rattle.step_slots.specs.Views.{no_slot, slots_at, is_slot}
+use Rattle.step_slots.specs.Views.{no_slot, is_slot}
 use Rattle.step_slots.proofs.SortLaws.{slot-is}
+use Rattle.step_header.specs.States.{entries_of}
 use Rattle.step_entries.specs.Named.{named, under}
 use Rattle.step_rows.specs.Rows.{ids_of, id_at}
 use Rattle.step_rows.specs.Placing.{identified}
@@ -24,7 +25,7 @@ abbrev xs : Start → List VarId
 xs c = ids_of c.args.row.now
 
 abbrev E : Start → List Slot
-E c = slots_at c.args.store.now c.args.at c.args.n
+E c = entries_of c.args.state.now
 
 turns : (c : Start) → Turns c.args.row.now.places.len (λ k. all_found_lem (E c) (drop k (xs c))) (λ k. is_slot (named (id_at c.args.row.now k).0 (E c)))
 turns c = every_turns c.args.row.now (λ (x : VarId). is_slot (named x.0 (E c)))
@@ -42,9 +43,6 @@ is_found c j i e f = f ∙ ap (λ (k : ℕ). named k (E c)) e
 
 pub loop-j-init : goal.loop-j-init
 loop-j-init c = (passed_none, filled_none _ _ _)
-
-pub find-requires : goal.find-requires
-find-requires c = (c.requires.0, c.requires.1.0)
 
 pub returns-in_default : goal.returns-in_default
 returns-in_default c =

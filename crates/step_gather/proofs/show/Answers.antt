@@ -14,7 +14,7 @@ use Rattle.step_gather.proofs.show.Goals.{Start}
 
 -- what is shown
 abbrev one : Start → Slot → Slot
-one c = shown_as (slots_at c.args.store.now 64 c.args.heap)
+one c = shown_as (slots_at c.args.heap.now.store.now 64 c.args.heap.now.count)
 
 abbrev ts : Start → List Slot
 ts c = slots_at c.args.slots.now c.args.at c.args.n
@@ -26,7 +26,7 @@ pub loop-j-init : goal.loop-j-init
 loop-j-init c = filled_none _ _ _
 
 pub show_one-requires : goal.show_one-requires
-show_one-requires c = (c.requires.0, (omega arith, omega (arith, filled_same c.loop-j.invariant)))
+show_one-requires c = (omega arith, omega (arith, filled_same c.loop-j.invariant))
 
 pub loop-j-preserved : goal.loop-j-preserved
 loop-j-preserved c =

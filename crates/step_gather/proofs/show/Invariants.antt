@@ -6,4 +6,4 @@ use Rattle.step_gather.proofs.Filling.{Filled}
 use Rattle.step_gather.proofs.show.Given as goal
 
 abbrev pub invariant-loop-j : goal.invariant-loop-j
-invariant-loop-j l = Filled (map (shown_as (slots_at l.store 64 l.heap)) (slots_at l.slots l.at l.n)) l.initial.events l.to l.events l.j
+invariant-loop-j l = Filled (map (shown_as (slots_at l.heap.store.now 64 l.heap.count)) (slots_at l.slots l.at l.n)) l.initial.events l.to l.events l.j

@@ -22,23 +22,23 @@ payload t = t.payload
 pub returns-then-heap-at : goal.returns-then-heap-at
 returns-then-heap-at c =
     let a = c.args in
-    let H = slots_at a.store.now 64 a.heap in
+    let H = slots_at a.heap.now.store.now 64 a.heap.now.count in
     let e : a.t.sort ≡ Cell = differs_false sort_type (search rules) a.t.sort Cell (sym c.ne.ensures ∙ c.if-ne.false) in
-    let h : length H ≤ a.t.payload = omega (arith, slots-count a.store.now 64 a.heap, c.if-heap-at.true) in
+    let h : length H ≤ a.t.payload = omega (arith, slots-count a.heap.now.store.now 64 a.heap.now.count, c.if-heap-at.true) in
     ap payload (shown-cell H (as_slot a.t) 0 (ap sort_code e) (ap payload (sym (get_or-eq_default H no_slot h))))
 
 pub returns-in-Some : goal.returns-in-Some
 returns-in-Some c =
     let a = c.args in
-    let H = slots_at a.store.now 64 a.heap in
+    let H = slots_at a.heap.now.store.now 64 a.heap.now.count in
     let e : a.t.sort ≡ Cell = differs_false sort_type (search rules) a.t.sort Cell (sym c.ne.ensures ∙ c.if-ne.false) in
-    let q = c.in-Some.ensures ∙ sym (slot_of a.store.now 64 a.heap a.t.payload c.if-heap-at.false) in
+    let q = c.in-Some.ensures ∙ sym (slot_of a.heap.now.store.now 64 a.heap.now.count a.t.payload c.if-heap-at.false) in
     ap payload (shown-cell H (as_slot a.t) c.in-Some.cell.payload (ap sort_code e) (ap payload q))
 
 pub returns-in-None : goal.returns-in-None
 returns-in-None c =
     let a = c.args in
-    let H = slots_at a.store.now 64 a.heap in
+    let H = slots_at a.heap.now.store.now 64 a.heap.now.count in
     let e : a.t.sort ≡ Cell = differs_false sort_type (search rules) a.t.sort Cell (sym c.ne.ensures ∙ c.if-ne.false) in
-    let q = c.in-None.ensures ∙ sym (slot_of a.store.now 64 a.heap a.t.payload c.if-heap-at.false) in
+    let q = c.in-None.ensures ∙ sym (slot_of a.heap.now.store.now 64 a.heap.now.count a.t.payload c.if-heap-at.false) in
     ap payload (shown-cell H (as_slot a.t) 0 (ap sort_code e) (ap payload q))

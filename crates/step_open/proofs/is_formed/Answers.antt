@@ -14,7 +14,7 @@ returns-then-cells_ok c = λ P o.
       | then-is_statement w ↦
           let i = sym q ∙ (sym c.is_statement.ensures ∙ w.if-is_statement.true) in
           let f = sym (w.cells_ok.ensures P o) ∙ (sym w.value-is ∙ c.if-cells_ok.true) in
-          c.entries_ok.ensures P ∙ rw (i, f) refl
+          c.entries_ok.ensures P ∙ rw (w.heap-is, i, f) refl
       | else-is_statement w ↦ let z : true ≡ false = sym c.if-cells_ok.true ∙ (w.value-is ∙ w.if-is_statement.false) in cc
     ]
 

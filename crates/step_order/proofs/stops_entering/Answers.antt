@@ -3,7 +3,7 @@ use Rattle.step_order.proofs.StopLaws.{reads-stored, others-go}
 use Rattle.step_order.proofs.stops_entering.Goals as goal
 
 pub returns-in-Call : goal.returns-in-Call
-returns-in-Call c = c.call.ensures c.args.state.now.store.now
+returns-in-Call c = c.call.ensures c.args.known.now.state.store.now
 
 pub returns-in_default : goal.returns-in_default
-returns-in_default c = record { is = λ P l p o e g. others-go p (reads-stored o e g) c.args.kind c.requires.0 c.in_default.not-Call c.in_default.not-Switch c.in_default.not-Invoke }
+returns-in_default c = record { is = λ P l p o e g. others-go p (reads-stored o e g) c.args.kind c.requires c.in_default.not-Call c.in_default.not-Switch c.in_default.not-Invoke }

@@ -1,9 +1,10 @@
 -- `settle` meets its contract. Assumes nothing.
 use mathlib.Core.Path.{sym, ◌∙◌}
 use Rattle.step_spec.specs.Located.{project}
+use Rattle.step_spec.proofs.KindLaws.{is-source, is-linear}
 use Rattle.step_spec.proofs.NeverStops.{source-never-stops}
 use Rattle.step_rule.proofs.Views.{views}
-use Rattle.step_settle.proofs.SettleLaws.{settles_as, settles-same, settles-stopped, is_source, is-linear, ended-goes}
+use Rattle.step_settle.proofs.SettleLaws.{settles_as, settles-same, settles-stopped, ended-goes}
 use Rattle.step_settle.proofs.settle.Goals as goal
 use Rattle.step_settle.proofs.settle.Goals.{then-header-via-then-header, then-header-via-else-header+then-eq}
 
@@ -12,7 +13,7 @@ returns-then-header c =
     let k = c.args.stepper.now.machine in
     elim c.then-header.branch [
       | then-header-via-then-header w ↦ settles-same (λ P l p o s. ended-goes k o w.if-header.true)
-      | then-header-via-else-header+then-eq w ↦ settles_as (is_source k w.eq.ensures w.if-eq.true) (settles-same (λ P l p o s. source-never-stops P (project P l)))
+      | then-header-via-else-header+then-eq w ↦ settles_as (is-source k w.eq.ensures w.if-eq.true) (settles-same (λ P l p o s. source-never-stops P (project P l)))
     ]
 
 pub returns-then-stops : goal.returns-then-stops

@@ -1,9 +1,9 @@
 -- `begin` meets its contract. Assumes nothing.
 use mathlib.Core.Path.{refl, ap, ◌∙◌}
 use mathlib.Core.List.{List}
-use Prim.Native.Nat.{ℕ, ◌*◌}
+use Prim.Native.Nat.{ℕ}
 use native.Mathlib.Omega.{arith}
-use lib.ListN.{length, take, drop}
+use lib.ListN.{length}
 use lib.Seq.{sets, length-sets}
 use Rattle.image_spec.specs.Parse.{each}
 use Rattle.step_slots.specs.Slots.{slot_bytes}
@@ -22,7 +22,7 @@ rename-requires c =
     let p = c.requires in
     let e = copied-slots a.store.now a.values.now a.row.now.places.len p.0 p.1.0 p.1.1 in
     let w = c.copy.ensures.holds in
-    let n = length-sets a.store.now 64 (take (16 * a.row.now.places.len) (drop 0 a.values.now)) in
+    let n = length-sets a.store.now 64 a.values.now in
     (omega (arith, p.1.0, ap length w, n), ap (λ (z : List ℕ). all_slots (slots_at z 64 a.row.now.places.len)) w ∙ (ap all_slots e ∙ p.1.1))
 
 pub returns : goal.returns

@@ -1,7 +1,7 @@
 -- `flag` meets its contract. Assumes nothing.
 use mathlib.Core.Path.{sym, ◌∙◌}
 use mathlib.Core.Bool.{false≢true}
-use Rattle.step_ask.proofs.KindLaws.{is-source, is-linear}
+use Rattle.step_spec.proofs.KindLaws.{is-source, is-linear}
 use Rattle.step_start.proofs.FlagLaws.{flags-settled, flags-stopped, flags_clear}
 use Rattle.step_start.proofs.flag.Goals as goal
 

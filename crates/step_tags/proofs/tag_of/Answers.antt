@@ -6,12 +6,10 @@ use Rattle.step_tags.proofs.tag_of.Goals as goal
 
 pub identifier-requires : goal.identifier-requires
 identifier-requires c =
-    let a = c.args in
-    let h = c.requires in
-    (h.0.inside, identifier-room a.image.now.frame a.image.now.bytes.now a.i _ (tag-there a.image.now.frame a.image.now.bytes.now a.i (code_of a.kind) a.image.now.ready h.0 h.1 c.tag_at.ensures))
+    let n = c.args.node.now in
+    (n.there.inside, identifier-room n.image.frame n.image.bytes.now n.index _ (tag-there n.image.frame n.image.bytes.now n.index (code_of n.kind) n.image.ready n.there c.requires c.tag_at.ensures))
 
 pub returns : goal.returns
 returns c =
-    let a = c.args in
-    let h = c.requires in
-    c.identifier.ensures.is _ (tag-there a.image.now.frame a.image.now.bytes.now a.i (code_of a.kind) a.image.now.ready h.0 h.1 c.tag_at.ensures)
+    let n = c.args.node.now in
+    c.identifier.ensures.is _ (tag-there n.image.frame n.image.bytes.now n.index (code_of n.kind) n.image.ready n.there c.requires c.tag_at.ensures)

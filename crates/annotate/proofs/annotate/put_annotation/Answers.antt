@@ -7,13 +7,13 @@ use lib.ListN.{length, replicate}
 use Rattle.model.specs.Syntax.{Clauses}
 use Rattle.model.specs.FreeVars.{annotations}
 use Rattle.image_spec.specs.Shape.{flatten_clauses, max_depth}
-use Rattle.image_directory.specs.Slots.{records_in}
+use Rattle.image_directory.specs.Images.{records_of}
 use Rattle.image_places_spec.specs.Places.{stmt_at, clauses_at}
 use Rattle.image_kinds.specs.Codes.{code_of}
 use Rattle.image_kinds.specs.declared.kinds.Kind.TheVariants.{Switch, Create}
 use Rattle.image_kinds.proofs.KindNames.{same_code}
 use Rattle.scope_spec.specs.Marking.{mark_clauses}
-use Rattle.annotate.proofs.AnnotateLaws.{in_count, clauses-same, clauses-stand, clauses-marked, next-stands, clauses-size, next-marked, switched, created, followed, behind, set-short, put_one, put_two}
+use Rattle.annotate.proofs.AnnotateLaws.{in_count, clauses-same, clauses-stand, clauses-marked, next-stands, clauses-size, next-marked, switched, created, followed, behind, set-short, wrote_one, wrote_two}
 use Rattle.annotate.proofs.annotate.put_annotation.Goals as goal
 
 pub parts_of-f-requires : goal.parts_of-f-requires
@@ -23,21 +23,21 @@ pub put_clauses-requires : goal.put_clauses-requires
 put_clauses-requires c =
     let h = c.requires in
     let k = clauses-stand h.0 _ c.parts_of-f.ensures.clauses in
-    (h.0.source, (k.0, (k.1, (search rules, omega arith))))
+    (k.0, (k.1, (search rules, omega arith)))
 
 pub returns-in-Switch : goal.returns-in-Switch
 returns-in-Switch c =
     let a = c.args in
     let h = c.requires in
     let f = c.parts_of-f.ensures in
-    put_one a.image.now.frame.id (annotations (stmt_at max_depth (records_in a.image.now.frame a.image.now.bytes.now) a.i)) _ _ c.put_clauses.ensures.puts (clauses-marked h.0 _ f.clauses a.image.now.ready _ h.1)
+    wrote_one (annotations (stmt_at max_depth (records_of a.image.now) a.i)) _ _ c.put_clauses.ensures.wrote (clauses-marked h.0 _ f.clauses a.image.now.ready _ h.1.0)
     (switched h.0 (f.at.kind ∙ ap code_of c.in-Switch.is))
 
-pub put_clauses-c-requires : goal.put_clauses-c-requires
-put_clauses-c-requires c =
+pub put_clauses-next-requires : goal.put_clauses-next-requires
+put_clauses-next-requires c =
     let h = c.requires in
     let k = clauses-stand h.0 _ c.parts_of-f.ensures.clauses in
-    (h.0.source, (k.0, (k.1, (search rules, omega arith))))
+    (k.0, (k.1, (search rules, omega arith)))
 
 pub put_statement-requires : goal.put_statement-requires
 put_statement-requires c =
@@ -45,11 +45,13 @@ put_statement-requires c =
     let h = c.requires in
     let f = c.parts_of-f.ensures in
     let n = c.parts_of-f.result.clauses in
-    let w = c.put_clauses-c.ensures in
+    let w = a.writer.now in
+    let r = c.put_clauses-next.ensures in
     let b = created h.0 (f.at.kind ∙ ap code_of c.in-Create.is) in
-    let k = next-stands h.0 b.has _ (w.next ∙ ap (λ (z : Clauses). a.i + 1 + length (flatten_clauses z)) (clauses-same h.0 n f.clauses)) in
-    let e = clauses-size h.0 n f.clauses a.image.now.ready (length a.row.now) h.1 in
-    (h.0.source, (k.0, (k.1, (search rules, omega (arith, w.puts.ends, set-short a.image.now.frame.id (mark_clauses (clauses_at 127 n (records_in a.image.now.frame a.image.now.bytes.now) (a.i + 1)) [] (replicate (length a.row.now) 0)) (length a.row.now) h.0.narrow e, h.1)))))
+    let k = next-stands h.0 b.has _ (r.next_is ∙ ap (λ (z : Clauses). a.i + 1 + length (flatten_clauses z)) (clauses-same h.0 n f.clauses)) in
+    let e = clauses-size h.0 n f.clauses a.image.now.ready (length a.row.now) h.1.0 in
+    let short = set-short w.id (mark_clauses (clauses_at 127 n (records_of a.image.now) (a.i + 1)) [] (replicate (length a.row.now) 0)) (length a.row.now) w.narrow e in
+    (k.0, (k.1, (search rules, omega (arith, r.wrote.puts.ends, short, h.1))))
 
 pub returns-in-Create : goal.returns-in-Create
 returns-in-Create c =
@@ -57,12 +59,12 @@ returns-in-Create c =
     let h = c.requires in
     let f = c.parts_of-f.ensures in
     let n = c.parts_of-f.result.clauses in
-    let w = c.put_clauses-c.ensures in
+    let r = c.put_clauses-next.ensures in
     let b = created h.0 (f.at.kind ∙ ap code_of c.in-Create.is) in
-    let k = length c.put_clauses-c.new.row in
+    let k = length c.put_clauses-next.new.row in
     let e : k ≡ 65536 = search rules in
-    put_two a.image.now.frame.id (annotations (stmt_at max_depth (records_in a.image.now.frame a.image.now.bytes.now) a.i)) _ _ _ _ w.puts c.put_statement.ensures.puts (clauses-marked h.0 n f.clauses a.image.now.ready (length a.row.now) h.1)
-    (next-marked h.0 b.has _ (w.next ∙ ap (λ (z : Clauses). a.i + 1 + length (flatten_clauses z)) (clauses-same h.0 n f.clauses)) a.image.now.ready k e) b.sets
+    wrote_two (annotations (stmt_at max_depth (records_of a.image.now) a.i)) _ _ _ _ r.wrote c.put_statement.ensures.wrote (clauses-marked h.0 n f.clauses a.image.now.ready (length a.row.now) h.1.0)
+    (next-marked h.0 b.has _ (r.next_is ∙ ap (λ (z : Clauses). a.i + 1 + length (flatten_clauses z)) (clauses-same h.0 n f.clauses)) a.image.now.ready k e) b.sets
 
 pub put_statement-requires-in_default : goal.put_statement-requires-in_default
 put_statement-requires-in_default c =
@@ -70,7 +72,7 @@ put_statement-requires-in_default c =
     let f = c.parts_of-f.ensures in
     let b = followed h.0 (λ e. c.in_default.not-Switch (same_code _ Switch (sym f.at.kind ∙ e))) (λ e. c.in_default.not-Create (same_code _ Create (sym f.at.kind ∙ e))) in
     let k = next-stands h.0 b.has _ (behind h.0 b) in
-    (h.0.source, (k.0, (k.1, (search rules, omega arith))))
+    (k.0, (k.1, (search rules, omega arith)))
 
 pub returns-in_default : goal.returns-in_default
 returns-in_default c =
@@ -78,4 +80,4 @@ returns-in_default c =
     let h = c.requires in
     let f = c.parts_of-f.ensures in
     let b = followed h.0 (λ e. c.in_default.not-Switch (same_code _ Switch (sym f.at.kind ∙ e))) (λ e. c.in_default.not-Create (same_code _ Create (sym f.at.kind ∙ e))) in
-    put_one a.image.now.frame.id (annotations (stmt_at max_depth (records_in a.image.now.frame a.image.now.bytes.now) a.i)) _ _ c.put_statement-in_default.ensures.puts (next-marked h.0 b.has _ (behind h.0 b) a.image.now.ready _ h.1) b.sets
+    wrote_one (annotations (stmt_at max_depth (records_of a.image.now) a.i)) _ _ c.put_statement-in_default.ensures.wrote (next-marked h.0 b.has _ (behind h.0 b) a.image.now.ready _ h.1.0) b.sets

@@ -4,9 +4,9 @@ use Prim.Native.Nat.{ℕ}
 use native.Mathlib.Omega.{arith}
 use lib.ListN.{length}
 use Rattle.syntax.specs.declared.names.VarId.{VarId}
-use Rattle.image_directory.specs.Slots.{records_in}
+use Rattle.image_directory.specs.Images.{records_of}
 use Rattle.image_places_spec.specs.Places.{stmt_at}
-use Rattle.image_write_parts.specs.Puts.{Puts}
+use Rattle.image_write_parts.proofs.WriterLaws.{wrote_as}
 use Rattle.scope_spec.specs.Calls.{set_bytes}
 use Rattle.scope_spec.specs.Rooms.{RoomFor}
 use Rattle.scope_spec.specs.Marking.{mark_stmt, marked_from}
@@ -18,7 +18,7 @@ statement-next-requires c =
     let a = c.args in
     let h = c.requires in
     let e = c.empty.ensures in
-    (h.0, (h.1.0, (record { count = e.count ∙ ap length (sym e.list); small = omega (arith, e.count) }, subst (λ (z : List VarId). RoomFor z (stmt_at 127 (records_in a.image.now.frame a.image.now.bytes.now) a.i)) (sym e.list) h.1.1.0)))
+    (h.0, (record { count = e.count ∙ ap length (sym e.list); small = omega (arith, e.count) }, subst (λ (z : List VarId). RoomFor z (stmt_at 127 (records_of a.source.now.image) a.i)) (sym e.list) h.1.0))
 
 pub returns : goal.returns
 returns c =
@@ -26,8 +26,10 @@ returns c =
     let m = c.statement-next.ensures in
     let e = c.empty.ensures.list in
     let k = c.clear.ensures in
+    let w = a.writer.now in
     record {
-      next = m.next_is;
-      puts = subst (λ (z : List ℕ). Puts a.out.now c.put_set-end.new.out a.at c.put_set-end.result (set_bytes a.image.now.frame.id (marked_from 0 z)))
-          (row-after (mark_stmt (stmt_at 127 (records_in a.image.now.frame a.image.now.bytes.now) a.i)) m.row_is e k) c.put_set-end.ensures;
+      next_is = m.next_is;
+      wrote = wrote_as
+          (ap (λ (z : List ℕ). set_bytes w.id (marked_from 0 z)) (row-after (mark_stmt (stmt_at 127 (records_of a.source.now.image) a.i)) m.row_is e k))
+          c.put_set.ensures;
     }

@@ -2,7 +2,7 @@ use Rattle.std.proofs.Common.{◌≡◌, ◌+◌, ◌-◌, ◌*◌, length}
 use Rattle.syntax.specs.Arrays.{set_of}
 use Rattle.image_spec.specs.Parse.{each}
 use Rattle.image_spec.specs.Shape.{flatten, flatten_clauses}
-use Rattle.image_directory.specs.Slots.{records_in}
+use Rattle.image_directory.specs.Images.{records_of}
 use Rattle.image_places_spec.specs.Places.{clauses_at, bodies_at}
 use Rattle.image_places_spec.proofs.Steps.{ClausesLeft, BodiesLeft}
 use Rattle.scope_spec.specs.Marking.{mark_clauses, mark_bodies}
@@ -20,8 +20,8 @@ decreases-statement l = 2 * l.depth
 
 abbrev pub invariant-bodies-loop : goal.invariant-bodies-loop
 invariant-bodies-loop l =
-    (length l.row ≡ length l.initial.row) × BodiesLeft l.depth (records_in l.image.frame l.image.bytes.now) (l.i + length (each flatten (bodies_at l.depth l.n (records_in l.image.frame l.image.bytes.now) l.i))) (l.n - l.counter) l.here (MarksBodies (set_of l.bound) (mark_bodies (bodies_at l.depth l.n (records_in l.image.frame l.image.bytes.now) l.i) (set_of l.bound) l.initial.row) l.row)
+    (length l.row ≡ length l.initial.row) × BodiesLeft l.depth (records_of l.source.image) (l.i + length (each flatten (bodies_at l.depth l.n (records_of l.source.image) l.i))) (l.n - l.counter) l.here (MarksBodies (set_of l.bound) (mark_bodies (bodies_at l.depth l.n (records_of l.source.image) l.i) (set_of l.bound) l.initial.row) l.row)
 
 abbrev pub invariant-clauses-loop : goal.invariant-clauses-loop
 invariant-clauses-loop l =
-    (length l.row ≡ length l.initial.row) × ClausesLeft l.depth (records_in l.image.frame l.image.bytes.now) (l.i + length (flatten_clauses (clauses_at l.depth l.n (records_in l.image.frame l.image.bytes.now) l.i))) (l.n - l.counter) l.here (MarksClauses (set_of l.bound) (mark_clauses (clauses_at l.depth l.n (records_in l.image.frame l.image.bytes.now) l.i) (set_of l.bound) l.initial.row) l.row)
+    (length l.row ≡ length l.initial.row) × ClausesLeft l.depth (records_of l.source.image) (l.i + length (flatten_clauses (clauses_at l.depth l.n (records_of l.source.image) l.i))) (l.n - l.counter) l.here (MarksClauses (set_of l.bound) (mark_clauses (clauses_at l.depth l.n (records_of l.source.image) l.i) (set_of l.bound) l.initial.row) l.row)

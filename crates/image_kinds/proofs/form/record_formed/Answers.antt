@@ -10,24 +10,24 @@ use Rattle.image_kinds.proofs.form.record_formed.Goals as goal
 use Rattle.image_kinds.proofs.form.record_formed.Goals.{In-Ok}
 
 -- the byte that was read is the kind's
-first : (c : In-Ok) → code_of c.in-Ok.kind ≡ get_or c.args.bytes.now 0 0
+first : (c : In-Ok) → code_of c.in-Ok.kind ≡ get_or c.args.fields.now.bytes.now 0 0
 first c = c.in-Ok.ensures
 
 pub returns-then-is_empty : goal.returns-then-is_empty
-returns-then-is_empty c = let a = c.args in sym (formed-empty a.w a.bytes.now (eqb-true (length a.bytes.now) 0 (sym c.if-is_empty.ensures)))
+returns-then-is_empty c = let f = c.args.fields.now in sym (formed-empty f.id f.bytes.now (eqb-true (length f.bytes.now) 0 (sym c.if-is_empty.ensures)))
 
 pub returns-in_default : goal.returns-in_default
-returns-in_default c = let a = c.args in sym (formed-other a.w a.bytes.now (c.in_default.ensures).1)
+returns-in_default c = let f = c.args.fields.now in sym (formed-other f.id f.bytes.now (c.in_default.ensures).1)
 
 pub returns-then-bytes-fixed : goal.returns-then-bytes-fixed
 returns-then-bytes-fixed c =
-    let a = c.args in
+    let f = c.args.fields.now in
     let k = first (goal.at.returns-then-bytes-fixed c).In-Ok in
-    sym (formed-short a.w a.bytes.now (subst (λ n. length a.bytes.now < n) (c.fixed.ensures ∙ ap (fixed a.w) k) c.if-bytes-fixed.true))
+    sym (formed-short f.id f.bytes.now (subst (λ n. length f.bytes.now < n) (c.fixed.ensures ∙ ap (fixed f.id) k) c.if-bytes-fixed.true))
 
 pub returns : goal.returns
 returns c =
-    let a = c.args in
-    let h : 0 < length a.bytes.now = grind (arith, nat_tests, c.if-is_empty.ensures) in
+    let f = c.args.fields.now in
+    let h : 0 < length f.bytes.now = grind (arith, nat_tests, c.if-is_empty.ensures) in
     let k = first (goal.at.returns c).In-Ok in
-    rw (formed a.w a.bytes.now h, ← (c.skip_content.ensures ∙ ap (λ (k : ℕ). stop (content a.w k) a.bytes.now 1) k)) c.eq.ensures
+    rw (formed f.id f.bytes.now h, ← (c.skip_content.ensures ∙ ap (λ (k : ℕ). stop (content f.id k) f.bytes.now 1) k)) c.eq.ensures

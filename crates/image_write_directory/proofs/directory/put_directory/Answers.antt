@@ -1,25 +1,29 @@
 use mathlib.Core.Path.{refl, ◌∙◌}
 use native.Mathlib.Omega.{arith}
-use lib.ListN.{length-take}
 use Rattle.image_spec.proofs.FieldLaws.{field-length}
-use Rattle.image_write_parts.proofs.Putting.{puts-same}
 use Rattle.image_write_directory.proofs.DirectoryLaws.{directory_begins, directory_next, directory_ends}
 use Rattle.image_write_directory.proofs.directory.put_directory.Goals as goal
 
 pub loop-size-init : goal.loop-size-init
 loop-size-init c =
-    let h = c.requires.1.1 in
-    (refl, directory_begins c.args.w _ c.args.out.now c.args.at c.args.start h.1 (omega (arith, h.0, length-take c.args.n c.args.lengths.now)))
+    let w = c.args.writer.now in
+    let h = c.requires.1 in
+    (directory_begins c.args.width c.args.lengths.now w.out.now w.at c.args.start h.1 h.0, (refl, refl))
 
-pub put_number-here-requires : goal.put_number-here-requires
-put_number-here-requires c =
-    omega (arith, c.loop-size.invariant.1.far, c.loop-size-test.true, c.requires.1.0, c.put_number-next.ensures.ends, field-length c.args.w c.loop-size.place)
+pub number-requires-in-loop-size : goal.number-requires-in-loop-size
+number-requires-in-loop-size c =
+    omega (arith, c.loop-size.invariant.0.far, c.loop-size-test.true, c.requires.0, c.number.ensures.puts.ends, field-length c.args.width c.loop-size.place)
 
 pub loop-size-preserved : goal.loop-size-preserved
-loop-size-preserved c = (
-  puts-same c.put_number-here.ensures ∙ (puts-same c.put_number-next.ensures ∙ c.loop-size.invariant.0),
-  directory_next c.loop-size.invariant.1 c.loop-size-test.true c.requires.1.0 (field-length _ _) (field-length _ _) c.put_number-next.ensures c.put_number-here.ensures,
-)
+loop-size-preserved c =
+    let i = c.loop-size.invariant in
+    let p = c.number.ensures in
+    let q = c.number-in-loop-size.ensures in (
+      directory_next i.0 c.loop-size-test.true c.requires.0 (field-length _ _) (field-length _ _) p.puts q.puts,
+      (q.id ∙ (p.id ∙ i.1.0), q.same ∙ (p.same ∙ i.1.1)),
+    )
 
 pub returns : goal.returns
-returns c = directory_ends c.loop-size.invariant.1 c.loop-size-test.false
+returns c =
+    let i = c.loop-size.invariant in
+    record { puts = directory_ends i.0 c.loop-size-test.false; id = i.1.0; same = i.1.1 }

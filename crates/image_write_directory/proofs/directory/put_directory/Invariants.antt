@@ -1,7 +1,9 @@
 use mathlib.Core.Path.{◌≡◌}
-use lib.ListN.{length, take}
 use Rattle.image_write_directory.proofs.DirectoryLaws.{DirectoryLeft}
 use Rattle.image_write_directory.proofs.directory.put_directory.Given as goal
 
 abbrev pub invariant-loop-size : goal.invariant-loop-size
-invariant-loop-size l = (length l.out ≡ length l.initial.out) × DirectoryLeft l.w (take l.n l.lengths) l.initial.out l.at l.start l.out l.place l.here l.size-index
+invariant-loop-size l =
+    let s = l.initial.writer in
+    DirectoryLeft l.width l.lengths s.out.now s.at l.start l.writer.out.now l.place l.writer.at l.size-index
+    × ((l.writer.id ≡ s.id) × (l.writer.out.ghost_name ≡ s.out.ghost_name))

@@ -1,17 +1,18 @@
 -- `put_headed` meets its contract. Assumes nothing.
+use Prim.Native.Nat.{ℕ}
 use mathlib.Core.List.{◌∷◌}
 use native.Mathlib.Omega.{arith}
-use Rattle.image_spec.specs.Fields.{identifier_bytes}
+use Rattle.syntax.specs.Arrays.{context_of}
+use Rattle.image_spec.specs.Fields.{identifier_bytes, list_bytes}
 use Rattle.image_spec.proofs.FieldLaws.{identifier-length}
-use Rattle.image_write_parts.proofs.Putting.{puts_then}
+use Rattle.image_write_parts.proofs.WriterLaws.{wrote_next}
 use Rattle.image_kinds.specs.Codes.{code_of}
 use Rattle.image_write_records.proofs.records.put_headed.Goals as goal
 
 pub put_list-requires : goal.put_list-requires
-put_list-requires c =
-    (omega (arith, c.put_named-next.ensures.ends, identifier-length c.args.w c.args.x, c.requires), c.requires.1)
+put_list-requires c = (omega (arith, identifier-length), c.requires.1)
 
 pub returns : goal.returns
 returns c =
     let a = c.args in
-    puts_then {xs = code_of a.kind ∷ identifier_bytes a.w a.x} c.put_named-next.ensures c.put_list.ensures
+    wrote_next {xs = code_of a.kind ∷ identifier_bytes a.writer.now.id a.x} (λ (k : ℕ). list_bytes k (context_of a.context)) c.put_named.ensures c.put_list.ensures

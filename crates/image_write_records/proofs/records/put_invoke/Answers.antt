@@ -1,27 +1,26 @@
 -- `put_invoke` meets its contract. Assumes nothing.
-use mathlib.Core.List.{◌∷◌}
+use Prim.Native.Nat.{ℕ}
+use mathlib.Core.List.{◌∷◌, [], ◌++◌}
 use native.Mathlib.Omega.{arith}
 use Rattle.image_spec.specs.Fields.{identifier_bytes, type_bytes}
 use Rattle.image_spec.specs.Records.{record_bytes}
 use Rattle.image_spec.proofs.FieldLaws.{identifier-length, type-length}
-use Rattle.image_write_parts.proofs.Putting.{puts_then}
+use Rattle.image_write_parts.proofs.WriterLaws.{wrote_then, wrote_next}
 use Rattle.image_write_records.proofs.records.put_invoke.Goals as goal
 
-pub put_identifier-after-requires : goal.put_identifier-after-requires
-put_identifier-after-requires c =
-    (omega (arith, c.put_named-next.ensures.ends, identifier-length c.args.w c.args.var, c.requires), c.requires.1)
+pub identifier-requires : goal.identifier-requires
+identifier-requires c = omega (arith, identifier-length)
 
-pub put_type-last-requires : goal.put_type-last-requires
-put_type-last-requires c =
-    (omega (arith, c.put_identifier-after.ensures.ends, identifier-length c.args.w c.args.tag, c.put_named-next.ensures.ends, identifier-length c.args.w c.args.var, c.requires), c.requires.1)
+pub ty-requires : goal.ty-requires
+ty-requires c = omega (arith, identifier-length)
 
-pub put_byte-requires : goal.put_byte-requires
-put_byte-requires c =
-    omega (arith, c.put_type-last.ensures.ends, type-length c.args.w c.args.ty, c.put_identifier-after.ensures.ends, identifier-length c.args.w c.args.tag, c.put_named-next.ensures.ends, identifier-length c.args.w c.args.var, c.requires)
+pub byte-requires : goal.byte-requires
+byte-requires c = omega (arith, identifier-length, type-length)
 
 pub returns : goal.returns
 unfolding record_bytes
 returns c =
     let a = c.args in
-    puts_then {xs = 7 ∷ identifier_bytes a.w a.var} c.put_named-next.ensures
-    (puts_then {xs = identifier_bytes a.w a.tag} c.put_identifier-after.ensures (puts_then {xs = type_bytes a.w a.ty} c.put_type-last.ensures c.put_byte.ensures))
+    let last = wrote_then {xs = type_bytes c.identifier.new.self.id a.ty} c.ty.ensures c.byte.ensures in
+    let after = wrote_next {xs = identifier_bytes c.put_named.new.writer.id a.tag} (λ (k : ℕ). type_bytes k a.ty ++ 0 ∷ []) c.identifier.ensures last in
+    wrote_next {xs = 7 ∷ identifier_bytes a.writer.now.id a.var} (λ (k : ℕ). identifier_bytes k a.tag ++ (type_bytes k a.ty ++ 0 ∷ [])) c.put_named.ensures after

@@ -1,17 +1,17 @@
 -- `put_typed` meets its contract. Assumes nothing.
+use Prim.Native.Nat.{ℕ}
 use mathlib.Core.List.{◌∷◌}
 use native.Mathlib.Omega.{arith}
-use Rattle.image_spec.specs.Fields.{identifier_bytes}
+use Rattle.image_spec.specs.Fields.{identifier_bytes, type_bytes}
 use Rattle.image_spec.proofs.FieldLaws.{identifier-length}
-use Rattle.image_write_parts.proofs.Putting.{puts_then}
+use Rattle.image_write_parts.proofs.WriterLaws.{wrote_next}
 use Rattle.image_kinds.specs.Codes.{code_of}
 use Rattle.image_write_records.proofs.records.put_typed.Goals as goal
 
-pub put_type-requires : goal.put_type-requires
-put_type-requires c =
-    (omega (arith, c.put_named-next.ensures.ends, identifier-length c.args.w c.args.var, c.requires.0), c.requires.1)
+pub ty-requires : goal.ty-requires
+ty-requires c = omega (arith, identifier-length)
 
 pub returns : goal.returns
 returns c =
     let a = c.args in
-    puts_then {xs = code_of a.kind ∷ identifier_bytes a.w a.var} c.put_named-next.ensures c.put_type.ensures
+    wrote_next {xs = code_of a.kind ∷ identifier_bytes a.writer.now.id a.var} (λ (k : ℕ). type_bytes k a.ty) c.put_named.ensures c.ty.ensures

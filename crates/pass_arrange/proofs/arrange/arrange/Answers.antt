@@ -1,22 +1,21 @@
 -- `arrange` meets its contract: i pairs are stored; then j of them are written behind the kind and the count. Assumes nothing.
--- ── the places ──
--- ── which binding stands at i ──
 use Prim.Native.Nat.{◌+◌, ◌-◌, ◌≤◌, ◌<◌}
 use mathlib.Core.Path.{◌≡◌, refl, sym, ap, ◌∙◌}
 use mathlib.Core.Bool.{Bool, true, false, not, beq}
 use lib.Dec.{ltb}
 use native.Mathlib.Omega.{arith}
+use lib.ListN.{length}
 use Rattle.syntax.specs.Context.{Context, empty_binding}
 use Rattle.syntax.specs.Flat.{binding_of}
 use Rattle.syntax.specs.Arrays.{context_of}
 use Rattle.syntax_substitution.specs.Pairs.{pair_of}
 use Rattle.syntax_substitution.proofs.Pairing.{context-at}
-use Rattle.image_write_parts.proofs.Writing.{written_none}
-use Rattle.image_write_parts.proofs.Putting.{puts-same}
 use Rattle.pass_work_spec.specs.Work.{bindings}
 use Rattle.pass_context.specs.Holding.{work_of}
 use Rattle.pass_context.proofs.Elements.{binding-at}
 use Rattle.pass_step.proofs.OpenLaws.{workable-holds, bindings-count}
+use Rattle.image_write_directory.proofs.EmitLaws.{keeps_same}
+use Rattle.pass_step.proofs.WriteLaws.{noted_up_to}
 use Rattle.pass_arrange.specs.Joined.{joined}
 use Rattle.pass_arrange.proofs.PairLaws.{wanted-count, joined_length, zipped-joined, zipped_target, zipped-kept, place-most, at_target, at-kept}
 use Rattle.pass_arrange.proofs.ArrangeLaws.{arranges_nothing, written-pair, arranges_written}
@@ -46,7 +45,7 @@ module _ (c : In-loop-i) where
   kept_here e = at-kept c.args.targets_first c.args.targets.len c.args.kept.len _ _ _ c.place-kept_at.ensures c.place-targets_at.ensures c.loop-i-test.true e
 
 pub returns-then-right : goal.returns-then-right
-returns-then-right c = arranges_nothing (targets_of (goal.at.returns-then-right c).Start) (wanted_of (goal.at.returns-then-right c).Start) c.if-right.true
+returns-then-right c = (arranges_nothing (targets_of (goal.at.returns-then-right c).Start) (wanted_of (goal.at.returns-then-right c).Start) c.if-right.true, keeps_same _)
 
 pub overflow_add-front : goal.overflow_add-front
 overflow_add-front c = omega (arith, place-most c.args.targets_first c.args.targets.len c.place-kept_at.ensures, place-most (not c.args.targets_first) c.args.kept.len c.place-targets_at.ensures, few (goal.at.overflow_add-front c).Start)
@@ -98,34 +97,25 @@ loop-i-preserved c =
       ],
     )
 
-pub put_substitute-here-requires : goal.put_substitute-here-requires
-put_substitute-here-requires c = (omega (arith, c.requires.1.1.1.at), few (goal.at.put_substitute-here-requires c).Start)
-
-pub loop-j-init : goal.loop-j-init
-loop-j-init c = (omega arith, written_none _ _ _ _ _)
-
-pub bounds-all-j : goal.bounds-all-j
-bounds-all-j c = omega (arith, c.loop-j-test.true, few (goal.at.bounds-all-j c).Start)
-
-pub put_pair-here-requires : goal.put_pair-here-requires
-put_pair-here-requires c =
-    (omega (arith, c.loop-j.invariant.1.far, c.loop-j-test.true, c.put_substitute-here.ensures.ends, few (goal.at.put_pair-here-requires c).Start, c.requires.1.1.1.at), c.requires.1.1.0)
-
 pub loop-j-preserved : goal.loop-j-preserved
 loop-j-preserved c =
     let f = c.loop-i in
     let t = c.loop-j-test.true in
-    (omega (arith, t), written-pair c.args.w f.all c.requires.1.1.0 (omega (arith, f.invariant.1.size, t, few (goal.at.loop-j-preserved c).Start)) c.put_pair-here.ensures c.loop-j.invariant.1)
-
-pub note-requires : goal.note-requires
-note-requires c =
-    (omega (arith, c.loop-j.invariant.1.puts.ends, c.put_substitute-here.ensures.ends), omega (arith, c.requires.1.1.1.count))
-
-pub shape_of-out : goal.shape_of-out
-shape_of-out c = puts-same c.loop-j.invariant.1.puts ∙ puts-same c.put_substitute-here.ensures
+    let w = c.args.output.now.writer in
+    let i = c.loop-j.invariant.1 in
+    let p = c.put_pair.ensures in
+    let pair = rw i.1.0 at p.puts in
+    (omega (arith, t), (written-pair w.id f.all (omega (arith, w.narrow)) (omega (arith, f.invariant.1.size, t, few (goal.at.loop-j-preserved c).Start)) pair i.0, (p.id ∙ i.1.0, p.same ∙ i.1.1)))
 
 pub returns : goal.returns
 returns c =
-    arranges_written c.args.w (targets_of (goal.at.returns c).Start) (wanted_of (goal.at.returns c).Start) c.loop-i.all.pairs (c.args.targets.len + c.args.kept.len) c.requires.1.1.0 c.if-right.false
-    (omega (arith, c.requires.0.count, bindings-count (workable-holds c.requires.1.0), joined_length c.args.targets_first (context_of c.args.targets) (bindings (work_of c.args.kept)))) c.loop-i-test.false c.loop-i.invariant.1 c.put_substitute-here.ensures
-    c.loop-j.invariant c.loop-j-test.false c.note.ensures
+    let w = c.args.output.now.writer in
+    let T = targets_of (goal.at.returns c).Start in
+    let size : c.args.targets.len + c.args.kept.len ≡ length T =
+    omega (arith, c.requires.0.count, bindings-count (workable-holds c.requires.1.0), joined_length c.args.targets_first (context_of c.args.targets) (bindings (work_of c.args.kept))) in
+    let s = c.put_substitute.ensures in
+    let j = c.loop-j.invariant in
+    let n = c.note.ensures in (
+      rw n.out (arranges_written w.id T (wanted_of (goal.at.returns c).Start) c.loop-i.all.pairs _ (omega (arith, w.narrow)) c.if-right.false size c.loop-i-test.false c.loop-i.invariant.1 s.puts (j.0, j.1.0) c.loop-j-test.false (noted_up_to c.args.output.now n)),
+      record { id = n.keeps.id ∙ j.1.1.0; out = n.keeps.out ∙ (j.1.1.1 ∙ s.same); lengths = n.keeps.lengths },
+    )

@@ -1,6 +1,4 @@
 -- `arrange` meets its contract: i pairs are stored; then j of them are written behind the kind and the count. Assumes nothing.
--- ── the places ──
--- ── which binding stands at i ──
 use Prim.Native.Nat.{◌≤◌}
 use mathlib.Core.Path.{◌≡◌}
 use Rattle.syntax.specs.Arrays.{context_of}
@@ -17,4 +15,7 @@ abbrev pub invariant-loop-i : goal.invariant-loop-i
 invariant-loop-i l = (l.all.len ≡ l.n) × Zipped (joined l.targets_first (context_of l.targets) (bindings (work_of l.kept))) (joined l.targets_first (context_of l.wanted) (bindings (work_of l.kept))) l.all.pairs l.i
 
 abbrev pub invariant-loop-j : goal.invariant-loop-j
-invariant-loop-j l = (l.j ≤ l.n) × Written (stored_bytes l.w) 32 (pairs_in l.all) l.initial.out l.initial.here l.out l.here l.j
+invariant-loop-j l =
+    let s = l.initial.writer in
+    let w = l.fn.output.writer.id in
+    (l.j ≤ l.n) × (Written (stored_bytes w) 32 (pairs_in l.all) s.out.now s.at l.writer.out.now l.writer.at l.j × ((l.writer.id ≡ w) × (l.writer.out.ghost_name ≡ s.out.ghost_name)))

@@ -2,55 +2,60 @@
 use Prim.Native.Nat.{ℕ, ◌+◌, ◌≤◌}
 use mathlib.Core.Path.{refl}
 use mathlib.Core.Bool.{true, false}
+use mathlib.Core.List.{◌∷◌, ◌++◌}
 use native.Mathlib.Omega.{arith}
+use Rattle.syntax.specs.Arrays.{context_of}
+use Rattle.image_spec.specs.Fields.{identifier_bytes, list_bytes}
+use Rattle.image_kinds.specs.Codes.{code_of}
 use Rattle.pass_context.specs.Holding.{work_of}
+use Rattle.pass_step.proofs.SourceLaws.{source-at}
+use Rattle.image_write_directory.proofs.EmitLaws.{keeps_same}
+use Rattle.pass_step.proofs.WriteLaws.{Recorded, recorded_bytes}
 use Rattle.pass_clause.proofs.EnterLaws.{enters-named, enters}
 use Rattle.pass_clause.proofs.clause.enter.Goals as goal
-use Rattle.pass_clause.proofs.clause.enter.Goals.{After-named-record}
+use Rattle.pass_clause.proofs.clause.enter.Goals.{After-named-record, After-note}
 
 module _ (c : After-named-record) where
   abbrev held : ℕ
-  held = c.args.context.len
+  held = c.args.here.now.context.len
 
   abbrev params : ℕ
   params = c.named-record.result.list.len
 
   room : held + params ≤ 64
-  room = omega (arith, c.named-record.ensures.list.count, c.requires.1.1.0.room)
+  room = omega (arith, c.named-record.ensures.list.count, c.requires.1.0.room)
 
-  places : c.args.in_scope + params ≤ 64
-  places = omega (arith, c.named-record.ensures.list.count, c.requires.1.1.0.places)
+  places : c.args.here.now.in_scope + params ≤ 64
+  places = omega (arith, c.named-record.ensures.list.count, c.requires.1.0.places)
+
+-- its kind, its identifier and its list were written, and their length noted
+written : (c : After-note) → Recorded c.args.output.now c.args.output.now c.note.new.output c.put_headed.new.writer.at (λ (w : ℕ). code_of c.args.source.now.node.kind ∷ (identifier_bytes w c.named-record.result.name ++ list_bytes w (context_of c.named-record.result.list)))
+written c = recorded_bytes _ (keeps_same c.args.output.now) c.put_headed.ensures c.note.ensures
 
 pub named-record-requires : goal.named-record-requires
-named-record-requires c = enters-named c.requires.1.0 c.requires.0
+named-record-requires c = enters-named c.requires.0 (source-at c.args.source.now)
 
-pub put_headed-next-requires : goal.put_headed-next-requires
-put_headed-next-requires c =
-    let h = c.requires in
-    (omega (arith, h.1.1.1.at), (omega (arith, c.args.image.now.ready.id.1), omega (arith, room (goal.at.put_headed-next-requires c).After-named-record)))
+pub put_headed-requires : goal.put_headed-requires
+put_headed-requires c = (omega (arith, c.requires.1.1.at), omega (arith, room (goal.at.put_headed-requires c).After-named-record))
 
-pub note-progress-requires : goal.note-progress-requires
-note-progress-requires c =
-    (omega (arith, c.put_headed-next.ensures.ends), omega (arith, c.requires.1.1.1.count))
+pub overflow_cast-in_scope : goal.overflow_cast-in_scope
+overflow_cast-in_scope c = record { fits = omega (arith, room (goal.at.overflow_cast-in_scope c).After-named-record) }
 
-pub overflow_cast-in_body : goal.overflow_cast-in_body
-overflow_cast-in_body c = record { fits = omega (arith, room (goal.at.overflow_cast-in_body c).After-named-record) }
-
-pub overflow_add-in_body : goal.overflow_add-in_body
-overflow_add-in_body c = record { fits = omega (arith, places (goal.at.overflow_add-in_body c).After-named-record) }
+pub overflow_add-in_scope : goal.overflow_add-in_scope
+overflow_add-in_scope c = record { fits = omega (arith, places (goal.at.overflow_add-in_scope c).After-named-record) }
 
 pub under-requires : goal.under-requires
 under-requires c = (omega (arith, room (goal.at.under-requires c).After-named-record), omega (arith, places (goal.at.under-requires c).After-named-record))
 
 pub returns-then-before : goal.returns-then-before
 returns-then-before c =
-    enters true (work_of c.args.context) c.args.in_scope c.requires.1.0 c.requires.0.at.kind c.named-record.ensures c.if-before.true
-    c.put_headed-next.ensures c.note-progress.ensures c.under.ensures refl
+    let z = written (goal.at.returns-then-before c).After-note in
+    (enters true (work_of c.args.here.now.context) c.args.here.now.in_scope c.requires.0 c.args.source.now.node.there.kind c.named-record.ensures c.if-before.true z.puts z.noted c.under.ensures refl, z.keeps)
 
 pub owns-requires : goal.owns-requires
 owns-requires c = (omega (arith, room (goal.at.owns-requires c).After-named-record), omega (arith, places (goal.at.owns-requires c).After-named-record))
 
 pub returns : goal.returns
 returns c =
-    enters false (work_of c.args.context) c.args.in_scope c.requires.1.0 c.requires.0.at.kind c.named-record.ensures c.if-before.false
-    c.put_headed-next.ensures c.note-progress.ensures c.owns.ensures refl
+    let z = written (goal.at.returns c).After-note in
+    (enters false (work_of c.args.here.now.context) c.args.here.now.in_scope c.requires.0 c.args.source.now.node.there.kind c.named-record.ensures c.if-before.false z.puts z.noted c.owns.ensures refl, z.keeps)

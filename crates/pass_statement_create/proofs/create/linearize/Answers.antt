@@ -4,11 +4,12 @@ use mathlib.Core.Path.{◌≡◌, refl, sym, ap, ◌∙◌}
 use native.Mathlib.Omega.{arith}
 use lib.ListN.{length}
 use Rattle.syntax.specs.Arrays.{context_of, set_of}
-use Rattle.image_read_nodes.specs.Nodes.{record_at}
+use Rattle.image_read_parts.specs.Recorded.{record_in}
 use Rattle.model.proofs.Widths.{unless-length}
 use Rattle.pass_step.proofs.StepLaws.{kept-room}
 use Rattle.pass_step.proofs.FreshLaws.{holds-count, paired-fresh}
 use Rattle.pass_step.proofs.OpenLaws.{workable-holds, held-count, ids-few}
+use Rattle.pass_step.proofs.WriteLaws.{recorded, keeps_drawn}
 use Rattle.pass_statement_create.proofs.CreateLaws.{respelled-few, create-steps}
 use Rattle.pass_statement_create.proofs.create.linearize.Goals as goal
 use Rattle.pass_statement_create.proofs.create.linearize.Goals.{After-context-next, After-filter_by_set-context_next, After-freshen_unless-freshened}
@@ -28,7 +29,7 @@ names_count c =
     omega (
       arith,
       c.freshen_unless-freshened.ensures.holds.count,
-      unless-length a.opened.right (context_of n.result) (set_of c.ids.result) a.so_far.max_id,
+      unless-length a.opened.now.right (context_of n.result) (set_of c.ids.result) a.output.now.max_id,
       holds-count n.ensures,
       held-count c.filter_by_set-context_next.ensures n.ensures,
     )
@@ -42,25 +43,21 @@ freshen_unless-freshened-requires c =
     let o = h.0.workable in
     (holds-count c.context-next.ensures, (omega (arith, next_few (goal.at.freshen_unless-freshened-requires c).After-context-next), (omega (arith, ids-few (workable-holds o) c.ids.ensures, o.room), h.1.max_id)))
 
-pub arrange-q-requires : goal.arrange-q-requires
-arrange-q-requires c =
+pub arrange-requires : goal.arrange-requires
+arrange-requires c =
     let n = c.context-next in (
-      paired-fresh c.args.opened.right n.result (set_of c.ids.result) c.args.so_far.max_id (holds-count n.ensures) (omega (arith, next_few (goal.at.arrange-q-requires c).After-context-next)) c.freshen_unless-freshened.ensures,
-      (c.requires.1.1.0.workable, (omega (arith, c.args.image.now.ready.id.1), c.requires.1.1.1)),
+      paired-fresh c.args.opened.now.right n.result (set_of c.ids.result) c.args.output.now.max_id (holds-count n.ensures) (omega (arith, next_few (goal.at.arrange-requires c).After-context-next)) c.freshen_unless-freshened.ensures,
+      (c.requires.1.1.0.workable, c.requires.1.1.1),
     )
 
 pub context-requires : goal.context-requires
 context-requires c = omega (arith, c.requires.1.1.0.workable.room)
 
-pub put_create-place-requires : goal.put_create-place-requires
-put_create-place-requires c =
+pub put_create-requires : goal.put_create-requires
+put_create-requires c =
     let h = c.requires in
     let o = h.1.1.0.workable in
-    (omega (arith, h.1.1.1.at, c.arrange-q.ensures.near), (omega (arith, c.args.image.now.ready.id.1), omega (arith, held-count (workable-holds o) c.context.ensures, o.room)))
-
-pub note-noted-requires : goal.note-noted-requires
-note-noted-requires c =
-    (omega (arith, c.put_create-place.ensures.ends), omega (arith, c.requires.1.1.1.count, c.arrange-q.ensures.few))
+    (omega (arith, h.1.1.1.at, c.arrange.ensures.0.near), omega (arith, held-count (workable-holds o) c.context.ensures, o.room))
 
 pub renamed-requires : goal.renamed-requires
 renamed-requires c =
@@ -69,7 +66,7 @@ renamed-requires c =
 
 pub own-requires : goal.own-requires
 own-requires c =
-    omega (arith, respelled-few c.args.opened.right c.filter_by_set-context_next.result c.renamed.result _ c.renamed.ensures, entries_few (goal.at.own-requires c).After-filter_by_set-context_next)
+    omega (arith, respelled-few c.args.opened.now.right c.filter_by_set-context_next.result c.renamed.result _ c.renamed.ensures, entries_few (goal.at.own-requires c).After-filter_by_set-context_next)
 
 pub overflow_add-result : goal.overflow_add-result
 overflow_add-result c = record { fits = omega (arith, c.requires.1.0.places) }
@@ -78,6 +75,9 @@ pub returns : goal.returns
 returns c =
     let l = c.create-statement in
     let a = c.args in
-    create-steps {record' = record_at a.image.now.frame a.image.now.bytes.now a.i} l.result.var l.result.ty _ l.result.clauses l.ensures c.requires.1.1.0 c.filter_by_set-context_next.ensures c.context-next.ensures c.context.ensures
-    c.ids.ensures c.freshen_unless-freshened.ensures c.arrange-q.ensures c.put_create-place.ensures c.note-noted.ensures c.renamed.ensures
-    c.own.ensures refl c.with_max_id.ensures
+    let k = c.arrange.ensures in
+    let z = recorded _ k.1 c.put_create.ensures c.note.ensures in (
+      create-steps {record' = record_in a.source.now.node} l.result.var l.result.ty _ l.result.clauses l.ensures c.requires.1.1.0 c.filter_by_set-context_next.ensures c.context-next.ensures c.context.ensures
+          c.ids.ensures c.freshen_unless-freshened.ensures k.0 z.puts z.noted c.renamed.ensures c.own.ensures refl refl,
+      keeps_drawn z.keeps,
+    )

@@ -1,5 +1,4 @@
 -- `open` of a Create meets its contract. Assumes nothing.
--- ── the places, from the first to the last ──
 use Prim.Native.Nat.{◌+◌, ◌*◌, ◌≤◌}
 use mathlib.Core.Path.{◌≡◌, sym, ◌∙◌}
 use mathlib.Core.List.{◌++◌}
@@ -7,6 +6,7 @@ use native.Mathlib.Omega.{arith}
 use borrow.Author.Tests.{ne_eqb}
 use lib.ListN.{length-append}
 use Rattle.syntax.specs.Context.{same_context}
+use Rattle.image_read_parts.proofs.Indexing.{at-kind}
 use Rattle.pass_work_spec.specs.Work.{bindings}
 use Rattle.pass_context.specs.Holding.{work_of}
 use Rattle.pass_entries.proofs.MaskLaws.{mask_fewer}
@@ -23,14 +23,14 @@ next_few c = omega (arith, kept-room c.requires.1.0 c.args.free_vars.next c.filt
 -- .. and the environment
 env_few : (c : After-environment-closure_environment) → c.environment-closure_environment.result.len ≤ 64
 env_few c =
-    omega (arith, environment-few c.args.free_vars.clauses c.filter_by_set-context_next.result.len c.args.context c.environment-closure_environment.ensures, c.requires.1.0.room)
+    omega (arith, environment-few c.args.free_vars.clauses c.filter_by_set-context_next.result.len c.args.context.now c.environment-closure_environment.ensures, c.requires.1.0.room)
 
 -- .. and how many bytes its list has
-env_most : (c : After-environment-closure_environment) → c.environment-closure_environment.result.len * (6 + (c.args.image.now.frame.id + c.args.image.now.frame.id)) ≤ 1408
-env_most c = bindings-most _ c.args.image.now.frame.id (env_few c) (omega (arith, c.args.image.now.ready.id.1))
+env_most : (c : After-environment-closure_environment) → c.environment-closure_environment.result.len * (6 + (c.args.output.now.writer.id + c.args.output.now.writer.id)) ≤ 1408
+env_most c = bindings-most _ c.args.output.now.writer.id (env_few c) (omega (arith, c.args.output.now.writer.narrow))
 
 -- the context is right, by the lengths first
-right_is : (c : Joined-context-kept) → c.if-context-kept.right ≡ same_context (bindings (work_of c.args.context)) (bindings (work_of c.filter_by_set-context_next.result) ++ bindings (work_of c.environment-closure_environment.result))
+right_is : (c : Joined-context-kept) → c.if-context-kept.right ≡ same_context (bindings (work_of c.args.context.now)) (bindings (work_of c.filter_by_set-context_next.result) ++ bindings (work_of c.environment-closure_environment.result))
 right_is c =
     let a = c.requires.1.0 in
     let next = c.filter_by_set-context_next in
@@ -46,7 +46,7 @@ pub environment-closure_environment-requires : goal.environment-closure_environm
 environment-closure_environment-requires c =
     let a = c.args in
     let k = c.requires.1.0 in
-    (omega (arith, k.room), omega (arith, c.filter_by_set-context_next.ensures.count, mask_fewer a.free_vars.next (work_of a.context), k.count))
+    (omega (arith, k.room), omega (arith, c.filter_by_set-context_next.ensures.count, mask_fewer a.free_vars.next (work_of a.context.now), k.count))
 
 pub overflow_add-kept : goal.overflow_add-kept
 overflow_add-kept c =
@@ -66,14 +66,17 @@ overflow_add-own-3 c = record { fits = omega (arith, env_most (goal.at.overflow_
 
 pub overflow_add-own-4 : goal.overflow_add-own-4
 overflow_add-own-4 c =
-    record { fits = omega (arith, env_most (goal.at.overflow_add-own-4 c).After-environment-closure_environment, c.fixed.ensures, c.args.image.now.ready.id.1) }
+    record { fits = omega (arith, env_most (goal.at.overflow_add-own-4 c).After-environment-closure_environment, c.fixed.ensures, c.args.output.now.writer.narrow) }
 
-pub reserve-progress-requires : goal.reserve-progress-requires
-reserve-progress-requires c =
+pub reserve-requires : goal.reserve-requires
+reserve-requires c =
     let h = c.requires in
-    (omega (arith, next_few (goal.at.reserve-progress-requires c).After-filter_by_set-context_next, env_few (goal.at.reserve-progress-requires c).After-environment-closure_environment), (omega (arith, env_most (goal.at.reserve-progress-requires c).After-environment-closure_environment, c.fixed.ensures, c.args.image.now.ready.id.1), (omega (arith, c.args.image.now.ready.id.1), h.1.1)))
+    (omega (arith, next_few (goal.at.reserve-requires c).After-filter_by_set-context_next, env_few (goal.at.reserve-requires c).After-environment-closure_environment), (omega (arith, env_most (goal.at.reserve-requires c).After-environment-closure_environment, c.fixed.ensures, c.args.output.now.writer.narrow), h.1.1))
 
 pub returns : goal.returns
 returns c =
-    let i = is_create_lem _ c.requires.0.at.kind in
-    create-opens i.var i.ty i.environment i.clauses i.is c.filter_by_set-context_next.ensures c.environment-closure_environment.ensures (env_few (goal.at.returns c).After-environment-closure_environment) (right_is (goal.at.returns c).Joined-context-kept) c.fixed.ensures c.reserve-progress.ensures
+    let i = is_create_lem _ (at-kind c.args.source.now.node c.requires.0).kind in
+    let r = c.reserve.ensures in (
+      create-opens i.var i.ty i.environment i.clauses i.is c.filter_by_set-context_next.ensures c.environment-closure_environment.ensures (env_few (goal.at.returns c).After-environment-closure_environment) (right_is (goal.at.returns c).Joined-context-kept) c.fixed.ensures r.0,
+      r.1,
+    )

@@ -7,10 +7,11 @@ use mir.Val.{of_z, to_z}
 use native.Mathlib.Omega.{arith}
 use borrow.Author.Rules.{rules}
 use Rattle.image_spec.specs.Records.{literal, record_bytes}
-use Rattle.image_write_parts.proofs.Putting.{puts_as}
+use Rattle.image_write_parts.proofs.WriterLaws.{wrote_as}
 use Rattle.pass_entries.specs.Masks.{in_mask}
 use Rattle.pass_step.proofs.StepLaws.{kept-room, held-workable}
 use Rattle.pass_step.proofs.RightLaws.{kept-right}
+use Rattle.pass_step.proofs.WriteLaws.{recorded}
 use Rattle.pass_statement_literal.proofs.LiteralLaws.{literal-steps}
 use Rattle.pass_statement_literal.proofs.literal.linearize.Goals as goal
 use Rattle.pass_statement_literal.proofs.literal.linearize.Goals.{After-filter_by_set-new_context, After-literal-statement}
@@ -23,25 +24,10 @@ room c = kept-room c.requires.1.0 c.args.free_vars_next c.filter_by_set-new_cont
 exact : (c : After-literal-statement) → to_z w64 (of_z w64 c.literal-statement.result.lit) ≡ c.literal-statement.result.lit
 exact c = search rules
 
-pub literal-statement-requires : goal.literal-statement-requires
-literal-statement-requires c = c.requires.0.at
-
-pub filter_by_set-new_context-requires : goal.filter_by_set-new_context-requires
-filter_by_set-new_context-requires c = omega (arith, c.requires.1.0.room)
-
-pub arrange_kept-q-requires : goal.arrange_kept-q-requires
-arrange_kept-q-requires c =
+pub arrange_kept-requires : goal.arrange_kept-requires
+arrange_kept-requires c =
     let h = c.requires in
-    (held-workable c.filter_by_set-new_context.ensures (omega (arith, room (goal.at.arrange_kept-q-requires c).After-filter_by_set-new_context)), (omega (arith, c.args.image.now.ready.id.1), h.1.1))
-
-pub put_literal-next-requires : goal.put_literal-next-requires
-put_literal-next-requires c =
-    let h = c.requires in
-    (omega (arith, h.1.1.at, c.arrange_kept-q.ensures.near), omega (arith, c.args.image.now.ready.id.1))
-
-pub note-progress-requires : goal.note-progress-requires
-note-progress-requires c =
-    (omega (arith, c.put_literal-next.ensures.ends), omega (arith, c.requires.1.1.count, c.arrange_kept-q.ensures.few))
+    (held-workable c.filter_by_set-new_context.ensures (omega (arith, room (goal.at.arrange_kept-requires c).After-filter_by_set-new_context)), h.1.1)
 
 pub own-requires : goal.own-requires
 own-requires c = omega (arith, room (goal.at.own-requires c).After-filter_by_set-new_context)
@@ -49,5 +35,9 @@ own-requires c = omega (arith, room (goal.at.own-requires c).After-filter_by_set
 pub returns : goal.returns
 returns c =
     let l = c.literal-statement.result in
-    literal-steps l.lit l.var c.literal-statement.ensures c.filter_by_set-new_context.ensures (kept-right (in_mask c.args.free_vars_next) c.args.context c.requires.1.0.count c.filter_by_set-new_context.ensures) c.arrange_kept-q.ensures
-    (puts_as (ap (λ (x : ℤ). record_bytes c.args.image.now.frame.id (literal x l.var)) (exact (goal.at.returns c).After-literal-statement)) c.put_literal-next.ensures) c.note-progress.ensures c.own.ensures refl
+    let new = c.filter_by_set-new_context.ensures in
+    let right = kept-right (in_mask c.args.free_vars_next) c.args.here.now.context c.requires.1.0.count new in
+    let k = c.arrange_kept in
+    let bytes = wrote_as (ap (λ (x : ℤ). record_bytes k.new.output.writer.id (literal x l.var)) (exact (goal.at.returns c).After-literal-statement)) c.put_literal.ensures in
+    let z = recorded (literal l.lit l.var) k.ensures.1 bytes c.note.ensures in
+    (literal-steps l.lit l.var c.literal-statement.ensures new right k.ensures.0 z.puts z.noted c.own.ensures refl, z.keeps)

@@ -5,6 +5,7 @@ use native.Mathlib.Omega.{arith}
 use Rattle.pass_entries.specs.Masks.{in_mask}
 use Rattle.pass_step.proofs.StepLaws.{kept-room, held-workable}
 use Rattle.pass_step.proofs.RightLaws.{kept-right}
+use Rattle.pass_step.proofs.WriteLaws.{recorded}
 use Rattle.pass_step.proofs.BindLaws.{binds-steps}
 use Rattle.pass_statement_op.proofs.OpLaws.{op-steps}
 use Rattle.pass_statement_op.proofs.op.linearize.Goals as goal
@@ -14,34 +15,10 @@ use Rattle.pass_statement_op.proofs.op.linearize.Goals.{After-filter_by_set-new_
 room : (c : After-filter_by_set-new_context) → c.filter_by_set-new_context.result.len + 1 ≤ 64
 room c = kept-room c.requires.1.1.0 c.with_places-free_vars.result c.filter_by_set-new_context.ensures
 
-pub op-statement-requires : goal.op-statement-requires
-op-statement-requires c = c.requires.0.at
-
-pub with_places-free_vars-requires : goal.with_places-free_vars-requires
-with_places-free_vars-requires c = omega (arith, c.requires.1.1.0.room)
-
-pub filter_by_set-new_context-requires : goal.filter_by_set-new_context-requires
-filter_by_set-new_context-requires c = omega (arith, c.requires.1.1.0.room)
-
-pub arrange_kept-q-requires : goal.arrange_kept-q-requires
-arrange_kept-q-requires c =
+pub arrange_kept-requires : goal.arrange_kept-requires
+arrange_kept-requires c =
     let h = c.requires in
-    (held-workable c.filter_by_set-new_context.ensures (omega (arith, room (goal.at.arrange_kept-q-requires c).After-filter_by_set-new_context)), (omega (arith, c.args.image.now.ready.id.1), h.1.1.1))
-
-pub used-fst-requires : goal.used-fst-requires
-used-fst-requires c = omega (arith, c.requires.1.1.0.room)
-
-pub used-snd-requires : goal.used-snd-requires
-used-snd-requires c = omega (arith, c.requires.1.1.0.room)
-
-pub put_op-next-requires : goal.put_op-next-requires
-put_op-next-requires c =
-    let h = c.requires in
-    (omega (arith, h.1.1.1.at, c.arrange_kept-q.ensures.near), omega (arith, c.args.image.now.ready.id.1))
-
-pub note-progress-requires : goal.note-progress-requires
-note-progress-requires c =
-    (omega (arith, c.put_op-next.ensures.ends), omega (arith, c.requires.1.1.1.count, c.arrange_kept-q.ensures.few))
+    (held-workable c.filter_by_set-new_context.ensures (omega (arith, room (goal.at.arrange_kept-requires c).After-filter_by_set-new_context)), h.1.1.1)
 
 pub own-requires : goal.own-requires
 own-requires c =
@@ -51,6 +28,10 @@ pub returns : goal.returns
 returns c =
     let kept = c.filter_by_set-new_context.ensures in
     let o = c.op-statement.result in
-    let right = kept-right (in_mask c.with_places-free_vars.result) c.args.context c.requires.1.1.0.count kept in
-    op-steps o.fst o.op o.snd o.var c.requires.1.0 c.op-statement.ensures c.with_places-free_vars.ensures c.used-fst.ensures c.used-snd.ensures
-    (binds-steps _ _ _ _ kept right c.arrange_kept-q.ensures c.put_op-next.ensures c.note-progress.ensures c.own.ensures refl)
+    let right = kept-right (in_mask c.with_places-free_vars.result) c.args.here.now.context c.requires.1.1.0.count kept in
+    let k = c.arrange_kept.ensures in
+    let z = recorded _ k.1 c.put_op.ensures c.note.ensures in (
+      op-steps o.fst o.op o.snd o.var c.requires.1.0 c.op-statement.ensures c.with_places-free_vars.ensures c.used-fst.ensures c.used-snd.ensures
+          (binds-steps _ _ _ _ kept right k.0 z.puts z.noted c.own.ensures refl),
+      z.keeps,
+    )

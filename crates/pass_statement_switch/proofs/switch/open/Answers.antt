@@ -19,7 +19,7 @@ kept_few : (c : After-filter_by_set-new_context) → c.filter_by_set-new_context
 kept_few c = omega (arith, kept-room c.requires.1.0 c.args.free_vars_clauses c.filter_by_set-new_context.ensures)
 
 -- the context is right, by the lengths first
-right_is : (c : Joined-context-new_context) → c.if-context-new_context.right ≡ same_context (bindings (work_of c.args.context)) (bindings (work_of c.filter_by_set-new_context.result) ++ (c.matched-xtor.result ∷ []))
+right_is : (c : Joined-context-new_context) → c.if-context-new_context.right ≡ same_context (bindings (work_of c.args.context.now)) (bindings (work_of c.filter_by_set-new_context.result) ++ (c.matched-xtor.result ∷ []))
 right_is c =
     let a = c.requires.1.0 in
     let new = c.filter_by_set-new_context in
@@ -40,12 +40,15 @@ same-right-requires c =
 pub overflow_add-new_context-2 : goal.overflow_add-new_context-2
 overflow_add-new_context-2 c = record { fits = omega (arith, kept_few (goal.at.overflow_add-new_context-2 c).After-filter_by_set-new_context) }
 
-pub reserve-progress-requires : goal.reserve-progress-requires
-reserve-progress-requires c =
+pub reserve-requires : goal.reserve-requires
+reserve-requires c =
     let h = c.requires in
-    (omega (arith, kept_few (goal.at.reserve-progress-requires c).After-filter_by_set-new_context), (omega (arith, c.fixed.ensures, c.args.image.now.ready.id.1), (omega (arith, c.args.image.now.ready.id.1), h.1.1)))
+    (omega (arith, kept_few (goal.at.reserve-requires c).After-filter_by_set-new_context), (omega (arith, c.fixed.ensures, c.args.output.now.writer.narrow), h.1.1))
 
 pub returns : goal.returns
 returns c =
     let l = c.switch-statement in
-    switch-opens l.result.var l.result.ty l.result.clauses l.ensures c.filter_by_set-new_context.ensures (kept_few (goal.at.returns c).After-filter_by_set-new_context) c.matched-xtor.ensures (right_is (goal.at.returns c).Joined-context-new_context) c.fixed.ensures c.reserve-progress.ensures
+    let r = c.reserve.ensures in (
+      switch-opens l.result.var l.result.ty l.result.clauses l.ensures c.filter_by_set-new_context.ensures (kept_few (goal.at.returns c).After-filter_by_set-new_context) c.matched-xtor.ensures (right_is (goal.at.returns c).Joined-context-new_context) c.fixed.ensures r.0,
+      r.1,
+    )

@@ -2,7 +2,7 @@
 use mathlib.Core.Path.{refl, sym, ◌∙◌}
 use native.Mathlib.Omega.{arith}
 use Rattle.image_directory.proofs.Places.{records-length}
-use Rattle.scope_check.proofs.DefLaws.{recount, def-next, depth-turn, depth-no, depth-end}
+use Rattle.scope_check.proofs.DefLaws.{recount, def-next, depth-turn, depth-no}
 use Rattle.scope_check.proofs.definitions.all_shallow.Goals as goal
 
 pub loop-init : goal.loop-init
@@ -18,6 +18,3 @@ loop-preserved c = recount (omega arith) (depth-turn (def-next c.loop.invariant 
 
 pub returns-in-None : goal.returns-in-None
 returns-in-None c = sym (depth-no (def-next c.loop.invariant (omega arith)) (sym c.statement.ensures ∙ c.in-None.is))
-
-pub returns : goal.returns
-returns c = sym (depth-end c.loop.invariant (omega arith))

@@ -5,7 +5,7 @@ use mathlib.Core.Bool.{◌&&◌}
 use native.Mathlib.Omega.{arith}
 use lib.ListN.{drop}
 use Rattle.image_directory.specs.Images.{records_of}
-use Rattle.image_directory.proofs.Places.{records-length}
+use Rattle.image_directory.proofs.Places.{seen, records-length}
 use Rattle.scope_spec.specs.Flat.{all_records_lem}
 use Rattle.scope_records.specs.Tests.{test_of}
 use Rattle.scope_records.proofs.FlatLaws.{all-step, all_end}
@@ -18,6 +18,11 @@ turn : (c : After-passes) →
 turn c =
     let m = c.args.image.now in
     rw c.passes.ensures (c.loop-i.invariant ∙ all-step (test_of c.args.question) (records_of m) c.loop-i.i (omega (arith, records-length m.frame m.bytes.now m.ready, c.loop-i-test.true)))
+
+pub unwrap-kind-requires : goal.unwrap-kind-requires
+unwrap-kind-requires c =
+    let m = c.args.image.now in
+    rw (c.look.ensures, (seen m.frame m.bytes.now c.loop-i.i m.ready c.loop-i-test.true).list)
 
 pub loop-i-preserved : goal.loop-i-preserved
 loop-i-preserved c = turn (goal.at.loop-i-preserved c).After-passes ∙ rw c.if-not-passes.false

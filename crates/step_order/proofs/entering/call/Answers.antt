@@ -1,12 +1,10 @@
 -- `call` meets its contract. Assumes nothing.
 use Prim.Native.Nat.{ℕ}
-use mathlib.Core.Path.{refl, sym, ap, ◌∙◌, subst}
+use mathlib.Core.Path.{sym, ap, ◌∙◌}
 use mathlib.Core.Bool.{not}
 use mathlib.Core.List.{List}
-use native.Mathlib.Omega.{arith}
 use Rattle.model.specs.Syntax.{Prog}
 use Rattle.model.specs.Machine.{values}
-use Rattle.image_read_nodes.specs.Nodes.{record_at, At, first_of}
 use Rattle.step_spec.specs.Located.{Machine, Located, is_stop}
 use Rattle.step_rows.specs.Rows.{ids_of}
 use Rattle.step_rule.specs.Rules.{ProgramOf, Stored}
@@ -23,15 +21,10 @@ enters : (c : After-find_label) {M : Machine} {P : Prog} {store : List ℕ} {l :
     ProgramOf P a.stepper.now a.stepper.now.image.bytes.now → Stored M P store a.header l
     → Enters a.stepper.now.image.frame a.stepper.now.image.bytes.now c.find_label.result (values l.environment) (λ new. new) (is_stop (work_at P l))
 enters c p o =
-    let a = c.args in
-    let e = c.first.ensures ∙ ap (λ (i : ℕ). first_of (record_at a.stepper.now.image.frame a.stepper.now.image.bytes.now i)) c.long.ensures in
-    call_enters p o c.requires c.first.result e c.from.ensures c.find_label.ensures
+    call_enters p o c.requires c.first.result c.first.ensures c.from.ensures c.find_label.ensures
 
-pub first-requires : goal.first-requires
-first-requires c = (subst (λ (i : ℕ). At c.args.stepper.now.image.frame c.args.stepper.now.image.bytes.now i 3) (sym c.long.ensures) c.requires, λ e. omega (arith, e))
-
-pub list_row-parameters-requires : goal.list_row-parameters-requires
-list_row-parameters-requires c = (c.find_label.ensures.at _ c.in-Some.is, refl)
+pub invariant_of-found : goal.invariant_of-found
+invariant_of-found c = record { there = c.find_label.ensures.at _ c.in-Some.is }
 
 pub returns-then-parameters-header : goal.returns-then-parameters-header
 returns-then-parameters-header c = λ store. record {

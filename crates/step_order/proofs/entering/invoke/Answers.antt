@@ -1,6 +1,5 @@
 -- `invoke` meets its contract. Assumes nothing.
-use Prim.Native.Nat.{ℕ}
-use mathlib.Core.Path.{◌≡◌, refl, sym, ap₂, ◌∙◌, subst}
+use mathlib.Core.Path.{◌≡◌, refl, sym, ap₂, ◌∙◌}
 use mathlib.Core.List.{List, ◌++◌, map-append}
 use lib.ListN.{length}
 use native.Mathlib.Omega.{arith}
@@ -8,17 +7,15 @@ use Rattle.syntax.specs.declared.names.VarId.{VarId}
 use Rattle.model.specs.Syntax.{Prog}
 use Rattle.model.specs.Machine.{values}
 use Rattle.model.specs.Linear.{before_last, last_value_lem}
-use Rattle.image_read_nodes.specs.Nodes.{record_at, At}
 use Rattle.step_spec.specs.Located.{Machine, Located, is_stop}
 use Rattle.step_rows.specs.Placing.{ids_in}
 use Rattle.step_rows.specs.Rows.{ids_of}
 use Rattle.step_rule.specs.Rules.{ProgramOf, Stored}
 use Rattle.step_slots.specs.declared.sort.Sort.TheVariants.{CreateCell}
-use Rattle.step_slots.proofs.SortLaws.{codes_same, codes_differ}
+use Rattle.step_slots.proofs.SortLaws.{codes_same, codes_differ, alike, unlike}
 use Rattle.step_cells.specs.Cells.{as_cell}
 use Rattle.step_cells.proofs.CellLaws.{OfCreate}
-use Rattle.step_order.specs.Stopping.{TagOf, work_at}
-use Rattle.step_order.proofs.ListLaws.{alike, unlike}
+use Rattle.step_order.specs.Stopping.{work_at}
 use Rattle.step_order.proofs.PartLaws.{held-inside, held-keys}
 use borrow.Author.Tests.{ne_eqb}
 use Rattle.step_order.proofs.EnterLaws.{Enters, missing, fewer, as_many}
@@ -38,7 +35,7 @@ enters : (c : After-clause_of) {M : Machine} {P : Prog} {l : Located} →
     ProgramOf P a.stepper.now a.stepper.now.image.bytes.now → (o : Stored M P a.state.now.store.now a.state.now.header l)
     → Enters a.stepper.now.image.frame a.stepper.now.image.bytes.now c.clause_of.result (values (before_last 1 l.environment)) (λ new. new ++ (the_create c o).entries) (is_stop (work_at P l))
 enters c p o =
-    invoke-enters p o c.in-Some.ensures c.requires c.args.stepper.now.image.ready (subst (λ (i : ℕ). TagOf (record_at c.args.stepper.now.image.frame c.args.stepper.now.image.bytes.now i) c.tag.result) c.long.ensures c.tag.ensures) (the_create c o) c.long-2.ensures c.from.ensures c.clause_of.ensures
+    invoke-enters p o c.in-Some.ensures c.requires c.args.stepper.now.image.ready c.tag_of.ensures (the_create c o) refl c.from.ensures c.clause_of.ensures
 
 -- how many values there are for its parameters
 counted : (c : After-saturating_sub-values) {M : Machine} {P : Prog} {l : Located} →
@@ -56,11 +53,8 @@ returns-then-ne c = record {
       invoke-goes p w c.in-Some.ensures c.requires (codes_differ c.in-Some.cell.sort CreateCell refl (unlike c.ne.ensures c.if-ne.true));
 }
 
-pub tag-requires : goal.tag-requires
-tag-requires c = subst (λ (i : ℕ). At c.args.stepper.now.image.frame c.args.stepper.now.image.bytes.now i 7) (sym c.long.ensures) c.requires
-
-pub list_row-requires : goal.list_row-requires
-list_row-requires c = (c.clause_of.ensures.at _ c.in-Some-clause_of.is, refl)
+pub invariant_of-found : goal.invariant_of-found
+invariant_of-found c = record { there = c.clause_of.ensures.at _ c.in-Some-clause_of.is }
 
 pub returns-else-parameters-values : goal.returns-else-parameters-values
 returns-else-parameters-values c = record {

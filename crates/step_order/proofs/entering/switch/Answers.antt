@@ -9,11 +9,11 @@ use Rattle.step_spec.specs.Located.{Machine, Located, is_stop}
 use Rattle.step_rows.specs.Rows.{ids_of}
 use Rattle.step_rule.specs.Rules.{ProgramOf, Stored}
 use Rattle.step_slots.specs.declared.sort.Sort.TheVariants.{LetCell}
-use Rattle.step_slots.proofs.SortLaws.{codes_same, codes_differ}
+use Rattle.step_slots.proofs.SortLaws.{codes_same, codes_differ, alike, unlike}
 use Rattle.step_cells.specs.Cells.{as_cell}
 use Rattle.step_cells.proofs.CellLaws.{OfLet}
 use Rattle.step_order.specs.Stopping.{work_at}
-use Rattle.step_order.proofs.ListLaws.{alike, unlike, sure_front, sure_row}
+use Rattle.step_order.proofs.ListLaws.{sure_front, sure_row}
 use borrow.Author.Tests.{ne_eqb}
 use Rattle.step_order.proofs.EnterLaws.{Enters, missing, fewer, as_many}
 use Rattle.step_order.proofs.StopLaws.{reads-stored, fields-count, front-keys, last_let, switch-goes, switch-enters}
@@ -23,28 +23,28 @@ use Rattle.step_order.proofs.entering.switch.Goals.{After-clause_of}
 -- the last value is a Let's cell
 the_let : (c : After-clause_of) {M : Machine} {P : Prog} {l : Located} →
     let a = c.args in
-    Stored M P a.state.now.store.now a.state.now.header l → OfLet P a.state.now.store.now a.state.now.header l (last_value_lem l.environment) (as_cell c.in-Some.cell)
+    Stored M P a.known.now.state.store.now a.known.now.state.header l → OfLet P a.known.now.state.store.now a.known.now.state.header l (last_value_lem l.environment) (as_cell c.in-Some.cell)
 the_let c o = last_let o c.in-Some.ensures (codes_same c.in-Some.cell.sort LetCell refl (alike c.ne.ensures c.if-ne.false))
 
 -- the machine enters what the search answers
 enters : (c : After-clause_of) {M : Machine} {P : Prog} {l : Located} →
     let a = c.args in
-    ProgramOf P a.stepper.now a.stepper.now.image.bytes.now → (o : Stored M P a.state.now.store.now a.state.now.header l)
+    ProgramOf P a.stepper.now a.stepper.now.image.bytes.now → (o : Stored M P a.known.now.state.store.now a.known.now.state.header l)
     → Enters a.stepper.now.image.frame a.stepper.now.image.bytes.now c.clause_of.result (the_let c o).fields (λ new. before_last 1 l.environment ++ new) (is_stop (work_at P l))
-enters c p o = switch-enters p o c.in-Some.ensures c.requires.0 (the_let c o) c.long.ensures c.clause_of.ensures
+enters c p o = switch-enters p o c.in-Some.ensures c.requires (the_let c o) refl c.clause_of.ensures
 
 pub returns-in_default : goal.returns-in_default
-returns-in_default c = record { is = λ P l p o e g. switch-goes p (reads-stored o e g) c.in_default.ensures c.requires.0 (λ q. omega (arith, q)) }
+returns-in_default c = record { is = λ P l p o e g. switch-goes p (reads-stored o e g) c.in_default.ensures c.requires (λ q. omega (arith, q)) }
 
 pub returns-then-ne : goal.returns-then-ne
 returns-then-ne c = record {
   is = λ P l p o e g.
       let w = reads-stored o e g in
-      switch-goes p w c.in-Some.ensures c.requires.0 (codes_differ c.in-Some.cell.sort LetCell refl (unlike c.ne.ensures c.if-ne.true));
+      switch-goes p w c.in-Some.ensures c.requires (codes_differ c.in-Some.cell.sort LetCell refl (unlike c.ne.ensures c.if-ne.true));
 }
 
-pub list_row-parameters-requires : goal.list_row-parameters-requires
-list_row-parameters-requires c = (c.clause_of.ensures.at _ c.in-Some-clause_of.is, refl)
+pub invariant_of-found : goal.invariant_of-found
+invariant_of-found c = record { there = c.clause_of.ensures.at _ c.in-Some-clause_of.is }
 
 pub returns-else-parameters-cell : goal.returns-else-parameters-cell
 returns-else-parameters-cell c = record {
@@ -54,7 +54,7 @@ returns-else-parameters-cell c = record {
 }
 
 pub invariant_of-others : goal.invariant_of-others
-invariant_of-others c = record { knows = sure_front c.front.ensures (sure_row c.entries_row.ensures c.requires.1) }
+invariant_of-others c = record { knows = sure_front c.front.ensures (sure_row c.entries_row.ensures c.args.known.now.knows) }
 
 pub returns-then-parameters-cell : goal.returns-then-parameters-cell
 returns-then-parameters-cell c = record {

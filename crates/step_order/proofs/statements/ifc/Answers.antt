@@ -4,7 +4,7 @@ use mathlib.Core.Bool.{◌&&◌, and-true}
 use Rattle.syntax.specs.Sets.{elem}
 use Rattle.model.specs.FreeVars.{optional_id}
 use Rattle.model.specs.Linear.{present}
-use Rattle.image_read_nodes.specs.Nodes.{record_at}
+use Rattle.image_read_parts.specs.Recorded.{record_in}
 use Rattle.std.specs.Prelude as code
 use Rattle.syntax.specs.declared.names.Identifier.{Identifier}
 use Rattle.syntax.specs.Options.{option_of}
@@ -19,8 +19,8 @@ use Rattle.step_order.proofs.statements.ifc.Goals.{After-ifc-statement}
 is : (c : After-ifc-statement) →
     let a = c.args in
     let o = c.ifc-statement.result in
-    orderly (record_at a.image.now.frame a.image.now.bytes.now a.i) (ids_of c.args.row.now) ≡ (elem o.fst.id (ids_of c.args.row.now) && present (optional_id (option_of o.snd)) (ids_of c.args.row.now))
-is c = let a = c.args in ifc_is (record_at a.image.now.frame a.image.now.bytes.now a.i) (ids_of c.args.row.now) c.ifc-statement.ensures
+    orderly (record_in a.node.now) (ids_of c.args.row.now) ≡ (elem o.fst.id (ids_of c.args.row.now) && present (optional_id (option_of o.snd)) (ids_of c.args.row.now))
+is c = let a = c.args in ifc_is (record_in a.node.now) (ids_of c.args.row.now) c.ifc-statement.ensures
 
 pub returns-in-None : goal.returns-in-None
 returns-in-None c =

@@ -1,6 +1,7 @@
 -- `literal` meets its contract. Assumes nothing.
 use mathlib.Core.Path.{sym, ◌∙◌}
-use Rattle.image_read_nodes.specs.Nodes.{record_at}
+use Rattle.image_read_parts.specs.Recorded.{record_in}
+use Rattle.image_read_parts.proofs.Indexing.{at-kind}
 use Rattle.step_rows.specs.Rows.{ids_of}
 use Rattle.step_order.proofs.OrderlyLaws.{literal_is}
 use Rattle.step_order.proofs.statements.literal.Goals as goal
@@ -8,4 +9,4 @@ use Rattle.step_order.proofs.statements.literal.Goals as goal
 pub returns : goal.returns
 returns c =
     let a = c.args in
-    c.adds.ensures ∙ sym (literal_is (record_at a.image.now.frame a.image.now.bytes.now a.i) (ids_of a.list.now.row) c.requires.kind c.first-var.ensures)
+    c.adds.ensures ∙ sym (literal_is (record_in a.node.now) (ids_of a.list.now.row) (at-kind a.node.now c.requires).kind c.first-var.ensures)

@@ -2,7 +2,7 @@
 use mathlib.Core.Path.{◌≡◌, sym, ◌∙◌}
 use mathlib.Core.Bool.{◌&&◌}
 use Rattle.syntax.specs.Sets.{elem}
-use Rattle.image_read_nodes.specs.Nodes.{record_at}
+use Rattle.image_read_parts.specs.Recorded.{record_in}
 use Rattle.step_rows.specs.Rows.{ids_of}
 use Rattle.step_order.specs.Orderly.{added, orderly}
 use Rattle.step_order.proofs.ListLaws.{and_both, and_not}
@@ -15,8 +15,8 @@ is : (c : After-op-statement) →
     let a = c.args in
     let o = c.op-statement.result in
     let l = ids_of a.list.now.row in
-    orderly (record_at a.image.now.frame a.image.now.bytes.now a.i) l ≡ ((elem o.fst.id l && elem o.snd.id l) && added l o.var.id)
-is c = let a = c.args in op_is (record_at a.image.now.frame a.image.now.bytes.now a.i) (ids_of a.list.now.row) c.op-statement.ensures
+    orderly (record_in a.node.now) l ≡ ((elem o.fst.id l && elem o.snd.id l) && added l o.var.id)
+is c = let a = c.args in op_is (record_in a.node.now) (ids_of a.list.now.row) c.op-statement.ensures
 
 -- the operands are there
 present : (c : Joined-has) →

@@ -6,7 +6,7 @@ use Rattle.std.specs.Prelude.{None}
 use Rattle.image_kinds.specs.Codes.{code_of}
 use Rattle.image_kinds.specs.declared.kinds.Kind.TheVariants.{Definition}
 use Rattle.image_kinds.proofs.KindNames.{same_code}
-use Rattle.image_read_nodes.specs.Nodes.{At}
+use Rattle.image_read_parts.specs.Indexed.{At}
 use Rattle.step_places.specs.Searches.{FindsDefinition}
 use Rattle.step_places.proofs.SearchLaws.{definition-past, definition-found, definition-missing}
 use Rattle.step_places.proofs.search.find_definition.Goals as goal

@@ -5,14 +5,14 @@ use Rattle.step_rows.proofs.RecordRowLaws.{tail-stands, tail-inside}
 use Rattle.step_rows.proofs.records.tail_at.Goals as goal
 
 pub fixed-requires : goal.fixed-requires
-fixed-requires c = omega (arith, c.args.image.now.ready.id)
+fixed-requires c = omega (arith, c.args.node.now.image.ready.id)
 
 pub overflow_add-result : goal.overflow_add-result
 overflow_add-result c =
-    let a = c.args in
-    omega (arith, c.fixed.ensures, tail-inside a.image.now.frame a.image.now.bytes.now a.i (code_of a.kind) _ c.requires c.offset.ensures)
+    let n = c.args.node.now in
+    omega (arith, c.fixed.ensures, tail-inside n.image.frame n.image.bytes.now n.index (code_of n.kind) _ n.there c.offset.ensures)
 
 pub returns : goal.returns
 returns c =
-    let a = c.args in
-    rw c.fixed.ensures (tail-stands a.image.now.frame a.image.now.bytes.now a.i (code_of a.kind) _ c.requires c.offset.ensures)
+    let n = c.args.node.now in
+    rw c.fixed.ensures (tail-stands n.image.frame n.image.bytes.now n.index (code_of n.kind) _ n.there c.offset.ensures)

@@ -15,7 +15,7 @@ use Rattle.step_rows.proofs.RowLaws.{ids-length}
 use Rattle.step_gather.proofs.GatheredSlots.{slots-ok, gathered-slots}
 use Rattle.step_write.specs.declared.Stop.TheVariants.{NoStep}
 use Rattle.step_rule.specs.Rules.{ProgramOf, Stored}
-use Rattle.step_enter.proofs.EnterLaws.{list-short}
+use Rattle.step_rows.proofs.RecordRowLaws.{list-short}
 use Rattle.step_enter.proofs.ParameterLaws.{fitting}
 use Rattle.step_statement_call.proofs.TheCall.{label-read, the_call}
 use Rattle.step_statement_call.proofs.CallLaws.{Laid, absent-makes, uneven_makes, call-makes}
@@ -34,23 +34,21 @@ all c P l p o =
     let t = the_call p o c.requires.0.record' in
     let n : c.list_row-args.result.places.len ≤ 128 = list-short c.list_row-args.result c.args.stepper.now.image.ready c.requires.0.record' refl c.list_row-args.ensures in
     let are = c.list_row-args.ensures ∙ ap (λ (r : Record). ids (list_of r)) t.holds in
-    all_found o t.label t.args t.is are (gathers_in _ _ c.store_of.ensures c.gather.ensures) (ids-length c.list_row-args.result.bytes.now c.list_row-args.result.places) c.if-not-gather.false (omega (arith, n, c.requires.1))
+    all_found o t.label t.args t.is are (gathers_in c.state_of-state.ensures.stored c.state_of-state.ensures.headed c.gather.ensures) (ids-length c.list_row-args.result.bytes.now c.list_row-args.result.places) c.if-not-gather.false (omega (arith, n, c.requires.1))
 
 -- the definition is found
 found : (c : In_ok-called) → c.definition_of.result ≡ Some c.in_ok-called.called
 found c = search rules
 
 pub gather-requires : goal.gather-requires
-gather-requires c =
-    let g = c.requires in
-    rw c.store_of.ensures (omega (arith, g.0.fit.holds.inside), (g.0.fit.holds.entries, omega (arith, few (goal.at.gather-requires c).After-list_row-args, g.1)))
+gather-requires c = omega (arith, few (goal.at.gather-requires c).After-list_row-args, c.requires.1)
 
 pub returns-then-not-gather : goal.returns-then-not-gather
 returns-then-not-gather c = (
   record {
     makes = λ P l p o.
         let t = the_call p o c.requires.0.record' in
-        missing-makes o t.label t.args t.is (c.list_row-args.ensures ∙ ap (λ (r : Record). ids (list_of r)) t.holds) (gathers_in _ _ c.store_of.ensures c.gather.ensures) c.if-not-gather.true;
+        missing-makes o t.label t.args t.is (c.list_row-args.ensures ∙ ap (λ (r : Record). ids (list_of r)) t.holds) (gathers_in c.state_of-state.ensures.stored c.state_of-state.ensures.headed c.gather.ensures) c.if-not-gather.true;
   },
   search rules,
 )
@@ -83,7 +81,7 @@ jump-requires c =
     let k = ids-length c.list_row-args.result.bytes.now c.list_row-args.result.places in
     let stand : all_slots (slots_at c.gather.new.out 0 c.in_ok-called.called.row.places.len) ≡ true =
     ap (λ (i : ℕ). all_slots (slots_at c.gather.new.out 0 i)) (c.if-called-args.false ∙ sym k)
-    ∙ gathered-slots (gathers_in _ _ c.store_of.ensures c.gather.ensures) (slots-ok _ _ _ g.0.fit.holds.entries) c.if-not-gather.false (omega (arith, k, few (goal.at.jump-requires c).After-list_row-args, g.1)) in
+    ∙ gathered-slots (gathers_in c.state_of-state.ensures.stored c.state_of-state.ensures.headed c.gather.ensures) (slots-ok _ _ _ g.0.fit.holds.entries) c.if-not-gather.false (omega (arith, k, few (goal.at.jump-requires c).After-list_row-args, g.1)) in
     (g.0.fit, (omega (arith, f.short, c.gather.auto.out, g.1), stand))
 
 pub returns : goal.returns

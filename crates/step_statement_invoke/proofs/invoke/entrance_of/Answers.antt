@@ -1,20 +1,11 @@
 -- `entrance_of` meets its contract. Assumes nothing.
-use mathlib.Core.Path.{◌≡◌, refl, sym, ◌∙◌}
-use mathlib.Core.Bool.{Bool, true, false, not, true≢false, false≢true}
+use mathlib.Core.Path.{◌≡◌, refl}
 use Rattle.step_slots.specs.declared.sort.Sort.TheVariants.{CreateCell}
 use Rattle.step_slots.specs.Sorts.{sort_code}
-use Rattle.step_slots.proofs.SortLaws.{codes_same, codes_differ}
+use Rattle.step_slots.proofs.SortLaws.{codes_same, codes_differ, alike, unlike}
 use Rattle.step_statement_invoke.specs.Invoking.{no-closure, no_record, no-clause, other-count, a-clause}
 use Rattle.step_statement_invoke.proofs.invoke.entrance_of.Goals as goal
 use Rattle.step_statement_invoke.proofs.invoke.entrance_of.Goals.{then-ne-via-then-ne, then-ne-via-else-ne+then-stepper-cell, Else-ne}
-
-unlike : {b t : Bool} → t ≡ not b → t ≡ true → b ≡ false
-unlike {b = true} e h = absurd (false≢true (sym e ∙ h))
-unlike {b = false} e h = refl
-
-alike : {b t : Bool} → t ≡ not b → t ≡ false → b ≡ true
-alike {b = true} e h = refl
-alike {b = false} e h = absurd (true≢false (sym e ∙ h))
 
 -- the cell is a closure's
 closure : (c : Else-ne) → sort_code c.args.cell.sort ≡ 4

@@ -1,14 +1,16 @@
 -- `source` meets its contract. Assumes nothing.
 use Rattle.std.specs.Prelude.{Some, None, Err}
 use Prim.Native.Nat.{ℕ, ◌+◌, ◌*◌, ◌≤◌}
-use mathlib.Core.Path.{◌≡◌, refl, sym, ap, ◌∙◌, subst}
+use mathlib.Core.Path.{◌≡◌, refl, sym, ap, ◌∙◌, subst₂}
 use mathlib.Core.List.{List}
 use native.Mathlib.Omega.{arith}
 use borrow.Author.Rules.{rules}
 use lib.ListN.{length}
-use Rattle.image_read_nodes.specs.Nodes.{record_at, first_of}
+use Rattle.image_read_nodes.specs.Nodes.{first_of}
+use Rattle.image_read_parts.specs.Indexed.{record_at}
 use Rattle.step_slots.specs.Slots.{as_slot}
 use Rattle.step_slots.specs.Views.{found_slot, slots_at, all_slots}
+use Rattle.step_header.specs.declared.Header.{Header}
 use Rattle.step_header.specs.Headers.{entries_in}
 use Rattle.step_entries.specs.Named.{named}
 use Rattle.step_rows.specs.Rows.{ids_of}
@@ -16,7 +18,7 @@ use Rattle.step_rows.proofs.RowLaws.{ids-length}
 use Rattle.step_gather.specs.Gathering.{Gathers}
 use Rattle.step_gather.proofs.GatheredSlots.{slots-ok, gathered-stand, gathered-slots}
 use Rattle.step_write.specs.declared.Stop.TheVariants.{NoStep}
-use Rattle.step_enter.proofs.EnterLaws.{list-short}
+use Rattle.step_rows.proofs.RecordRowLaws.{list-short}
 use Rattle.step_statement_invoke.proofs.SourceLaws.{Looked, named_in, unseen-makes, source-makes, source_none}
 use Rattle.step_statement_invoke.proofs.invoke.source.Goals as goal
 use Rattle.step_statement_invoke.proofs.invoke.source.Goals.{After-slot_of, After-list_row-row, After-gather}
@@ -30,8 +32,8 @@ asked c = let e = c.state_of-state.ensures in named_in e.stored e.headed c.first
 -- what is gathered is from the entries
 gathers : (c : After-gather) → let w = c.args.work.now in Gathers (entries_in w.store.now w.header) (ids_of c.list_row-row.result) c.args.scratch.now 0 c.gather.new.out c.gather.result
 gathers c =
-    let w = c.args.work.now in
-    subst (λ (s : List ℕ). Gathers (slots_at s (64 + 16 * w.header.heap) w.header.entries) (ids_of c.list_row-row.result) c.args.scratch.now 0 c.gather.new.out c.gather.result) c.store_of.ensures c.gather.ensures
+    let e = c.state_of-state.ensures in
+    subst₂ (λ (s : List ℕ) (h : Header). Gathers (entries_in s h) (ids_of c.list_row-row.result) c.args.scratch.now 0 c.gather.new.out c.gather.result) e.stored e.headed c.gather.ensures
 
 -- what was read and looked up
 looked : (c : After-list_row-row) →
@@ -64,9 +66,7 @@ returns-in_err-value c = (
 )
 
 pub gather-requires : goal.gather-requires
-gather-requires c =
-    let g = c.requires in
-    rw c.store_of.ensures (omega (arith, g.0.fit.holds.inside), (g.0.fit.holds.entries, omega (arith, few (goal.at.gather-requires c).After-list_row-row, g.1)))
+gather-requires c = omega (arith, few (goal.at.gather-requires c).After-list_row-row, c.requires.1)
 
 pub returns-then-not-gather : goal.returns-then-not-gather
 returns-then-not-gather c = (

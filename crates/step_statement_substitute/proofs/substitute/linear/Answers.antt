@@ -1,8 +1,25 @@
 -- `linear` meets its contract. Assumes nothing.
 use borrow.Author.Rules.{rules}
+use Prim.Native.Nat.{ℕ}
+use mathlib.Core.Path.{subst₂}
+use mathlib.Core.List.{List}
+use Rattle.step_header.specs.Headers.{entries_in}
+use Rattle.step_header.specs.declared.Header.{Header}
+use Rattle.step_rows.specs.Rows.{ids_of}
+use Rattle.step_statement_substitute.specs.Substituting.{Packs}
 use native.Mathlib.Omega.{arith}
-use Rattle.step_statement_substitute.proofs.SubstituteLaws.{same_count, packs_as, linear-halts, linear-makes}
+use Rattle.step_statement_substitute.proofs.SubstituteLaws.{same_count, linear-halts, linear-makes}
 use Rattle.step_statement_substitute.proofs.substitute.linear.Goals as goal
+use Rattle.step_statement_substitute.proofs.substitute.linear.Goals.{After-pack}
+
+-- what was packed is of the store and the header that the step is made in
+packs : (c : After-pack) →
+    let w = c.args.work.now in
+    Packs (entries_in w.store.now w.header) (ids_of c.read_parts-parts.result.targets) (ids_of c.read_parts-parts.result.sources) c.pack.new.scratch c.pack.result
+packs c =
+    let parts = c.read_parts-parts.result in
+    let e = c.state_of-state.ensures in
+    subst₂ (λ (s : List ℕ) (h : Header). Packs (entries_in s h) (ids_of parts.targets) (ids_of parts.sources) c.pack.new.scratch c.pack.result) e.stored e.headed c.pack.ensures
 
 pub pack-requires : goal.pack-requires
 pack-requires c =
@@ -13,7 +30,7 @@ pub returns-then-not-pack : goal.returns-then-not-pack
 returns-then-not-pack c = (
   record {
     makes = λ P l p o.
-        linear-halts p o c.requires.0.record' c.read_parts-parts.ensures (packs_as c.state_of-state.ensures.stored c.state_of-state.ensures.headed c.pack.ensures) c.if-not-pack.true;
+        linear-halts p o c.requires.0.record' c.read_parts-parts.ensures (packs (goal.at.returns-then-not-pack c).After-pack) c.if-not-pack.true;
   },
   search rules,
 )
@@ -22,7 +39,7 @@ pub returns : goal.returns
 returns c = (
   record {
     makes = λ P l p o.
-        linear-makes p o c.requires.0.record' c.read_parts-parts.ensures (packs_as c.state_of-state.ensures.stored c.state_of-state.ensures.headed c.pack.ensures) c.if-not-pack.false c.replace.ensures.0;
+        linear-makes p o c.requires.0.record' c.read_parts-parts.ensures (packs (goal.at.returns c).After-pack) c.if-not-pack.false c.replace.ensures.0;
   },
   search rules,
 )

@@ -1,0 +1,8 @@
+use Rattle.std.proofs.Common.{◌≡◌, ◌≤◌, ◌-◌, length}
+use Rattle.image_spec.specs.Parse.{times}
+use Rattle.image_spec.specs.Fields.{binding}
+use Rattle.image_fields.specs.Found.{stop}
+use Rattle.image_fields.proofs.fields.Fields.skip_bindings.Given as goal
+
+abbrev pub invariant-loop : goal.invariant-loop
+invariant-loop l = (l.here ≤ length l.self.bytes.now) × (stop (times l.n (binding l.self.id)) l.self.bytes.now l.at ≡ stop (times (l.n - l.counter) (binding l.self.id)) l.self.bytes.now l.here)

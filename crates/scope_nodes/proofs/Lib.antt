@@ -1,2 +1,0 @@
--- Laws of the loops over a record's list.
-pub mod ListCounts
