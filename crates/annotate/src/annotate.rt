@@ -72,7 +72,7 @@ fn put_clauses(
 }
 
 // Writes the annotation of the record at index i: the set of its clauses, then the set of its next.
-// (`image` and `i`: the kind is read here together with the number of clauses, so a `RecordAt` would bring it a second time.)
+// (`image` and `i`: what stands there is looked up here, and by the caller before; to hand it over would ask one fact more.)
 fn put_annotation(image: &Image<'_>, i: usize, row: &mut [u8], writer: &mut Writer<'_>)
     requires { Annotated image.now.frame image.now.bytes.now i × ((length row.old ≡ 65536) × (writer.old.at + 2000000 < 2 ^ 64)) }
     ensures { Wrote writer.old writer.new (each (set_bytes writer.old.id) (annotations (stmt_at max_depth (records_of image.now) i))) }

@@ -84,7 +84,7 @@ pub fn tiled(image: &[u8], frame: Frame) -> bool
 }
 
 // Question 4: are the records of a frame's pairs, which tile the bytes, formed?
-// (A `for` that returns, and no chain with `all`: its closure would need a contract that each index is below the bound.)
+// (A `for` that returns: each record begins where the one before ends, as in `tiled`.)
 pub fn all_formed(image: &[u8], frame: Frame) -> bool
     requires { (frame.id ≤ 8) × (Width frame.place × (tiled_from frame.place frame.count frame.from frame.start image.now ≡ true)) }
     ensures { result ≡ formed_from frame.id frame.place frame.count frame.from frame.start image.now }

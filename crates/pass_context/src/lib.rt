@@ -154,7 +154,6 @@ impl Held {
     }
 
     // Are the bindings those of the two contexts, one behind the other? No `==`: the two sides are of different types, and the right one is two.
-    // (A `for` that returns, and no chain with `all`: its closure would need a contract that each index is below the bound.)
     pub fn same(self, front: TypingContext, back: TypingContext) -> bool
         requires { (self.len ≤ 64) × ((front.len ≤ 64) × (back.len ≤ 64)) }
         ensures { result ≡ same_context (bindings (work_of self)) (context_of front ++ context_of back) }

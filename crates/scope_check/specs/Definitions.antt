@@ -17,7 +17,7 @@ pub record DefsStand (d n : ℕ) (rs : List Record) (i : ℕ) (ds : List Def) : 
   pub shallow : All (λ (e : Def). depth e.body ≤ d) ds
   pub count : length ds ≡ n
 
--- the records are d definitions that question 5 lets pass, and nothing more. (Asked of an `Opened` and no field of it: it is opened before question 5 is asked.)
+-- the records are d definitions that question 5 lets pass, and nothing more.
 pub record Defined (d : ℕ) (rs : List Record) : Type 0 where
   pub is : rs ≡ flatten_defs (defs_in d rs)
   pub shallow : All DefOk (defs_in d rs)

@@ -34,7 +34,6 @@ pub fn long_at(s: &[u8], at: usize) -> u64
 
 // Are the n bytes from at zero?
 // `at` and `n`: a place in a header or in a slot, and how many bytes the layout leaves empty there; no value has the two.
-// (A `for` that returns, and no chain with `all`: its closure would need a contract that each index is below the bound.)
 pub fn all_zero(s: &[u8], at: usize, n: usize) -> bool
     requires { at + n ≤ length s.now }
     ensures { zeros n (drop at s.now) ≡ only_if result (got tt (drop (at + n) s.now)) }
