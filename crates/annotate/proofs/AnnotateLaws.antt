@@ -1,7 +1,7 @@
 -- The annotation of a record: where its clauses and its next stand, the sets that are marked there, and the reply. Assumes nothing.
 use Prim.Native.Nat.{ℕ, zero, suc, ◌+◌, ◌*◌, ◌≤◌, ◌<◌}
 use mathlib.Core.Path.{◌≡◌, refl, sym, ap, ◌∙◌, subst}
-use mathlib.Core.Bool.{Bool, true, false, false≢true}
+use mathlib.Core.Bool.{Bool, true, false, not, false≢true}
 use mathlib.Core.List.{List, [], ◌∷◌, ◌++◌, append-nil}
 use native.Mathlib.Omega.{arith}
 use lib.Dec.{leb, eqb}
@@ -18,6 +18,7 @@ use Rattle.image_spec.specs.Records.{Record, definition, substitute, call, let',
 use Rattle.image_spec.specs.Kinds.{kind_of, clauses_of, bodies}
 use Rattle.image_spec.specs.Shape.{flatten, flatten_clauses, flatten_defs, max_depth}
 use Rattle.std.specs.Prelude.{Err}
+use Rattle.std.proofs.lemmas.List.Sums.{count_by-le-length}
 use Rattle.image_spec.specs.Answers.{Answer}
 use Rattle.image_spec.specs.declared.Refusal.{Refusal}
 use Rattle.image_spec.specs.declared.Refusal.TheVariants.{Linearized, Limits, Room, Place}
@@ -33,14 +34,14 @@ use Rattle.image_open.specs.Opening.{opened_of}
 use Rattle.image_open.proofs.OpenedLaws.{IsOpened}
 use Rattle.image_places_spec.specs.Views.{record_of, clauses_in, bodies_of, binders}
 use Rattle.image_places_spec.specs.Places.{Begins, stmt_at, clauses_at, StmtStands, ClausesStand, BodiesStand}
-use Rattle.image_places_spec.proofs.PlaceLaws.{stmt_is, clauses-are, stmt-parts, body-parts, head-within}
+use Rattle.image_places_spec.proofs.PlaceLaws.{stmt_is, clauses-are, stmt-parts, body-parts}
 use Rattle.image_write_parts.specs.Puts.{Puts}
 use Rattle.image_write_parts.specs.Written.{Wrote}
 use Rattle.image_write_parts.specs.declared.writer.Writer.{Writer}
 use Rattle.image_write_parts.proofs.WriterLaws.{wrote_as, wrote_next}
 use Rattle.scope_spec.specs.Flat.{all_records_lem, small_record_lem}
 use Rattle.scope_spec.specs.Rooms.{in_room, RoomFor, RoomForClauses}
-use Rattle.scope_spec.specs.Marking.{mark_stmt, mark_clauses, keep, marked_from}
+use Rattle.scope_spec.specs.Marking.{mark_stmt, mark_clauses, marked_from}
 use Rattle.scope_spec.specs.Calls.{writes, reply_if_yes, has_annotation_lem, first_has, question13, set_bytes, annotation_bytes, placing, annotating, annotate_of, Replies}
 use Rattle.scope_spec.proofs.FlatLaws.{question7-flat}
 use Rattle.scope_spec.proofs.Inside.{Inside, inside, asked-parts}
@@ -49,6 +50,7 @@ use Rattle.scope_spec.proofs.MarkLaws.{FitRow, Marks, all_uses, all_uses_clauses
 use Rattle.image_read_parts.specs.Indexed.{record_at, At}
 use Rattle.scope_check.specs.Deciding.{program_in}
 use Rattle.scope_check.proofs.ReplyLaws.{opened-replies, closed-replies}
+use Rattle.annotate_marks.proofs.MarkedLaws.{marked-counted}
 use Rattle.annotate.specs.Annotating.{annotated_kind, Annotated, Limited, Settled}
 
 -- ── by kind ──
@@ -133,19 +135,16 @@ next-set (Exit var) h a b = absurd (false≢true h)
 
 -- ── every record of an image is one that its layout can hold ──
 
-all_here : (P : Record → Type 0) (rs : List Record) → ((i : ℕ) → i < length rs → P (head_of (drop i rs))) → All P rs
-all_here P [] f = tt
-all_here P (r ∷ rs) f = (f 0 (omega arith), all_here P rs (λ i h. f (suc i) (omega arith)))
-
-all_drop : (P : Record → Type 0) (i : ℕ) (rs : List Record) → All P rs → All P (drop i rs)
-all_drop P zero rs a = a
-all_drop P (suc i) [] a = tt
-all_drop P (suc i) (r ∷ rs) a = all_drop P i rs a.1
+all_from : (P : Record → Type 0) (i : ℕ) (rs : List Record) → ((j : ℕ) → j < length rs → P (head_of (drop j rs))) → All P (drop i rs)
+all_from P zero [] f = tt
+all_from P (suc i) [] f = tt
+all_from P zero (r ∷ rs) f = (f 0 (omega arith), all_from P zero rs (λ j h. f (suc j) (omega arith)))
+all_from P (suc i) (r ∷ rs) f = all_from P i rs (λ j h. f (suc j) (omega arith))
 
 begins-ok : {g : Frame} {s : List ℕ} {i : ℕ} (front : List Record) → Ready g s → Begins (records_in g s) i front → All (RecordOk g.id) front
 begins-ok {g} {s} {i} front h b =
-    let a = all_here (RecordOk g.id) (records_in g s) (λ j k. record_ok g s j h (omega (arith, records-length g s h))) in
-    all_left (RecordOk g.id) front b.rest (subst (All (RecordOk g.id)) b.split (all_drop (RecordOk g.id) i (records_in g s) a))
+    let a = all_from (RecordOk g.id) i (records_in g s) (λ j k. record_ok g s j h (omega (arith, records-length g s h))) in
+    all_left (RecordOk g.id) front b.rest (subst (All (RecordOk g.id)) b.split a)
 
 -- ── the record and what stands behind it ──
 
@@ -158,9 +157,6 @@ module _ {g : Frame} {s : List ℕ} {i : ℕ} (a : Annotated g s i) where
 
   pub record_is : record_at g s i ≡ record_of t
   record_is = ap head_of (stmt-parts a.stands).head
-
-  pub in_count : Ready g s → i < g.count
-  in_count ready = omega (arith, head-within rs i (record_of t) (stmt-parts a.stands).head, records-length g s ready)
 
   -- its sets, by the kind of its record
   pub switched : kind_of (record_at g s i) ≡ 5 → annotations t ≡ ascending (free_vars_clauses (clauses_in t)) ∷ []
@@ -189,8 +185,10 @@ module _ {g : Frame} {s : List ℕ} {i : ℕ} (a : Annotated g s i) where
 
     clauses_marks : Ready g s → (k : ℕ) → k ≡ 65536 → Marks [] (free_vars_clauses (clauses_in t)) (replicate k 0) (mark_clauses (clauses_in t) [] (replicate k 0))
     clauses_marks ready k q =
+        let ok = begins-ok (flatten_clauses (clauses_in t)) ready clauses-here.begins in
         let fit : FitRow (all_uses_clauses (clauses_in t)) (length {A = ℕ} (replicate k 0)) =
-        subst (FitRow (all_uses_clauses (clauses_in t))) (sym (length-replicate {A = ℕ} k 0)) (clauses-ids-fit g.id k (omega (arith, q, two_bytes g.id a.narrow)) (clauses_in t) (begins-ok (flatten_clauses (clauses_in t)) ready clauses-here.begins)) in
+        subst (FitRow (all_uses_clauses (clauses_in t))) (sym (length-replicate {A = ℕ} k 0))
+        (clauses-ids-fit g.id k (omega (arith, q, two_bytes g.id a.narrow)) (clauses_in t) ok) in
         marks_clauses (clauses_in t) [] (replicate k 0) a.scope (asked-parts t plain any_binders a.scope a.plain).0 fit
 
     pub clauses-size : Ready g s → (k : ℕ) → k ≡ 65536 → length (mark_clauses (clauses_at 127 n rs (i + 1)) [] (replicate k 0)) ≡ k
@@ -230,15 +228,6 @@ module _ {g : Frame} {s : List ℕ} {i : ℕ} (a : Annotated g s i) where
 pub row-after : (mark : List VarId → List ℕ → List ℕ) {B : List VarId} {first last clean : List ℕ} → last ≡ mark B first → B ≡ [] → first ≡ clean → last ≡ mark [] clean
 row-after mark {first = first} e b f = e ∙ (ap (λ (z : List VarId). mark z first) b ∙ ap (mark []) f)
 
-marked-few : (n : ℕ) (row : List ℕ) → length (marked_from n row) ≤ length row
-unfolding marked_from
-marked-few n [] = omega arith
-marked-few n (m ∷ row) = go (eqb m 0) (marked-few (suc n) row)
-  where
-    go : (t : Bool) → length (marked_from (suc n) row) ≤ length row → length (keep t (record { 0 = n }) (marked_from (suc n) row)) ≤ suc (length row)
-    go true h = omega arith
-    go false h = omega arith
-
 ids_short : (w : ℕ) → w ≤ 8 → (xs : List VarId) → length (each (λ (x : VarId). field w x.0) xs) ≤ 8 * length xs
 ids_short w h [] = omega arith
 ids_short w h (x ∷ xs) = omega (arith, length-append (field w x.0) (each (λ (y : VarId). field w y.0) xs), field-length w x.0, ids_short w h xs)
@@ -246,7 +235,9 @@ ids_short w h (x ∷ xs) = omega (arith, length-append (field w x.0) (each (λ (
 -- what a row of k marks says takes few bytes
 pub set-short : (w : ℕ) (row : List ℕ) (k : ℕ) → w ≤ 8 → length row ≡ k → length (set_bytes w (marked_from 0 row)) ≤ 2 + 8 * k
 set-short w row k h e =
-    omega (arith, length-append (field 2 (length (marked_from 0 row))) (each (λ (x : VarId). field w x.0) (marked_from 0 row)), field-length 2 (length (marked_from 0 row)), ids_short w h (marked_from 0 row), marked-few 0 row)
+    let xs = marked_from 0 row in
+    let few : length xs ≤ length row = omega (arith, marked-counted 0 row, count_by-le-length (λ b. not (eqb b 0)) row) in
+    omega (arith, few, length-append (field 2 (length xs)) (each (λ (x : VarId). field w x.0) xs), field-length 2 (length xs), ids_short w h xs)
 
 pub wrote_one : {u v : Writer} (L : List (List VarId)) (xs ys : List VarId) → Wrote u v (set_bytes u.id xs) → xs ≡ ys → L ≡ ys ∷ [] → Wrote u v (each (set_bytes u.id) L)
 wrote_one {u} L xs ys p e q = wrote_as (ap (set_bytes u.id) e ∙ sym (append-nil (set_bytes u.id ys)) ∙ ap (each (set_bytes u.id)) (sym q)) p

@@ -7,12 +7,12 @@ ghost use Rattle.image_spec.specs.Shape.{flatten, flatten_clauses, max_depth};
 ghost use Rattle.image_kinds.specs.Codes.{code_of};
 ghost use Rattle.image_directory.specs.Images.{records_of};
 ghost use Rattle.image_open.specs.Opening.{Known};
+ghost use Rattle.image_read_nodes.specs.Nodes.{Followed};
 ghost use Rattle.image_places_spec.specs.Places.{stmt_at, clauses_at, StmtStands, ClausesStand};
 ghost use Rattle.image_write_parts.specs.Written.{Wrote};
 ghost use Rattle.scope_spec.specs.Calls.{set_bytes, placing, annotating, annotate_of, Replies};
 ghost use Rattle.scope_spec.specs.Marking.{mark_stmt, mark_clauses};
 ghost use Rattle.scope_spec.specs.Rooms.{RoomFor, RoomForClauses};
-ghost use Rattle.scope_check.specs.Definitions.{Defined};
 ghost use Rattle.scope_check.specs.Deciding.{program_in};
 ghost use Rattle.annotate.specs.Annotating.{annotated_kind, WroteSet, Annotated, Limited, Settled};
 
@@ -23,13 +23,14 @@ use image_directory::image::Image;
 use image_kinds::kinds::Kind;
 use image_open::open;
 use image_open::opened::Opened;
-use image_read_nodes::parts_of;
+use image_read_nodes::{Follows, parts_of};
 use image_spec::{Accepted, Answer, Layout, Refusal};
 use image_write_bytes::bytes::clear;
 use image_write_parts::writer::Writer;
 use scope_check::check::within_limits;
 use scope_check::definitions::walk_definitions;
 use scope_records::flat::{Alone, all_records};
+use scope_walk::walk::Walkable;
 use syntax::sets::IdSet;
 
 // (A name, and no pattern where it is asked: the definition has the name too, and the two are proved equal here once.)
@@ -44,9 +45,16 @@ fn has_annotation(kind: Kind) -> bool
 
 // Writes the free variables of the statement at index i, and answers the index behind it.
 // (`i`, `row` and `writer`, here and below: an index, room for one set, cleared before each, and what all sets are written in.)
-fn put_statement(source: &Counted<'_>, i: usize, row: &mut [u8], writer: &mut Writer<'_>) -> usize
-    requires { StmtStands 127 (records_of source.now.image) i (stmt_at 127 (records_of source.now.image) i) × (RoomFor [] (stmt_at 127 (records_of source.now.image) i) × ((length row.old ≡ 65536) × (writer.old.at + 1000000 < 2 ^ 64))) }
-    ensures { WroteSet writer.old writer.new result (i + length (flatten (stmt_at 127 (records_of source.now.image) i))) (mark_stmt (stmt_at 127 (records_of source.now.image) i) [] (replicate (length row.old) 0)) }
+fn put_statement(
+    source: &Counted<'_>,
+    i: usize,
+    row: &mut [u8; Layout::IDS],
+    writer: &mut Writer<'_>,
+) -> usize
+    requires { let part = stmt_at 127 (records_of source.now.image) i in
+        StmtStands 127 (records_of source.now.image) i part × (RoomFor [] part × (writer.old.at + 1000000 < 2 ^ 64)) }
+    ensures { let part = stmt_at 127 (records_of source.now.image) i in
+        WroteSet writer.old writer.new result (i + length (flatten part)) (mark_stmt part [] (replicate (length row.old) 0)) }
 {
     clear(row);
     let next = statement(source, Layout::DEPTH_BELOW, i, IdSet::empty(), row);
@@ -55,15 +63,18 @@ fn put_statement(source: &Counted<'_>, i: usize, row: &mut [u8], writer: &mut Wr
 }
 
 // Writes the free variables of the n clauses from index i on, and answers the index behind them.
+// (Beside `put_statement`, from which it differs in one call: one function would take that call as a closure with a contract.)
 fn put_clauses(
     source: &Counted<'_>,
     n: usize,
     i: usize,
-    row: &mut [u8],
+    row: &mut [u8; Layout::IDS],
     writer: &mut Writer<'_>,
 ) -> usize
-    requires { ClausesStand 127 n (records_of source.now.image) i (clauses_at 127 n (records_of source.now.image) i) × (RoomForClauses [] (clauses_at 127 n (records_of source.now.image) i) × ((length row.old ≡ 65536) × (writer.old.at + 1000000 < 2 ^ 64))) }
-    ensures { WroteSet writer.old writer.new result (i + length (flatten_clauses (clauses_at 127 n (records_of source.now.image) i))) (mark_clauses (clauses_at 127 n (records_of source.now.image) i) [] (replicate (length row.old) 0)) }
+    requires { let part = clauses_at 127 n (records_of source.now.image) i in
+        ClausesStand 127 n (records_of source.now.image) i part × (RoomForClauses [] part × (writer.old.at + 1000000 < 2 ^ 64)) }
+    ensures { let part = clauses_at 127 n (records_of source.now.image) i in
+        WroteSet writer.old writer.new result (i + length (flatten_clauses part)) (mark_clauses part [] (replicate (length row.old) 0)) }
 {
     clear(row);
     let next = clauses(source, Layout::DEPTH_BELOW, n, i, IdSet::empty(), row);
@@ -72,19 +83,25 @@ fn put_clauses(
 }
 
 // Writes the annotation of the record at index i: the set of its clauses, then the set of its next.
-// (`image` and `i`: what stands there is looked up here, and by the caller before; to hand it over would ask one fact more.)
-fn put_annotation(image: &Image<'_>, i: usize, row: &mut [u8], writer: &mut Writer<'_>)
-    requires { Annotated image.now.frame image.now.bytes.now i × ((length row.old ≡ 65536) × (writer.old.at + 2000000 < 2 ^ 64)) }
+// (`follows` is what the caller has looked up at index i. The last arm is `_`: named, it would need one more arm that cannot come.)
+fn put_annotation(
+    image: &Image<'_>,
+    i: usize,
+    follows: Follows,
+    row: &mut [u8; Layout::IDS],
+    writer: &mut Writer<'_>,
+)
+    requires { (Annotated image.now.frame image.now.bytes.now i × Followed image.now.frame image.now.bytes.now i follows)
+        × (writer.old.at + 2000000 < 2 ^ 64) }
     ensures { Wrote writer.old writer.new (each (set_bytes writer.old.id) (annotations (stmt_at max_depth (records_of image.now) i))) }
 {
-    let f = parts_of(image, i);
     let source = Counted { image: *image };
-    match f.kind {
+    match follows.kind {
         Kind::Switch => {
-            put_clauses(&source, f.clauses, i + 1, row, writer);
+            put_clauses(&source, follows.clauses, i + 1, row, writer);
         }
         Kind::Create => {
-            let next = put_clauses(&source, f.clauses, i + 1, row, writer);
+            let next = put_clauses(&source, follows.clauses, i + 1, row, writer);
             put_statement(&source, next, row, writer);
         }
         _ => {
@@ -93,7 +110,7 @@ fn put_annotation(image: &Image<'_>, i: usize, row: &mut [u8], writer: &mut Writ
     }
 }
 
-// Question 12, of the bytes that were to be written.
+// Question 12, of the bytes that were to be written. (`pass_finish` has its own: it refuses by two questions, and of a writer's buffer.)
 fn settle(out: &mut [u8], written: usize, max_id: u32) -> Answer
     ensures { Settled result out.old out.new written max_id }
 {
@@ -111,9 +128,14 @@ fn settle(out: &mut [u8], written: usize, max_id: u32) -> Answer
 // (`i` and `out`, here and below: two arguments of the exported function, an index to read at and a buffer to write.)
 fn annotate_record(opened: &Opened<'_>, i: usize, out: &mut [u8]) -> Answer
     requires { Limited opened.now.image.frame opened.now.image.bytes.now opened.now.definitions opened.now.max_id }
-    ensures { Replies (placing opened.now.image.frame.id (program_in opened.now.definitions (records_of opened.now.image) opened.now.max_id) i (length out.old)) result out.old out.new }
+    ensures { let program = program_in opened.now.definitions (records_of opened.now.image) opened.now.max_id in
+        Replies (placing opened.now.image.frame.id program i (length out.old)) result out.old out.new }
 {
-    if opened.image.frame.count <= i || !has_annotation(parts_of(&opened.image, i).kind) {
+    if opened.image.frame.count <= i {
+        return Err(Refusal::Place);
+    }
+    let follows = parts_of(&opened.image, i);
+    if !has_annotation(follows.kind) {
         return Err(Refusal::Place);
     }
     let mut row = [0u8; Layout::IDS];
@@ -122,24 +144,27 @@ fn annotate_record(opened: &Opened<'_>, i: usize, out: &mut [u8]) -> Answer
         at: 0,
         id: opened.image.frame.id,
     };
-    put_annotation(&opened.image, i, &mut row, &mut writer);
+    put_annotation(&opened.image, i, follows, &mut row, &mut writer);
     let written = writer.at;
     settle(out, written, opened.max_id)
 }
 
 // Question 7, of an opened image.
 fn in_limits(opened: &Opened<'_>) -> bool
-    requires { Defined opened.now.definitions (records_of opened.now.image) }
     ensures { result ≡ question7 (program_in opened.now.definitions (records_of opened.now.image) opened.now.max_id) }
 {
-    let mut none = [0u64; 1];
-    within_limits(opened) && walk_definitions(opened, &mut none).room
+    let walkable = Walkable {
+        image: opened.image,
+        max_id: opened.max_id,
+    };
+    within_limits(opened) && walk_definitions(&walkable, opened.definitions, &mut []).room
 }
 
 // Questions 6, 7, 13 and 12.
 fn annotate_image(opened: &Opened<'_>, i: usize, out: &mut [u8]) -> Answer
-    requires { Defined opened.now.definitions (records_of opened.now.image) × (opened.now.image.frame.id ≤ 2) }
-    ensures { Replies (annotating opened.now.image.frame.id (program_in opened.now.definitions (records_of opened.now.image) opened.now.max_id) i (length out.old)) result out.old out.new }
+    requires { opened.now.image.frame.id ≤ 2 }
+    ensures { let program = program_in opened.now.definitions (records_of opened.now.image) opened.now.max_id in
+        Replies (annotating opened.now.image.frame.id program i (length out.old)) result out.old out.new }
 {
     if !all_records(&opened.image, Alone::Plain) {
         return Err(Refusal::Linearized);

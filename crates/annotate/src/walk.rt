@@ -20,7 +20,8 @@ use image_read_nodes::parts_of;
 use image_read_parts::record::RecordAt;
 use syntax::sets::IdSet;
 
-// The statement at index i, of depth at most `depth`.
+// The statement at index i, of depth at most `depth`. (`RoomFor`, here and in what calls this, is asked and is in no type: it is said of a statement
+// together with the set that is bound at it, and both change at every step.)
 #[cycle(bodies_clauses_statement)]
 pub fn statement(
     source: &Counted<'_>,
@@ -29,8 +30,10 @@ pub fn statement(
     bound: IdSet,
     row: &mut [u8],
 ) -> usize
-    requires { StmtStands depth (records_of source.now.image) i (stmt_at depth (records_of source.now.image) i) × (Scope bound × RoomFor (set_of bound) (stmt_at depth (records_of source.now.image) i)) }
-    ensures { MarkedTo result row.new (i + length (flatten (stmt_at depth (records_of source.now.image) i))) (mark_stmt (stmt_at depth (records_of source.now.image) i) (set_of bound) row.old) }
+    requires { let here = stmt_at depth (records_of source.now.image) i in
+        StmtStands depth (records_of source.now.image) i here × (Scope bound × RoomFor (set_of bound) here) }
+    ensures { let here = stmt_at depth (records_of source.now.image) i in
+        MarkedTo result row.new (i + length (flatten here)) (mark_stmt here (set_of bound) row.old) }
 {
     let f = parts_of(&source.image, i);
     let node = RecordAt {
@@ -55,8 +58,10 @@ pub fn clauses(
     bound: IdSet,
     row: &mut [u8],
 ) -> usize
-    requires { ClausesStand depth n (records_of source.now.image) i (clauses_at depth n (records_of source.now.image) i) × (Scope bound × RoomForClauses (set_of bound) (clauses_at depth n (records_of source.now.image) i)) }
-    ensures { MarkedTo result row.new (i + length (flatten_clauses (clauses_at depth n (records_of source.now.image) i))) (mark_clauses (clauses_at depth n (records_of source.now.image) i) (set_of bound) row.old) }
+    requires { let here = clauses_at depth n (records_of source.now.image) i in
+        ClausesStand depth n (records_of source.now.image) i here × (Scope bound × RoomForClauses (set_of bound) here) }
+    ensures { let here = clauses_at depth n (records_of source.now.image) i in
+        MarkedTo result row.new (i + length (flatten_clauses here)) (mark_clauses here (set_of bound) row.old) }
 {
     let mut here = i;
     for _ in 0..n {
@@ -72,6 +77,7 @@ pub fn clauses(
 }
 
 // The n statements from index i on, each of depth at most `depth`.
+// (Beside `clauses`: a clause has a record of its own before its body.)
 #[cycle(bodies_clauses_statement)]
 fn bodies(
     source: &Counted<'_>,
@@ -81,8 +87,10 @@ fn bodies(
     bound: IdSet,
     row: &mut [u8],
 ) -> usize
-    requires { BodiesStand depth n (records_of source.now.image) i (bodies_at depth n (records_of source.now.image) i) × (Scope bound × All (RoomFor (set_of bound)) (bodies_at depth n (records_of source.now.image) i)) }
-    ensures { MarkedTo result row.new (i + length (each flatten (bodies_at depth n (records_of source.now.image) i))) (mark_bodies (bodies_at depth n (records_of source.now.image) i) (set_of bound) row.old) }
+    requires { let here = bodies_at depth n (records_of source.now.image) i in
+        BodiesStand depth n (records_of source.now.image) i here × (Scope bound × All (RoomFor (set_of bound)) here) }
+    ensures { let here = bodies_at depth n (records_of source.now.image) i in
+        MarkedTo result row.new (i + length (each flatten here)) (mark_bodies here (set_of bound) row.old) }
 {
     let mut here = i;
     for _ in 0..n {

@@ -1,21 +1,24 @@
 -- The marked IDs from a place of a row on. Assumes nothing.
-use Prim.Native.Nat.{ℕ, ◌+◌, ◌≤◌, ◌<◌}
-use mathlib.Core.Bool.{true, false}
+use Prim.Native.Nat.{ℕ, suc, ◌+◌, ◌≤◌, ◌<◌}
+use mathlib.Core.Bool.{Bool, true, false, not, cond}
 use mathlib.Core.List.{List, [], ◌∷◌}
-use mathlib.Core.Path.{◌≡◌, ap, subst, sym, ◌∙◌}
+use mathlib.Core.Path.{◌≡◌, refl, ap, subst, sym, ◌∙◌}
 use native.Mathlib.Omega.{arith}
 use native.Mathlib.Numerals.{add-one}
 use borrow.Author.Tests.{eq-eqb, ne_eqb}
 use lib.ListN.{length, get_or, set, drop, drop_of_length-le}
-use lib.Seq.{drop-cons}
+use lib.Seq.{drop-cons, set_out}
+use Rattle.std.specs.Prelude.{count_by}
+use Rattle.std.proofs.lemmas.List.Sums.{sum_by-cons}
+use lib.Dec.{eqb}
 use Rattle.syntax.specs.Sets.{elem}
 use Rattle.syntax.specs.declared.names.VarId.{VarId}
 use Rattle.syntax.proofs.Lists.{rest, rest_cons, rest_end}
 use Rattle.image_spec.specs.Parse.{each, field}
 use Rattle.image_write_parts.specs.Puts.{Puts}
-use Rattle.image_write_parts.proofs.Putting.{puts_then, puts_none, set_past}
+use Rattle.image_write_parts.proofs.Putting.{puts_then, puts_none}
 use Rattle.scope_spec.specs.Calls.{set_bytes}
-use Rattle.scope_spec.specs.Marking.{mark_one_lem, mark_all_lem, marked_from}
+use Rattle.scope_spec.specs.Marking.{mark_one_lem, mark_all_lem, keep, marked_from}
 
 -- no mark
 pub marked_none : (row : List ℕ) (i : ℕ) → i < length row → get_or row i 0 ≡ 0 → marked_from i (drop i row) ≡ marked_from (i + 1) (drop (i + 1) row)
@@ -33,10 +36,18 @@ pub marked-past : (row : List ℕ) (i : ℕ) → length row ≤ i → marked_fro
 unfolding marked_from
 marked-past row i h = rw (drop_of_length-le row {i = i} h)
 
--- one more is counted
-pub count-one : (row : List ℕ) (i m : ℕ) → i < length row → ¬ (get_or row i 0 ≡ 0)
-    → m + 1 + length (marked_from (i + 1) (drop (i + 1) row)) ≡ m + length (marked_from i (drop i row))
-count-one row i m h n = let e = ap length (marked-one row i h n) in omega (arith, e)
+-- how many they are
+pub marked-counted : (n : ℕ) (row : List ℕ) → length (marked_from n row) ≡ count_by (λ b. not (eqb b 0)) row
+unfolding marked_from
+marked-counted n [] = refl
+marked-counted n (m ∷ row) =
+    first (eqb m 0) (marked_from (suc n) row)
+    ∙ ap (λ (k : ℕ). cond (not (eqb m 0)) 1 0 + k) (marked-counted (suc n) row)
+    ∙ sym (sum_by-cons (λ b. cond (not (eqb b 0)) 1 0) m row)
+  where
+    first : (t : Bool) (xs : List VarId) → length (keep t (record { 0 = n }) xs) ≡ cond (not t) 1 0 + length xs
+    first true xs = omega arith
+    first false xs = omega arith
 
 -- the bytes of IDs of w bytes each
 abbrev pub id_bytes : ℕ → List VarId → List ℕ
@@ -76,7 +87,7 @@ pub mark-free : (B : List VarId) (x : VarId) (row : List ℕ) (p : ℕ) → elem
 mark-free B x row p h e = rw (h, e)
 
 pub mark-past : (B : List VarId) (x : VarId) (row : List ℕ) (p : ℕ) → elem x B ≡ false → p ≡ x.0 → length row ≤ p → row ≡ mark_one_lem B x row
-mark-past B x row p h e k = sym (set_past row p 1 k) ∙ mark-free B x row p h e
+mark-past B x row p h e k = sym (set_out row p 1 k) ∙ mark-free B x row p h e
 
 -- the uses from a place of an array on
 pub mark-next : (B ids : List VarId) (n i : ℕ) (none : VarId) (row next : List ℕ) → i < n → n ≤ length ids → next ≡ mark_one_lem B (get_or ids i none) row

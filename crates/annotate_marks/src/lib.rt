@@ -1,7 +1,7 @@
 // Rows of marks by ID: what is used and not bound is marked, and the marked IDs are written in ascending order.
 #![tactic(auto)]
 
-ghost use Rattle.std.specs.Prelude.{◌≡◌, ◌+◌, ◌*◌, ◌≤◌, ◌<◌, ◌^◌, length};
+ghost use Rattle.std.specs.Prelude.{◌≡◌, ◌+◌, ◌*◌, ◌<◌, ◌^◌, length};
 ghost use Rattle.syntax.specs.Arrays.{set_of};
 ghost use Rattle.image_spec.specs.Parse.{each, field};
 ghost use Rattle.image_write_parts.specs.Written.{Wrote};
@@ -12,9 +12,8 @@ use image_write_parts::writer::Writer;
 use syntax::names::VarId;
 use syntax::sets::IdSet;
 
-// A variable is used: it is marked, if it is not bound.
+// A variable is used: it is marked, if it is not bound. (No `get_mut`: once its borrow is over, a proof knows the row's length, and no byte.)
 pub fn mark_one(row: &mut [u8], bound: IdSet, id: VarId)
-    requires { bound.len ≤ 128 }
     ensures { row.new ≡ mark_one_lem (set_of bound) id row.old }
 {
     if bound.contains(id) {
@@ -28,26 +27,19 @@ pub fn mark_one(row: &mut [u8], bound: IdSet, id: VarId)
 
 // Marks what is used and not bound, of a set.
 pub fn mark_all(row: &mut [u8], bound: IdSet, set: IdSet)
-    requires { (bound.len ≤ 128) × (set.len ≤ 128) }
     ensures { row.new ≡ mark_all_lem (set_of bound) (set_of set) row.old }
 {
-    for i in 0..set.len {
-        mark_one(row, bound, set.ids[i]);
+    for id in &set.ids[..set.len] {
+        mark_one(row, bound, *id);
     }
 }
 
-// How many IDs are marked.
+// How many IDs are marked. (That there are fewer than 2^32 is asked, here and below: a lent slice has no field, and an array of 65,536 would ask more.)
 pub fn count_marked(row: &[u8]) -> u32
     requires { length row.now < 2 ^ 32 }
     ensures { result ≡ length (marked_from 0 row.now) }
 {
-    let mut marked = 0;
-    for i in 0..row.len() {
-        if row[i] != 0 {
-            marked += 1;
-        }
-    }
-    marked
+    row.iter().filter(|b| **b != 0).count() as u32
 }
 
 // Writes the marked IDs in ascending order.
@@ -56,8 +48,8 @@ pub fn put_marked(row: &[u8], writer: &mut Writer<'_>)
     ensures { Wrote writer.old writer.new (each (λ (x : VarId). field writer.old.id x.0) (marked_from 0 row.now)) }
 {
     let width = writer.id;
-    for i in 0..row.len() {
-        if row[i] != 0 {
+    for (i, b) in row.iter().enumerate() {
+        if *b != 0 {
             writer.number(width, i as u32);
         }
     }

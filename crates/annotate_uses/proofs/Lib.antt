@@ -1,5 +1,3 @@
--- The laws of sets with room, of counts, of an IfC's second operand, and of scopes.
+-- The laws of sets with room, and of scopes.
 pub mod SetLaws
-pub mod CountLaws
-pub mod SecondLaws
 pub mod BindLaws

@@ -1,6 +1,7 @@
 // The functions of the library. Each returns the number of its answer, 0 for acceptance, and sets what it is lent to report in on every call.
 // axcut_c exports them to C.
-// Parameters stay side by side as they are: they are those of the C interface, in its order (include/axcut.h).
+// Parameters stay side by side as they are: they are those of the C interface, in its order (include/axcut.h). (A start and a step for each machine: C has a
+// name for each.)
 #![tactic(auto)]
 
 ghost use Rattle.std.specs.Prelude.{◌≡◌, []};

@@ -1,5 +1,5 @@
 // The library's functions for C and Rust, under the same names and with the same contracts. include/axcut.h says what a caller must see to.
-// Parameters stay side by side: C callers give them in this order.
+// Parameters stay side by side: C callers give them in this order. (A crate of its own: decision 89.)
 #![tactic(auto)]
 
 ghost use Rattle.std.specs.Prelude.{◌≡◌, []};

@@ -28,7 +28,8 @@ pub fn tell(answer: Answer, length: &mut usize, max_id: &mut u32) -> u32
     number
 }
 
-// The number of a stepper's answer.
+// The number of a stepper's answer. (No `From`, here and for `tell`: `Result` and `u32` are the library's types, and of a `Failure` alone nobody asks the
+// number. 14 and 15 have no discriminants: a question that refused has its own number, and no room brings what was made.)
 pub fn number_of(said: Result<Shown, Failure>) -> u32
     ensures { result ≡ (result_of said [] []).number }
 {

@@ -2,7 +2,7 @@
 use Rattle.std.specs.Prelude.{Some, None}
 use Prim.Native.Nat.{ℕ, zero, suc, ◌+◌, ◌-◌, ◌≤◌, ◌<◌}
 use mathlib.Core.List.{List, [], ◌∷◌}
-use mathlib.Core.Bool.{Bool, true, false, ◌&&◌}
+use mathlib.Core.Bool.{Bool, true, false, ◌&&◌, and-false}
 use mathlib.Core.Option.{Option as Optional, none, some}
 use mathlib.Core.Path.{◌≡◌, refl, ap, sym, ◌∙◌}
 use native.Mathlib.Omega.{arith}
@@ -24,10 +24,6 @@ refuses-short : {A : Type 0} {e : A → List ℕ} {P : A → Type 0} {l : List �
 refuses-short k none_read h s = refl
 refuses-short {e = e} k (one-read {a = a} {m = m} pa ea) h s =
     absurd (omega (arith, ap length ea, length-append (e a) m, h a))
-
-and-false : (t : Bool) → t && false ≡ false
-and-false true = refl
-and-false false = refl
 
 -- one record and the others
 abbrev pub and_more : Optional Record → Optional (List Record) → Optional (List Record)

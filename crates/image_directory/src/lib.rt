@@ -50,16 +50,17 @@ pub fn read_slot(image: &[u8], place: usize, at: usize) -> Option<Slot>
     requires { Width place }
     ensures { result ≡ slot_at place at image.now }
 {
-    if at <= image.len() && place + place <= image.len() - at {
-        let offset = number(image, at, place) as usize;
-        let size = number(image, at + place, place) as usize;
-        return Some(Slot { offset, size });
+    if image.len() < at || image.len() - at < place + place {
+        return None;
     }
-    None
+    let offset = number(image, at, place) as usize;
+    let size = number(image, at + place, place) as usize;
+    Some(Slot { offset, size })
 }
 
 // Question 3: do the pairs of a frame's directory tile the bytes from where its records begin to their end?
-// (`image` and `frame`, here and below: they are an `Image` once they have passed both questions.)
+// (`image` and `frame`, here and below: they are an `Image` once they have passed both questions. A `for` that returns, here and below: each record
+// begins where the one before ends. Two walks over the pairs: question 4 is asked of no record before question 3 has a yes for all.)
 pub fn tiled(image: &[u8], frame: Frame) -> bool
     requires { Width frame.place }
     ensures { result ≡ tiled_from frame.place frame.count frame.from frame.start image.now }
@@ -77,6 +78,8 @@ pub fn tiled(image: &[u8], frame: Frame) -> bool
         if slot.offset != here || len - here < slot.size {
             return false;
         }
+        // (`at` goes on beside `here`, here and below: both are where the next begins, and one law takes a step of both. No `chunks_exact`: the
+        // directory may end before its last pair.)
         here += slot.size;
         at += frame.place + frame.place;
     }
@@ -84,7 +87,6 @@ pub fn tiled(image: &[u8], frame: Frame) -> bool
 }
 
 // Question 4: are the records of a frame's pairs, which tile the bytes, formed?
-// (A `for` that returns: each record begins where the one before ends, as in `tiled`.)
 pub fn all_formed(image: &[u8], frame: Frame) -> bool
     requires { (frame.id ≤ 8) × (Width frame.place × (tiled_from frame.place frame.count frame.from frame.start image.now ≡ true)) }
     ensures { result ≡ formed_from frame.id frame.place frame.count frame.from frame.start image.now }

@@ -221,6 +221,13 @@ code-good n s at h b =
 pub code_bad : (n : ℕ) (s : List ℕ) (at : ℕ) → at < length s → n < get_or s at 0 → stop (code n) s at ≡ None
 code_bad n s at h b = stop_bad (code n) s at h (λ l. rw (lt-leb _ _ b))
 
+pub code-chosen : (n : ℕ) (s : List ℕ) (at : ℕ) → at < length s → then_some (leb (get_or s at 0) n) (at + 1) ≡ stop (code n) s at
+code-chosen n s at h = go (leb (get_or s at 0) n) refl
+  where
+    go : (t : Bool) → leb (get_or s at 0) n ≡ t → then_some t (at + 1) ≡ stop (code n) s at
+    go true e = sym (code-good n s at h (leb-true _ _ e))
+    go false e = sym (code_bad n s at h (leb-false _ _ e))
+
 pub code-past : (n : ℕ) (s : List ℕ) (at : ℕ) → length s ≤ at → stop (code n) s at ≡ None
 code-past n s at h = stop-past (code n) s at h refl
 

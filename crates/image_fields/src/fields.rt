@@ -29,11 +29,12 @@ impl<'a> Fields<'a> {
         ensures { result ≡ stop (code most) self.now.bytes.now at }
     {
         let b = *self.bytes.get(at)?;
-        if b <= most { Some(at + 1) } else { None }
+        (b <= most).then_some(at + 1)
     }
 
     // Past n zero bytes.
     // (`n` and `at`, also of bindings and pairs below: how many are due, and where to begin; no range, since its end is what is asked.)
+    // (That the place stands is asked: of n = 0 the place itself is answered.)
     fn skip_zeros(&self, n: usize, at: usize) -> Option<usize>
         requires { at ≤ length self.now.bytes.now }
         ensures { result ≡ stop (zeros n) self.now.bytes.now at }
@@ -52,6 +53,7 @@ impl<'a> Fields<'a> {
         match *self.bytes.get(at)? {
             0 => self.skip_zeros(2 + self.id, at + 1),
             1 => self.skip_identifier(at + 1),
+            // `_`, here and at a mark: a byte, of which two values are allowed.
             _ => None,
         }
     }
@@ -80,7 +82,8 @@ impl<'a> Fields<'a> {
         Some(here)
     }
 
-    // Past a count and as many bindings.
+    // Past a count and as many bindings. (Not one function with `skip_substitution`, nor `skip_bindings` with `skip_pairs`: what is gone past would be
+    // a parameter, by an enum that is only there for it.)
     pub fn skip_list(&self, at: usize) -> Option<usize>
         ensures { result ≡ stop (list self.now.id) self.now.bytes.now at }
     {
@@ -109,7 +112,8 @@ impl<'a> Fields<'a> {
         self.skip_pairs(usize::from(self.bytes[at]), pairs)
     }
 
-    // The mark at a place: does something follow it? None where no mark is there.
+    // The mark at a place: does something follow it? None where no mark is there. (Of a place in the fields and private; the flags of a state's header
+    // are two bytes that are surely there, and the definition that they are proved by is that of stores.)
     fn mark(&self, at: usize) -> Option<bool>
         ensures { result ≡ mark_at self.now.bytes.now at }
     {
@@ -121,6 +125,7 @@ impl<'a> Fields<'a> {
     }
 
     // Past the mark of an environment, and its list where it has one.
+    // (Not one function with `skip_second`: what follows the mark would be a closure, and three functions would stand for two.)
     pub fn skip_environment(&self, at: usize) -> Option<usize>
         ensures { result ≡ stop (marked (list self.now.id)) self.now.bytes.now at }
     {

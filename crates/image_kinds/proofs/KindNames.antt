@@ -10,7 +10,7 @@ use Rattle.image_spec.specs.Kinds.{kind_of}
 use Rattle.image_spec.proofs.KindLaws.{kind-below}
 use denote.Enum.Declared.{tag_of}
 use Rattle.image_kinds.specs.contracts.kinds.Kind.{the_type as kind_type}
-use Rattle.image_kinds.specs.declared.codes.NoKind.{NoKind}
+use Rattle.syntax.specs.declared.codes.NoCode.{NoCode}
 use Rattle.image_kinds.specs.Codes.{code_of, named_kind, Decodes}
 use Rattle.image_kinds.specs.declared.kinds.Kind.{Kind}
 use Rattle.image_kinds.specs.declared.kinds.Kind.TheVariants.{Definition, Substitute, Call, Let, Switch, Create, Invoke, Literal, Op, IfC, Clause, Print, Exit}
@@ -74,22 +74,6 @@ code_above Print = omega arith
 code_above Exit = omega arith
 
 -- the byte of a record's kind decodes, to that kind
-pub record-decodes : (r : Record) {k : ℕ} (o : Result Kind NoKind) → k ≡ kind_of r → Decodes k o → o ≡ Ok (named_kind r)
+pub record-decodes : (r : Record) {k : ℕ} (o : Result Kind NoCode) → k ≡ kind_of r → Decodes k o → o ≡ Ok (named_kind r)
 record-decodes r (Ok x) e d = ap Ok (code-kind x r (d ∙ e))
 record-decodes r (Err x) e d = absurd (omega (arith, e, kind-below r, kind-code r, code_above (named_kind r), d.1))
-
--- the byte that `as u8` gives
-pub kind-number : (k : Kind) → tag_of kind_type k + 1 ≡ code_of k
-kind-number Definition = refl
-kind-number Substitute = refl
-kind-number Call = refl
-kind-number Let = refl
-kind-number Switch = refl
-kind-number Create = refl
-kind-number Invoke = refl
-kind-number Literal = refl
-kind-number Op = refl
-kind-number IfC = refl
-kind-number Clause = refl
-kind-number Print = refl
-kind-number Exit = refl

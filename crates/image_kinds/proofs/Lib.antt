@@ -1,4 +1,3 @@
--- The rule of a table, where the parser of a record stops, and the kinds by name and by byte.
-pub mod TableLaws
+-- Where the parser of a record stops, and the kinds by name and by byte.
 pub mod RecordStops
 pub mod KindNames

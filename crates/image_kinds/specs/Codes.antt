@@ -2,7 +2,7 @@
 use Rattle.std.specs.Prelude.{ℕ, ◌≡◌, ◌≤◌, ◌<◌, Result, MatchResult}
 use Rattle.image_spec.specs.Records.{Record, definition, substitute, call, let', switch, create, invoke, literal, op, ifc, clause', print, exit}
 use Rattle.image_spec.specs.Kinds.{kinds}
-use Rattle.image_kinds.specs.declared.codes.NoKind.{NoKind}
+use Rattle.syntax.specs.declared.codes.NoCode.{NoCode}
 use Rattle.image_kinds.specs.declared.kinds.Kind.{Kind}
 use Rattle.image_kinds.specs.declared.kinds.Kind.TheVariants.{Definition, Substitute, Call, Let, Switch, Create, Invoke, Literal, Op, IfC, Clause, Print, Exit}
 
@@ -39,5 +39,5 @@ named_kind (print n v) = Print
 named_kind (exit v) = Exit
 
 -- the result is the kind with this byte, or an error with a byte that no kind has
-abbrev pub Decodes : ℕ → Result Kind NoKind → Type 0
+abbrev pub Decodes : ℕ → Result Kind NoCode → Type 0
 Decodes code r = MatchResult r (λ k. code_of k ≡ code) (λ e. (e.0 ≡ code) × (0 < code → kinds ≤ code))

@@ -1,3 +1,2 @@
--- The kinds by their bytes, and what their table says.
-pub mod Table
+-- The kinds by their bytes.
 pub mod Codes

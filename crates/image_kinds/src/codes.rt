@@ -2,17 +2,14 @@
 ghost use Rattle.image_kinds.specs.Codes.{Decodes};
 
 use crate::kinds::Kind;
-
-// A byte that stands for no kind.
-#[derive(Clone, Copy, PartialEq, Eq)]
-pub struct NoKind(pub u8);
+use syntax::codes::NoCode;
 
 impl TryFrom<u8> for Kind {
-    type Error = NoKind;
+    type Error = NoCode;
 
     ghost try_from_gives = { Decodes };
 
-    fn try_from(code: u8) -> Result<Self, NoKind> {
+    fn try_from(code: u8) -> Result<Self, NoCode> {
         match code {
             1 => Ok(Kind::Definition),
             2 => Ok(Kind::Substitute),
@@ -27,7 +24,7 @@ impl TryFrom<u8> for Kind {
             11 => Ok(Kind::Clause),
             12 => Ok(Kind::Print),
             13 => Ok(Kind::Exit),
-            _ => Err(NoKind(code)),
+            _ => Err(NoCode(code)),
         }
     }
 }

@@ -16,9 +16,10 @@ pub fn skip_content(fields: &Fields<'_>, kind: Kind) -> Option<usize>
     ensures { result ≡ stop (content fields.now.id (code_of kind)) fields.now.bytes.now 1 }
 {
     match kind {
-        Kind::Definition => fields.skip_list(fields.skip_identifier(1)?),
+        Kind::Definition | Kind::Call | Kind::Clause => {
+            fields.skip_list(fields.skip_identifier(1)?)
+        }
         Kind::Substitute => fields.skip_substitution(1),
-        Kind::Call => fields.skip_list(fields.skip_identifier(1)?),
         Kind::Let => {
             let ty = fields.skip_identifier(1)?;
             let tag = fields.skip_type(ty)?;
@@ -48,7 +49,6 @@ pub fn skip_content(fields: &Fields<'_>, kind: Kind) -> Option<usize>
             let first = fields.skip_code(5, 1)?;
             fields.skip_second(fields.skip_identifier(first)?)
         }
-        Kind::Clause => fields.skip_list(fields.skip_identifier(1)?),
         Kind::Print => fields.skip_identifier(fields.skip_code(1, 1)?),
         Kind::Exit => fields.skip_identifier(1),
     }
@@ -62,11 +62,9 @@ pub fn record_formed(fields: &Fields<'_>) -> bool
     if bytes.is_empty() {
         return false;
     }
+    // (A `bool` is answered, so no `?`.)
     let Ok(kind) = Kind::try_from(bytes[0]) else {
         return false;
     };
-    if bytes.len() < kind.fixed(fields.id) {
-        return false;
-    }
     skip_content(fields, kind) == Some(bytes.len())
 }

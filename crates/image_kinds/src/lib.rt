@@ -1,4 +1,4 @@
-// The records of an image: the table of their kinds, and question 4 of one record.
+// The records of an image: their kinds, and question 4 of one record.
 #![tactic(auto)]
 
 pub mod codes;

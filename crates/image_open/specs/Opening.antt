@@ -1,9 +1,12 @@
 -- What opening an image finds: the frame, the definitions and the max_id of what reading accepts, or reading's refusal.
-use Rattle.std.specs.Prelude.{ℕ, ◌+◌, ◌≤◌, ◌≡◌, length, drop, List, Result, Ok, Err}
+use Rattle.std.specs.Prelude.{ℕ, ◌+◌, ◌≤◌, ◌≡◌, true, length, drop, List, Result, Ok, Err}
 use Rattle.image_spec.specs.Parse.{got, number}
 use Rattle.image_spec.specs.declared.Layout.{Layout}
 use Rattle.image_spec.specs.declared.Refusal.{Refusal}
 use Rattle.image_spec.specs.Layout.{header_size, body_at}
+use Rattle.image_spec.specs.Image.{is_some}
+use Rattle.image_spec.specs.Records.{Record}
+use Rattle.image_spec.specs.Shape.{definitions}
 use Rattle.image_spec.specs.Reading.{definition_count, record_count, Reading, refuse, accept, reading}
 use Rattle.image_directory.specs.Slots.{Width}
 use Rattle.image_directory.specs.declared.Frame.{Frame}
@@ -21,6 +24,10 @@ pub record Head (L : Layout) (s : List ℕ) (D m n : ℕ) : Type 0 where
   pub definitions_are : number 2 (drop 2 s) ≡ got D (drop 4 s)
   pub max_id_is : number L.id (drop 4 s) ≡ got m (drop (4 + L.id) s)
   pub records_are : number L.place (drop (4 + L.id) s) ≡ got n (drop (4 + L.id + L.place) s)
+
+-- question 5 has a yes: the records are D definitions, and nothing more
+abbrev pub Shaped : ℕ → List Record → Type 0
+Shaped D rs = is_some (definitions D rs) ≡ true
 
 -- the frame of an image of n records
 abbrev pub frame_of : Layout → ℕ → Frame

@@ -24,7 +24,7 @@ pub fn open(image: &[u8], layout: Layout) -> Result<Opened<'_>, Refusal>
 {
     let id = layout.id;
     let place = layout.place;
-    if image.len() < 2 + (2 + (id + place)) || layout.largest < image.len() {
+    if image.len() < layout.directory_at() || layout.largest < image.len() {
         return Err(Refusal::Size);
     }
     if number(image, 0, 2) != layout.number {
@@ -50,16 +50,12 @@ fn open_records(
     if Layout::MAX_RECORDS < count {
         return Err(Refusal::Directory);
     }
-    let id = layout.id;
-    let place = layout.place;
-    let from = 2 + (2 + (id + place));
-    let start = from + count * (place + place);
     let frame = Frame {
-        id,
-        place,
+        id: layout.id,
+        place: layout.place,
         count,
-        from,
-        start,
+        from: layout.directory_at(),
+        start: layout.records_at(count),
     };
     if !tiled(image, frame) {
         return Err(Refusal::Directory);

@@ -2,3 +2,4 @@
 pub mod ViewLaws
 pub mod PlaceLaws
 pub mod Steps
+pub mod Runs

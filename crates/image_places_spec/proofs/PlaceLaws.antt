@@ -1,7 +1,7 @@
 -- What stands at a place is what is read there, and its parts stand behind it: one law for statements, one for clauses, one for bodies,
 -- for every walk. Assumes nothing.
-use Prim.Native.Nat.{ℕ, zero, suc, ◌+◌, ◌-◌, ◌≤◌, ◌<◌}
-use mathlib.Core.Path.{◌≡◌, refl, sym, ap, ◌∙◌, subst}
+use Prim.Native.Nat.{ℕ, ◌+◌, ◌-◌, ◌<◌}
+use mathlib.Core.Path.{◌≡◌, sym, ap, ◌∙◌, subst}
 use mathlib.Core.List.{List, [], ◌∷◌, ◌++◌, append_assoc}
 use native.Mathlib.Omega.{arith}
 use lib.ListN.{length, drop, length-append, length-drop}
@@ -9,12 +9,12 @@ use lib.Seq.{drop-drop, drop-append_seam}
 use Rattle.syntax.specs.Context.{Context}
 use Rattle.syntax.specs.declared.names.Identifier.{Identifier}
 use Rattle.model.specs.Syntax.{Stmt, Clauses, end, clause}
-use Rattle.model.specs.Sizes.{depth, depth_clauses, count_clauses}
-use Rattle.image_spec.specs.Parse.{got, times, each, All}
+use Rattle.model.specs.Sizes.{depth}
+use Rattle.image_spec.specs.Parse.{each}
 use Rattle.image_spec.specs.Records.{Record, clause'}
 use Rattle.image_spec.specs.Kinds.{kind_of, clauses_of, bodies}
-use Rattle.image_spec.specs.Shape.{flatten, flatten_clauses, clauses, stmt}
-use Rattle.image_spec.proofs.ParseLaws.{Exact, times_exact}
+use Rattle.image_spec.specs.Shape.{flatten, flatten_clauses}
+use Rattle.image_spec.proofs.ParseLaws.{times_exact}
 use Rattle.image_spec.proofs.ShapeLaws.{stmt_exact, clauses_exact}
 use Rattle.image_places_spec.specs.Views.{record_of, clauses_in, bodies_of}
 use Rattle.image_places_spec.specs.Places.{stmt_at, clauses_at, bodies_at, Begins, StmtStands, ClausesStand, BodiesStand}
@@ -82,7 +82,8 @@ pub record ClauseParts (d n : ℕ) (rs : List Record) (i : ℕ) (x : Identifier)
   pub rest : ClausesStand d (n - 1) rs (i + 1 + length (flatten t)) cs
   pub size : length (flatten_clauses (clause x Γ t cs)) ≡ 1 + length (flatten t) + length (flatten_clauses cs)
 
-pub clause-parts : {d n : ℕ} {rs : List Record} {i : ℕ} (x : Identifier) (Γ : Context) (body : Stmt) (rest : Clauses) → ClausesStand d n rs i (clause x Γ body rest) → ClauseParts d n rs i x Γ body rest
+pub clause-parts : {d n : ℕ} {rs : List Record} {i : ℕ} (x : Identifier) (Γ : Context) (body : Stmt) (rest : Clauses)
+    → ClausesStand d n rs i (clause x Γ body rest) → ClauseParts d n rs i x Γ body rest
 unfolding flatten depth
 clause-parts {d} {n} {rs} {i} x Γ body rest h =
     let b : Begins rs i (clause' x Γ ∷ (flatten body ++ flatten_clauses rest)) = h.begins in

@@ -1,13 +1,12 @@
 -- A statement's records are its own, those of its clauses and those of its bodies. Assumes nothing.
 use Prim.Native.Nat.{ℕ, ◌-◌, ◌≤◌, ◌<◌}
-use mathlib.Core.Path.{◌≡◌, refl, sym, ap, ◌∙◌}
-use mathlib.Core.List.{List, [], ◌∷◌, ◌++◌, append-nil, append_assoc}
+use mathlib.Core.Path.{◌≡◌, refl}
+use mathlib.Core.List.{◌∷◌, ◌++◌, append-nil}
 use native.Mathlib.Omega.{arith}
 use lib.ListN.{length}
-use Rattle.model.specs.Syntax.{Stmt, Substitute, Call, Let, Switch, Create, Invoke, Literal, Op, IfC, PrintI64, Exit, Clauses, end, clause}
+use Rattle.model.specs.Syntax.{Stmt, Substitute, Call, Let, Switch, Create, Invoke, Literal, Op, IfC, PrintI64, Exit}
 use Rattle.model.specs.Sizes.{depth, depth_clauses, count_clauses}
 use Rattle.image_spec.specs.Parse.{each, All}
-use Rattle.image_spec.specs.Records.{Record}
 use Rattle.image_spec.specs.Kinds.{kind_of, clauses_of, bodies}
 use Rattle.image_spec.specs.Shape.{flatten, flatten_clauses}
 use Rattle.image_places_spec.specs.Views.{record_of, clauses_in, bodies_of}

@@ -1,5 +1,5 @@
 -- The statement, clauses and bodies at a place of the records, at most d statements deep.
-use Rattle.std.specs.Prelude.{ℕ, ◌+◌, ◌≤◌, ◌≡◌, List, [], ◌∷◌, ◌++◌, length, drop}
+use Rattle.std.specs.Prelude.{ℕ, ◌≤◌, ◌≡◌, List, [], ◌++◌, length, drop}
 use Rattle.model.specs.Syntax.{Stmt, Call, Clauses, end}
 use Rattle.model.specs.Sizes.{depth, depth_clauses, count_clauses}
 use Rattle.image_spec.specs.Parse.{times, each, All}

@@ -5,7 +5,7 @@ use mathlib.Core.Bool.{true, false}
 use mathlib.Core.List.{List, [], ◌∷◌, ◌++◌, append-nil, append_assoc}
 use native.Mathlib.Omega.{arith}
 use lib.ListN.{length, drop, get_or, length-append, length-drop, drop_of_length-le}
-use lib.Seq.{drop-drop}
+use lib.Seq.{drop-drop, drop_at}
 use Rattle.syntax.specs.Context.{Context, ids}
 use Rattle.syntax.specs.declared.names.VarId.{VarId}
 use Rattle.syntax.specs.declared.context.ContextBinding.{ContextBinding}
@@ -21,8 +21,11 @@ use Rattle.image_directory.specs.declared.Frame.{Frame}
 use Rattle.image_read_parts.specs.Standing.{Stands}
 use Rattle.image_read_parts.proofs.StandingLaws.{byte-run, first_run, second_run, stands_in, stands-room}
 use Rattle.image_read_parts.specs.Parts.{list_of}
-use Rattle.image_read_nodes.specs.Nodes.{has_list, IsNext}
+use Rattle.image_read_nodes.specs.Nodes.{has_list, ListAt, IsNext}
+use Rattle.image_kinds.specs.Codes.{code_of}
 use Rattle.image_read_parts.specs.Indexed.{record_at, At}
+use Rattle.image_read_parts.specs.Recorded.{record_in}
+use Rattle.image_read_parts.specs.declared.record.RecordAt.{RecordAt}
 use Rattle.image_read_nodes.proofs.TailLaws.{tail_from}
 use Rattle.image_read_nodes.proofs.NodeLaws.{record_ok}
 
@@ -126,6 +129,21 @@ module _ (g : Frame) (s : List ℕ) (i : ℕ) where
   list-there k o ready a h t =
       let r = record_at g s i in
       stands_in (subst (λ (z : ℕ). fixed g.id z ≤ length (record_bytes g.id r)) a.kind (fixed_le g.id r)) t (list-stands g.id r k a.kind h (record_ok g s i k ready a))
+
+-- .. and of a record whose list begins at a place
+module _ (r : RecordAt) {at : ℕ} where
+  pub list-from : ListAt r at → Stands (list_bytes r.image.frame.id) (ListOk r.image.frame.id) r.image.bytes.now at (list_of (record_in r))
+  list-from h =
+      let m = r.image in
+      let k = code_of r.kind in
+      record { others = _; bytes = h.stands; fits = (list-stands m.frame.id (record_in r) k r.there.kind h.list (record_ok m.frame m.bytes.now r.index k m.ready r.there)).fits }
+
+  pub list-to : has_list (code_of r.kind) ≡ true → Stands (list_bytes r.image.frame.id) (ListOk r.image.frame.id) r.image.bytes.now at (list_of (record_in r)) → ListAt r at
+  list-to h stands =
+      let list = list_bytes r.image.frame.id (list_of (record_in r)) in
+      let n = length list in
+      let behind = sym (drop-drop n at r.image.bytes.now) ∙ (ap (drop n) stands.bytes ∙ drop_at list stands.others n refl) in
+      record { list = h; stands = stands.bytes ∙ ap (λ (l : List ℕ). list ++ l) (sym behind) }
 
 -- a loop over IDs, with a state: those from place j on give what the whole gives
 module _ {S : Type 0} (F : List VarId → S → S) {whole : S} where

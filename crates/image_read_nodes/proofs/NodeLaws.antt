@@ -7,7 +7,6 @@ use native.Mathlib.Omega.{arith}
 use lib.ListN.{drop, get_or, length-append}
 use lib.Seq.{drop-drop, drop_at}
 use Rattle.syntax.specs.declared.names.Identifier.{Identifier}
-use Rattle.model.specs.FreeVars.{optional_id}
 use Rattle.image_spec.specs.Fields.{operator_code_lem, identifier_bytes, IdentifierOk}
 use Rattle.image_spec.specs.Records.{Record, definition, substitute, call, let', switch, create, invoke, literal, op, ifc, clause', print, exit, record_bytes, RecordOk}
 use Rattle.image_spec.specs.Kinds.{kind_of, fixed, tail_bytes}
@@ -101,7 +100,7 @@ module _ (w : ℕ) where
   target_stands (exit v) a ok = absurd (omega arith)
 
   -- an IfC's second operand, by its mark
-  pub second_none : (r : Record) → kind_of r ≡ 10 → get_or (tail_bytes w r) 0 0 ≡ 0 → optional_id (second_of r) ≡ []
+  pub second_none : (r : Record) → kind_of r ≡ 10 → get_or (tail_bytes w r) 0 0 ≡ 0 → second_of r ≡ none
   second_none (definition x Γ) a q = absurd (omega arith)
   second_none (substitute ps) a q = absurd (omega arith)
   second_none (call x Γ) a q = absurd (omega arith)
@@ -119,7 +118,7 @@ module _ (w : ℕ) where
 
   pub record Second (r : Record) : Type 0 where
     pub var : Identifier
-    pub is : optional_id (second_of r) ≡ var.id ∷ []
+    pub is : second_of r ≡ some var
     pub stands : Stands (identifier_bytes w) (IdentifierOk w) (record_bytes w r) (fixed w 10 + 1) var
 
   pub second_some : (r : Record) → kind_of r ≡ 10 → RecordOk w r → (get_or (tail_bytes w r) 0 0 ≡ 0 → ⊥) → Second r

@@ -1,14 +1,13 @@
 -- The record at an index, what follows it, and the identifiers that stand in it.
-use Rattle.std.specs.Prelude.{ℕ, ◌≡◌, Bool, true, false, cond, List, [], ◌∷◌, ◌+◌, eqb, get_or, drop}
+use Rattle.std.specs.Prelude.{ℕ, ◌≡◌, Bool, true, false, cond, List, [], ◌∷◌, ◌++◌, ◌+◌, eqb, get_or, drop, length}
 use Rattle.std.proofs.Math.Option.{Option, none}
 use Rattle.syntax.specs.Context.{empty_binding}
 use Rattle.syntax.specs.declared.names.Identifier.{Identifier}
 use Rattle.syntax.specs.declared.names.VarId.{VarId}
-use Rattle.image_spec.specs.Fields.{list_bytes, ListOk}
+use Rattle.image_spec.specs.Fields.{list_bytes}
 use Rattle.image_spec.specs.Records.{Record, definition, substitute, call, let', switch, create, invoke, literal, op, ifc, clause', print, exit}
 use Rattle.image_spec.specs.Kinds.{kind_of, clauses_of, bodies}
 use Rattle.image_directory.specs.declared.Frame.{Frame}
-use Rattle.image_read_parts.specs.Standing.{Stands}
 use Rattle.image_read_parts.specs.Parts.{list_of}
 use Rattle.image_read_parts.specs.Indexed.{record_at, At}
 use Rattle.image_read_parts.specs.Recorded.{record_in}
@@ -26,9 +25,10 @@ pub record Followed (g : Frame) (s : List ℕ) (i : ℕ) (f : Follows) : Type 0 
 abbrev pub has_list : ℕ → Bool
 has_list k = get_or (false ∷ true ∷ false ∷ true ∷ true ∷ false ∷ false ∷ true ∷ false ∷ false ∷ false ∷ true ∷ []) k false
 
--- the list of a record stands at this place of the bytes. (Asked of a place that is worked out once before a loop, and no field of a record: most have no list.)
-abbrev pub ListAt : RecordAt → ℕ → Type 0
-ListAt r at = Stands (list_bytes r.image.frame.id) (ListOk r.image.frame.id) r.image.bytes.now at (list_of (record_in r))
+-- the record has a list, which stands at this place of the bytes
+pub record ListAt (r : RecordAt) (at : ℕ) : Type 0 where
+  pub list : has_list (code_of r.kind) ≡ true
+  pub stands : drop at r.image.bytes.now ≡ list_bytes r.image.frame.id (list_of (record_in r)) ++ drop (at + length (list_bytes r.image.frame.id (list_of (record_in r)))) r.image.bytes.now
 
 -- from place j on: this one, and those from the place behind on
 pub record IsNext (xs : List VarId) (j : ℕ) (x : VarId) : Type 0 where

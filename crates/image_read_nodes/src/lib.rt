@@ -3,18 +3,17 @@
 
 ghost use Rattle.std.specs.Prelude.{◌≡◌, true, ◌<◌, length};
 ghost use Rattle.syntax.specs.Context.{ids};
-ghost use Rattle.image_spec.specs.Fields.{list_bytes, ListOk};
-ghost use Rattle.image_read_parts.specs.Standing.{Stands};
+ghost use Rattle.syntax.specs.Options.{option_of};
 ghost use Rattle.image_read_parts.specs.Parts.{list_of};
-ghost use Rattle.image_read_nodes.specs.Nodes.{Followed, has_list, ListAt, IsNext, first_at, first_of, operand_of, target_of};
+ghost use Rattle.image_read_nodes.specs.Nodes.{Followed, has_list, ListAt, IsNext, first_at, first_of, operand_of, target_of, second_of};
 ghost use Rattle.image_kinds.specs.Codes.{code_of};
 ghost use Rattle.image_read_parts.specs.Recorded.{record_in};
-ghost use Rattle.image_kinds.specs.declared.kinds.Kind.TheVariants.{Op};
+ghost use Rattle.image_kinds.specs.declared.kinds.Kind.TheVariants.{Substitute, Op, IfC};
 
 use image_directory::image::Image;
 use image_kinds::kinds::Kind;
 use image_read_parts::record::RecordAt;
-use image_read_parts::{identifier, identifier_at, offset};
+use image_read_parts::{byte, identifier, identifier_at, offset};
 use image_shape::look;
 use syntax::names::{Identifier, VarId};
 
@@ -40,31 +39,43 @@ pub fn parts_of(image: &Image<'_>, i: usize) -> Follows
     }
 }
 
-// Where the list of a record begins, with its count.
-pub fn list_at(node: &RecordAt<'_>) -> usize
+// The list of a record, which begins at `start` with its count.
+#[derive(Clone, Copy)]
+pub struct Bindings<'a> {
+    pub node: &'a RecordAt<'a>,
+    pub start: usize,
+    pub ghost stands: { ListAt node.now start },
+}
+
+// (Of a kind; a type of the five that have a list would be turned into one again.)
+pub fn list_at<'a>(node: &'a RecordAt<'a>) -> Bindings<'a>
     requires { has_list (code_of node.now.kind) ≡ true }
-    ensures { Stands (list_bytes node.now.image.frame.id) (ListOk node.now.image.frame.id) node.now.image.bytes.now result (list_of (record_in node.now)) }
+    ensures { result.node.now ≡ node.now }
 {
     let image = &node.image;
-    offset(image, node.index) + node.kind.fixed(image.frame.id)
+    let start = offset(image, node.index) + node.kind.fixed(image.frame.id);
+    Bindings { node, start }
 }
 
-// How many bindings a record's list has, which begins at `start`.
-pub fn list_count(node: &RecordAt<'_>, start: usize) -> usize
-    requires { ListAt node.now start }
-    ensures { result ≡ length (list_of (record_in node.now)) }
+// How many bindings a list has.
+pub fn list_count(list: &Bindings<'_>) -> usize
+    ensures { result ≡ length (list_of (record_in list.now.node.now)) }
 {
-    usize::from(node.image.bytes[start])
+    let node = list.node;
+    usize::from(node.image.bytes[list.start])
 }
 
-// The ID of the binding at place j of a record's list, which begins at `start`.
-pub fn list_id(node: &RecordAt<'_>, start: usize, j: usize) -> VarId
-    requires { ListAt node.now start × (j < length (list_of (record_in node.now))) }
-    ensures { IsNext (ids (list_of (record_in node.now))) j result }
+// The ID of the binding at place j of a list.
+// (A binding's bytes, 6 + (w + w), are written out, here and in pass_records, pass_statement_create and step_rows: a function's answer would be an equation
+// to rewrite by.)
+pub fn list_id(list: &Bindings<'_>, j: usize) -> VarId
+    requires { j < length (list_of (record_in list.now.node.now)) }
+    ensures { IsNext (ids (list_of (record_in list.now.node.now))) j result }
 {
-    let image = &node.image;
-    let w = image.frame.id;
-    identifier_at(image, start + (1 + j * (6 + (w + w)))).id
+    let node = list.node;
+    let fields = node.image.fields();
+    let w = fields.id;
+    identifier_at(&fields, list.start + (1 + j * (6 + (w + w)))).id
 }
 
 fn first_at(kind: Kind) -> usize
@@ -73,13 +84,22 @@ fn first_at(kind: Kind) -> usize
     match kind {
         Kind::Literal => 9,
         Kind::IfC | Kind::Print => 2,
-        _ => 1,
+        Kind::Definition
+        | Kind::Substitute
+        | Kind::Call
+        | Kind::Let
+        | Kind::Switch
+        | Kind::Create
+        | Kind::Invoke
+        | Kind::Op
+        | Kind::Clause
+        | Kind::Exit => 1,
     }
 }
 
-// The first identifier of a record. (A Substitute has none.)
+// The first identifier of a record. (Of any kind but a Substitute, which has no first part.)
 pub fn first(node: &RecordAt<'_>) -> Identifier
-    requires { code_of node.now.kind ≡ 2 → ⊥ }
+    requires { node.now.kind ≡ Substitute → ⊥ }
     ensures { result ≡ first_of (record_in node.now) }
 {
     identifier(&node.image, node.index, first_at(node.kind))
@@ -100,4 +120,17 @@ pub fn target(node: &RecordAt<'_>) -> Identifier
 {
     let w = node.image.frame.id;
     identifier(&node.image, node.index, 6 + (w + w))
+}
+
+// The second operand of an IfC, if its mark announces one.
+// (An early return: the identifier is read only where the mark is, and `then` would ask that of a closure.)
+pub fn second(node: &RecordAt<'_>) -> Option<Identifier>
+    requires { node.now.kind ≡ IfC }
+    ensures { option_of result ≡ second_of (record_in node.now) }
+{
+    let mark = Kind::IfC.fixed(node.image.frame.id);
+    if byte(&node.image, node.index, mark) == 0 {
+        return None;
+    }
+    Some(identifier(&node.image, node.index, mark + 1))
 }

@@ -18,7 +18,7 @@ use Rattle.syntax.specs.declared.op.BinOp.{BinOp}
 use Rattle.syntax.specs.declared.ifc.IfSort.{IfSort}
 use Rattle.image_spec.specs.Parse.{mark}
 use Rattle.image_spec.specs.Fields.{operator_code_lem, sort_code_lem, newline_code_lem, integer_bytes, identifier_bytes, type_bytes, list_bytes, IdentifierOk, TypeOk}
-use Rattle.image_spec.specs.Records.{let', switch, create, invoke, literal, op, ifc, print, exit, record_bytes, RecordOk}
+use Rattle.image_spec.specs.Records.{let', switch, create, invoke, literal, op, ifc, print, record_bytes, RecordOk}
 use Rattle.image_spec.proofs.FieldLaws.{identifier-length, type-length}
 use Rattle.image_read_parts.specs.Standing.{Stands}
 
@@ -41,7 +41,10 @@ module _ (w : ℕ) where
 
   pub let_tag : (v : Identifier) (t : Ty) (g : Identifier) (Γ : Context) → RecordOk w (let' v t g Γ) → Stands (identifier_bytes w) (IdentifierOk w) (record_bytes w (let' v t g Γ)) (6 + (w + w)) g
   unfolding record_bytes RecordOk
-  let_tag v t g Γ ok = stands_here (4 ∷ (identifier_bytes w v ++ type_bytes w t)) (list_bytes w Γ) (6 + (w + w)) (rw (length-append (identifier_bytes w v) (type_bytes w t), identifier-length w v, type-length w t) (omega arith)) ok.1.1.0 (ap (λ z. 4 ∷ z) (sym (append_assoc (identifier_bytes w v) (type_bytes w t) (identifier_bytes w g ++ list_bytes w Γ))))
+  let_tag v t g Γ ok =
+      stands_here (4 ∷ (identifier_bytes w v ++ type_bytes w t)) (list_bytes w Γ) (6 + (w + w))
+      (rw (length-append (identifier_bytes w v) (type_bytes w t), identifier-length w v, type-length w t) (omega arith)) ok.1.1.0
+      (ap (λ z. 4 ∷ z) (sym (append_assoc (identifier_bytes w v) (type_bytes w t) (identifier_bytes w g ++ list_bytes w Γ))))
 
   pub switch-var : (v : Identifier) (t : Ty) (n : ℕ) → RecordOk w (switch v t n) → Stands (identifier_bytes w) (IdentifierOk w) (record_bytes w (switch v t n)) 1 v
   unfolding record_bytes RecordOk
@@ -69,7 +72,10 @@ module _ (w : ℕ) where
 
   pub invoke-ty : (v g : Identifier) (t : Ty) (Γ : Context) → RecordOk w (invoke v g t Γ) → Stands (type_bytes w) (TypeOk w) (record_bytes w (invoke v g t Γ)) (5 + (w + w)) t
   unfolding record_bytes RecordOk
-  invoke-ty v g t Γ ok = stands_here (7 ∷ (identifier_bytes w v ++ identifier_bytes w g)) (list_bytes w Γ) (5 + (w + w)) (rw (length-append (identifier_bytes w v) (identifier_bytes w g), identifier-length w v, identifier-length w g) (omega arith)) ok.1.1.0 (ap (λ z. 7 ∷ z) (sym (append_assoc (identifier_bytes w v) (identifier_bytes w g) (type_bytes w t ++ list_bytes w Γ))))
+  invoke-ty v g t Γ ok =
+      stands_here (7 ∷ (identifier_bytes w v ++ identifier_bytes w g)) (list_bytes w Γ) (5 + (w + w))
+      (rw (length-append (identifier_bytes w v) (identifier_bytes w g), identifier-length w v, identifier-length w g) (omega arith)) ok.1.1.0
+      (ap (λ z. 7 ∷ z) (sym (append_assoc (identifier_bytes w v) (identifier_bytes w g) (type_bytes w t ++ list_bytes w Γ))))
 
   pub literal-integer : (z : ℤ) (v : Identifier) → RecordOk w (literal z v) → Stands (integer_bytes) (SFits w64) (record_bytes w (literal z v)) 1 z
   unfolding record_bytes RecordOk
@@ -89,11 +95,18 @@ module _ (w : ℕ) where
 
   pub op-snd : (f : Identifier) (o : BinOp) (s v : Identifier) → RecordOk w (op f o s v) → Stands (identifier_bytes w) (IdentifierOk w) (record_bytes w (op f o s v)) (4 + w) s
   unfolding record_bytes RecordOk
-  op-snd f o s v ok = stands_here (9 ∷ (identifier_bytes w f ++ (operator_code_lem o ∷ []))) (identifier_bytes w v) (4 + w) (rw (length-append (identifier_bytes w f) (operator_code_lem o ∷ []), identifier-length w f) (omega arith)) ok.1.1.0 (ap (λ z. 9 ∷ z) (sym (append_assoc (identifier_bytes w f) (operator_code_lem o ∷ []) (identifier_bytes w s ++ identifier_bytes w v))))
+  op-snd f o s v ok =
+      stands_here (9 ∷ (identifier_bytes w f ++ (operator_code_lem o ∷ []))) (identifier_bytes w v) (4 + w)
+      (rw (length-append (identifier_bytes w f) (operator_code_lem o ∷ []), identifier-length w f) (omega arith)) ok.1.1.0
+      (ap (λ z. 9 ∷ z) (sym (append_assoc (identifier_bytes w f) (operator_code_lem o ∷ []) (identifier_bytes w s ++ identifier_bytes w v))))
 
   pub op-var : (f : Identifier) (o : BinOp) (s v : Identifier) → RecordOk w (op f o s v) → Stands (identifier_bytes w) (IdentifierOk w) (record_bytes w (op f o s v)) (6 + (w + w)) v
   unfolding record_bytes RecordOk
-  op-var f o s v ok = stands_here (9 ∷ (identifier_bytes w f ++ (operator_code_lem o ∷ identifier_bytes w s))) ([]) (6 + (w + w)) (rw (length-append (identifier_bytes w f) (operator_code_lem o ∷ identifier_bytes w s), identifier-length w f, identifier-length w s) (omega arith)) ok.1.1.1 (ap (λ z. 9 ∷ z) (sym (append_assoc (identifier_bytes w f) (operator_code_lem o ∷ identifier_bytes w s) (identifier_bytes w v ++ []) ∙ ap (λ l. identifier_bytes w f ++ (operator_code_lem o ∷ (identifier_bytes w s ++ l))) (append-nil (identifier_bytes w v)))))
+  op-var f o s v ok =
+      stands_here (9 ∷ (identifier_bytes w f ++ (operator_code_lem o ∷ identifier_bytes w s))) ([]) (6 + (w + w))
+      (rw (length-append (identifier_bytes w f) (operator_code_lem o ∷ identifier_bytes w s), identifier-length w f, identifier-length w s) (omega arith)) ok.1.1.1
+      (ap (λ z. 9 ∷ z) (sym (append_assoc (identifier_bytes w f) (operator_code_lem o ∷ identifier_bytes w s) (identifier_bytes w v ++ [])
+      ∙ ap (λ l. identifier_bytes w f ++ (operator_code_lem o ∷ (identifier_bytes w s ++ l))) (append-nil (identifier_bytes w v)))))
 
   pub ifc-code : (c : IfSort) (f : Identifier) (s : Option Identifier) → RecordOk w (ifc c f s) → Stands (byte_of) (λ _. Unit {0}) (record_bytes w (ifc c f s)) 1 (sort_code_lem c)
   unfolding record_bytes RecordOk
@@ -106,11 +119,3 @@ module _ (w : ℕ) where
   pub print-code : (n : Bool) (v : Identifier) → RecordOk w (print n v) → Stands (byte_of) (λ _. Unit {0}) (record_bytes w (print n v)) 1 (newline_code_lem n)
   unfolding record_bytes RecordOk
   print-code n v ok = stands_here (12 ∷ []) (identifier_bytes w v) 1 refl ok.0 refl
-
-  pub print-var : (n : Bool) (v : Identifier) → RecordOk w (print n v) → Stands (identifier_bytes w) (IdentifierOk w) (record_bytes w (print n v)) 2 v
-  unfolding record_bytes RecordOk
-  print-var n v ok = stands_here (12 ∷ newline_code_lem n ∷ []) ([]) 2 refl ok.1 (ap (λ l. 12 ∷ newline_code_lem n ∷ l) (sym (append-nil (identifier_bytes w v))))
-
-  pub exit-var : (v : Identifier) → RecordOk w (exit v) → Stands (identifier_bytes w) (IdentifierOk w) (record_bytes w (exit v)) 1 v
-  unfolding record_bytes RecordOk
-  exit-var v ok = stands_here (13 ∷ []) ([]) 1 refl ok (ap (λ l. 13 ∷ l) (sym (append-nil (identifier_bytes w v))))

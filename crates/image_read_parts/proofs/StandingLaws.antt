@@ -19,13 +19,12 @@ use Rattle.syntax.specs.declared.names.Identifier.{Identifier}
 use Rattle.syntax.specs.declared.types.Ty.{Ty}
 use Rattle.syntax.specs.declared.types.Ty.TheVariants.{I64, Decl}
 use Rattle.syntax.specs.declared.context.Chirality.{Chirality}
-use Rattle.syntax.specs.declared.context.Chirality.TheVariants.{Prd, Cns, Ext}
 use Rattle.image_spec.specs.Parse.{got, number, field, numbered}
 use Rattle.image_spec.specs.Fields.{newlines, chirality_code_lem, identifier_bytes, type_bytes, binding_bytes, IdentifierOk, TypeOk, BindingOk}
 use Rattle.image_spec.specs.Records.{Record, record_bytes, RecordOk}
 use Rattle.image_spec.specs.Kinds.{kind_of}
 use Rattle.image_spec.proofs.ParseLaws.{number_exact}
-use Rattle.image_spec.proofs.FieldLaws.{identifier-length}
+use Rattle.image_spec.proofs.FieldLaws.{chirality-back, identifier-length}
 use Rattle.image_spec.proofs.KindLaws.{kind-first, record_nonempty}
 use Rattle.image_directory.specs.Slots.{records_in}
 use Rattle.image_directory.specs.declared.Frame.{Frame}
@@ -110,15 +109,10 @@ module _ (w : ℕ) {s : List ℕ} {at : ℕ} where
         let n : at + (2 + w) + 1 ≡ at + (3 + w) = omega arith in
         let h₃ : drop (at + (3 + w)) s ≡ y ++ h.others = ap (λ z. drop z s) (sym n) ∙ second_run s h.others (at + (2 + w)) k y 1 refl h₂ in
         let e₁ : x ≡ b.var = p.is b.var (record { others = k ++ y ++ h.others; bytes = first_run s h.others at i (k ++ y) h.bytes; fits = h.fits.0 }) in
-        let e₂ : c ≡ b.chi = q.is b.chi (ap (numbered chiralities) (byte-run s _ (at + (2 + w)) _ h₂) ∙ code-back b.chi) in
+        let e₂ : c ≡ b.chi = q.is b.chi (ap (numbered chiralities) (byte-run s _ (at + (2 + w)) _ h₂) ∙ chirality-back b.chi) in
         let e₃ : t ≡ b.ty = r.is b.ty (record { others = h.others; bytes = h₃; fits = h.fits.1.1 }) in
         λ j. record { var = e₁ j; chi = e₂ j; ty = e₃ j };
   }
-    where
-      code-back : (c : Chirality) → numbered chiralities (chirality_code_lem c) ≡ some c
-      code-back Prd = refl
-      code-back Cns = refl
-      code-back Ext = refl
 
 -- ---- parts of records
 

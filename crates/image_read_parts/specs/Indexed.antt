@@ -19,6 +19,6 @@ pub record At (g : Frame) (s : List ℕ) (i k : ℕ) : Type 0 where
 abbrev pub record_of : Image → ℕ → Record
 record_of m = record_at m.frame m.bytes.now
 
--- (Asked only of the place that a state's header names; elsewhere a `RecordAt` carries it.)
+-- (Asked of no function: a `RecordAt` carries it.)
 abbrev pub IsAt : Image → (i k : ℕ) → Type 0
 IsAt m = At m.frame m.bytes.now

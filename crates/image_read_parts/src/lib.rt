@@ -11,34 +11,33 @@ ghost use Rattle.image_spec.specs.Records.{record_bytes, RecordOk};
 ghost use Rattle.image_read_parts.specs.Standing.{Stands, ReadsAs, IsCode, Room, RoomIn};
 ghost use Rattle.image_read_parts.specs.Indexed.{record_of};
 
-use image_directory::image::Image;
-use image_directory::read_slot;
+use image_directory::image::{Image, slot_of};
+use image_fields::fields::Fields;
 use image_fields::number;
-use image_integers::from_bits;
 use syntax::context::{Chirality, ContextBinding};
 use syntax::names::{Identifier, Name, VarId};
 use syntax::types::Ty;
 
 // An identifier.
-// `image` and `at`, here, below and in pass_records: one image, and the places of many parts in it, which a record's kind tells.
-pub fn identifier_at(image: &Image<'_>, at: usize) -> Identifier
-    requires { Room image.now.frame.id at (2 + image.now.frame.id) image.now.bytes.now }
-    ensures { ReadsAs (identifier_bytes image.now.frame.id) (IdentifierOk image.now.frame.id) image.now.bytes.now at result }
+// (`fields` and `at`, here, below and in pass_records: bytes, and the places of many parts in them, which a record's kind tells.)
+pub fn identifier_at(fields: &Fields<'_>, at: usize) -> Identifier
+    requires { Room fields.now.id at (2 + fields.now.id) fields.now.bytes.now }
+    ensures { ReadsAs (identifier_bytes fields.now.id) (IdentifierOk fields.now.id) fields.now.bytes.now at result }
 {
     Identifier {
-        name: Name(number(image.bytes, at, 2) as u16),
-        id: VarId(number(image.bytes, at + 2, image.frame.id)),
+        name: Name(number(fields.bytes, at, 2) as u16),
+        id: VarId(number(fields.bytes, at + 2, fields.id)),
     }
 }
 
-pub fn type_at(image: &Image<'_>, at: usize) -> Ty
-    requires { Room image.now.frame.id at (3 + image.now.frame.id) image.now.bytes.now }
-    ensures { ReadsAs (type_bytes image.now.frame.id) (TypeOk image.now.frame.id) image.now.bytes.now at result }
+pub fn type_at(fields: &Fields<'_>, at: usize) -> Ty
+    requires { Room fields.now.id at (3 + fields.now.id) fields.now.bytes.now }
+    ensures { ReadsAs (type_bytes fields.now.id) (TypeOk fields.now.id) fields.now.bytes.now at result }
 {
-    if image.bytes[at] == 0 {
+    if fields.bytes[at] == 0 {
         return Ty::I64;
     }
-    let x = identifier_at(image, at + 1);
+    let x = identifier_at(fields, at + 1);
     Ty::Decl(x)
 }
 
@@ -50,38 +49,34 @@ pub fn newline_of(b: u8) -> bool
 }
 
 // (That the chirality's byte is a code is not asked of a caller.)
-pub fn binding_at(image: &Image<'_>, at: usize) -> ContextBinding
-    requires { Room image.now.frame.id at (6 + (image.now.frame.id + image.now.frame.id)) image.now.bytes.now }
-    ensures { ReadsAs (binding_bytes image.now.frame.id) (BindingOk image.now.frame.id) image.now.bytes.now at result }
+pub fn binding_at(fields: &Fields<'_>, at: usize) -> ContextBinding
+    requires { Room fields.now.id at (6 + (fields.now.id + fields.now.id)) fields.now.bytes.now }
+    ensures { ReadsAs (binding_bytes fields.now.id) (BindingOk fields.now.id) fields.now.bytes.now at result }
 {
-    let w = image.frame.id;
-    let var = identifier_at(image, at);
-    let chi = Chirality::try_from(image.bytes[at + (2 + w)]).unwrap_or(Chirality::Ext);
-    let ty = type_at(image, at + (3 + w));
+    let w = fields.id;
+    let var = identifier_at(fields, at);
+    let chi = Chirality::try_from(fields.bytes[at + (2 + w)]).unwrap_or(Chirality::Ext);
+    let ty = type_at(fields, at + (3 + w));
     ContextBinding { var, chi, ty }
 }
 
 // A signed number of eight bytes.
-// (Of bytes and not of an image: no ID is read, so nothing of a frame is asked.)
+// (Of bytes alone: no ID is read, so no width is asked.)
 pub fn integer_at(image: &[u8], at: usize) -> i64
     requires { at + 8 ≤ length image.now }
     ensures { ReadsAs integer_bytes (SFits w64) image.now at result }
 {
-    let low = number(image, at, 4);
-    let high = number(image, at + 4, 4);
-    from_bits(u64::from(low) + 4294967296 * u64::from(high))
+    let bytes = image[at..at + 8].as_array().unwrap();
+    i64::from_le_bytes(*bytes)
 }
 
 // Where the bytes of the record at index i begin.
-// (`image` and `i`, here and below: nothing is asked of the kind, and a `RecordAt` would ask a caller for it.)
+// (`image` and `i`, here and below: who has only an index may ask; a `RecordAt` would ask a caller for the kind.)
 pub fn offset(image: &Image<'_>, i: usize) -> usize
     requires { i < image.now.frame.count }
     ensures { Stands (record_bytes image.now.frame.id) (RecordOk image.now.frame.id) image.now.bytes.now result (record_of image.now i) }
 {
-    let place = image.frame.place;
-    read_slot(image.bytes, place, image.frame.from + i * (place + place))
-        .unwrap()
-        .offset
+    slot_of(image, i).offset
 }
 
 // The byte at a place of the record at index i: a code, a mark or a count.
@@ -97,5 +92,5 @@ pub fn identifier(image: &Image<'_>, i: usize, at: usize) -> Identifier
     requires { (i < image.now.frame.count) × RoomIn image.now.frame i at (2 + image.now.frame.id) image.now.bytes.now }
     ensures { ReadsAs (identifier_bytes image.now.frame.id) (IdentifierOk image.now.frame.id) (record_bytes image.now.frame.id (record_of image.now i)) at result }
 {
-    identifier_at(image, offset(image, i) + at)
+    identifier_at(&image.fields(), offset(image, i) + at)
 }

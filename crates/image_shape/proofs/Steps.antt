@@ -76,7 +76,9 @@ module _ (d : ℕ) (p : Parser Record Stmt) (x : Exact flatten (Depth d) p) (rs 
   after i (invoke v o2 ty bs) h l a b = at_record {B = ℕ} (step p) (λ m. got 0 m) rs i (invoke v o2 ty bs) h l (λ n m. refl) ∙ (stop_none {A = ℕ} 0 rs (i + 1) h ∙ (sym (no-clauses (i + 1) h) ∙ sym (no-bodies-after 0 (i + 1))))
   after i (literal q v) h l a b = at_record (step p) p rs i (literal q v) h l (λ n m. found-via _ n (p m)) ∙ (sym (one-body (i + 1)) ∙ ap (option_and_then (past-bodies 1)) (sym (no-clauses (i + 1) h)))
   after i (op o3 o1 o2 v) h l a b = at_record (step p) p rs i (op o3 o1 o2 v) h l (λ n m. found-via _ n (p m)) ∙ (sym (one-body (i + 1)) ∙ ap (option_and_then (past-bodies 1)) (sym (no-clauses (i + 1) h)))
-  after i (ifc u o3 o2) h l a b = at_record (step p) (both p p) rs i (ifc u o3 o2) h l (λ n m. found-via _ n (both p p m)) ∙ (stop-both p x rs (i + 1) ∙ (sym (two-bodies (i + 1)) ∙ ap (option_and_then (past-bodies 2)) (sym (no-clauses (i + 1) h))))
+  after i (ifc u o3 o2) h l a b =
+      at_record (step p) (both p p) rs i (ifc u o3 o2) h l (λ n m. found-via _ n (both p p m))
+      ∙ (stop-both p x rs (i + 1) ∙ (sym (two-bodies (i + 1)) ∙ ap (option_and_then (past-bodies 2)) (sym (no-clauses (i + 1) h))))
   after i (clause' x bs) h l a b = absurd (b refl)
   after i (print q v) h l a b = at_record (step p) p rs i (print q v) h l (λ n m. found-via _ n (p m)) ∙ (sym (one-body (i + 1)) ∙ ap (option_and_then (past-bodies 1)) (sym (no-clauses (i + 1) h)))
   after i (exit v) h l a b = at_record {B = ℕ} (step p) (λ m. got 0 m) rs i (exit v) h l (λ n m. refl) ∙ (stop_none {A = ℕ} 0 rs (i + 1) h ∙ (sym (no-clauses (i + 1) h) ∙ sym (no-bodies-after 0 (i + 1))))

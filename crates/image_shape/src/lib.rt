@@ -10,12 +10,12 @@ ghost use Rattle.image_shape.specs.Nodes.{node_of, IsHead, head_parser, parts_at
 ghost use Rattle.image_directory.specs.Images.{records_of};
 ghost use Rattle.image_kinds.specs.Codes.{code_of};
 
-use image_directory::image::Image;
-use image_directory::read_slot;
+use image_directory::image::{Image, slot_of};
 use image_kinds::kinds::Kind;
 use image_spec::Layout;
 
-// A record as the walk sees it.
+// A record as the walk sees it: its kind, and the count of its clauses as a byte of the image has it. (A value of its own beside `Parts`: it is of any
+// record. `Parts` is of a statement, with the counts that the walk goes on by, and `Follows`, of a crate above, is of a record that surely is there.)
 #[derive(Clone, Copy, PartialEq, Eq)]
 pub struct Node {
     pub kind: Kind,
@@ -30,9 +30,9 @@ pub fn look(image: &Image<'_>, i: usize) -> Option<Node>
     if image.frame.count <= i {
         return None;
     }
-    let place = image.frame.place;
-    let slot = read_slot(image.bytes, place, image.frame.from + i * (place + place))?;
+    let slot = slot_of(image, i);
     let kind = Kind::try_from(image.bytes[slot.offset]).unwrap();
+    // `_`: the kinds without clauses, of which eleven names would say no more.
     let clauses = match kind {
         Kind::Switch | Kind::Create => image.bytes[slot.offset + slot.size - 1],
         _ => 0,
@@ -40,16 +40,12 @@ pub fn look(image: &Image<'_>, i: usize) -> Option<Node>
     Some(Node { kind, clauses })
 }
 
-// Past the record of a definition, or of a clause.
+// Past the record of a definition, or of a clause. (`wanted` is a value to compare with, and chooses no code.)
 fn head(image: &Image<'_>, wanted: Kind, at: usize) -> Option<usize>
     requires { IsHead (code_of wanted) }
     ensures { result ≡ stop (head_parser (code_of wanted)) (records_of image.now) at }
 {
-    if look(image, at)?.kind == wanted {
-        Some(at + 1)
-    } else {
-        None
-    }
+    (look(image, at)?.kind == wanted).then_some(at + 1)
 }
 
 // What follows the record of a statement: clauses, then bodies, from place `next` on.
@@ -64,6 +60,7 @@ fn statement_parts(image: &Image<'_>, at: usize) -> Option<Parts>
     ensures { result ≡ parts_at (records_of image.now) at }
 {
     let node = look(image, at)?;
+    // `_`: each kind of a statement, and `bodies` tells them apart.
     match node.kind {
         Kind::Definition | Kind::Clause => None,
         _ => Some(Parts {
@@ -88,7 +85,8 @@ pub fn statement(image: &Image<'_>, depth: usize, at: usize) -> Option<usize>
     skip_bodies(image, depth - 1, parts.bodies, bodies)
 }
 
-// Past n statements, of depth at most `depth` each.
+// Past n statements, of depth at most `depth` each. (Three functions for bodies, clauses and definitions: what each item is would be a parameter,
+// by an enum that is only there for it, and only two of the three are in the cycle in which the depth falls.)
 // (`depth`, `n` and `at`, here and below: the bound is the walk's, n comes from the record above, and n of them may take more records.)
 #[cycle(skip_bodies_skip_clauses_statement)]
 fn skip_bodies(image: &Image<'_>, depth: usize, n: usize, at: usize) -> Option<usize>

@@ -11,6 +11,8 @@ use borrow.Author.Tests.{eq-eqb, eqb-true}
 use lib.Dec.{eqb}
 use lib.ListN.{length, take, drop, length-append, length-drop, take-append-drop}
 use lib.Seq.{take-append_seam, drop-append_seam, length-take-le, drop_at, drop-drop}
+use Rattle.std.proofs.lemmas.List.{nil_from_length}
+use Rattle.syntax.proofs.Bools.{both_true}
 use Rattle.image_spec.specs.declared.Layout.{Layout}
 use Rattle.image_spec.specs.Parse.{Parsed, each, All}
 use Rattle.image_spec.specs.Layout.{header_size, body_at}
@@ -21,12 +23,10 @@ use Rattle.image_spec.proofs.FieldLaws.{field-length}
 use Rattle.image_spec.proofs.RecordLaws.{record_exact}
 
 pub and_left : (a b : Bool) → a && b ≡ true → a ≡ true
-and_left true b h = refl
-and_left false b h = h
+and_left a b h = (both_true a b h).0
 
 pub and_right : (a b : Bool) → a && b ≡ true → b ≡ true
-and_right true b h = h
-and_right false b h = let z : ◌≡◌ {A = ℕ} 0 1 = cc in absurd (omega arith)
+and_right a b h = (both_true a b h).1
 
 -- the value that is there
 pub there : {A : Type 0} (o : Option A) → is_some o ≡ true → (a : A) × (o ≡ some a)
@@ -52,10 +52,6 @@ pub tiles_le : (es : List Entry) (at end : ℕ) → tiles at es end ≡ true →
 tiles_le [] at end h = omega (arith, eqb-true at end h)
 tiles_le (e ∷ es) at end h = omega (arith, tiles_le es (at + e.1) end (and_right (eqb e.0 at) _ h))
 
-empty : (l : List ℕ) → length l ≡ 0 → l ≡ []
-empty [] h = refl
-empty (b ∷ l) h = absurd (omega arith)
-
 module _ (L : Layout) where
   pub entries_of-length : (rs : List Record) (at : ℕ) → length (entries_of L at rs) ≡ length rs
   entries_of-length [] at = refl
@@ -78,7 +74,7 @@ module _ (L : Layout) where
 
   cut : (es : List Entry) (at end : ℕ) (l : List ℕ) → tiles at es end ≡ true → at + length l ≡ end → Cut at es l (records_at L.id es l)
   unfolding records_at decode_record
-  cut [] at end l h s = all-cut tt (empty l (omega (arith, eqb-true at end h))) refl
+  cut [] at end l h s = all-cut tt (nil_from_length l (omega (arith, eqb-true at end h))) refl
   cut (e ∷ es) at end l h s =
       let a : e.0 ≡ at = eqb-true e.0 at (and_left _ _ h) in
       let t : tiles (at + e.1) es end ≡ true = and_right (eqb e.0 at) _ h in

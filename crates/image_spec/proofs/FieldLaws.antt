@@ -20,19 +20,20 @@ use Rattle.syntax.specs.declared.ifc.IfSort.{IfSort}
 use Rattle.syntax.specs.declared.ifc.IfSort.TheVariants.{Equal, NotEqual, Less, LessOrEqual, Greater, GreaterOrEqual}
 use mathlib.Core.Option.{some}
 use Rattle.image_spec.specs.Parse.{got, field, numbered, one_of}
-use Rattle.image_spec.specs.Fields.{max_count, chirality_code_lem, operator_code_lem, sort_code_lem, newlines, newline_code_lem, integer_bytes, integer, identifier_bytes, type_bytes, binding_bytes, list_bytes, pair_bytes, IdentifierOk, TypeOk, BindingOk, ListOk, PairOk, identifier, type, binding, list, pair}
+use Rattle.image_spec.specs.Fields.{max_count, chirality_code_lem, operator_code_lem, sort_code_lem, newlines, newline_code_lem, integer_bytes, identifier_bytes, type_bytes, binding_bytes, list_bytes, pair_bytes}
+use Rattle.image_spec.specs.Fields.{IdentifierOk, TypeOk, BindingOk, ListOk, PairOk, integer, identifier, type, binding, list, pair}
 use Rattle.syntax.specs.Codes.{chiralities, operators, sorts}
 use Rattle.image_spec.proofs.ParseLaws.{Sound, none_read, one-read, Exact, following, both_exact, via_exact, number_exact, zeros_exact, one_of_exact, counted_exact}
 
 -- ---- codes
 
+pub chirality-back : (c : Chirality) → numbered chiralities (chirality_code_lem c) ≡ some c
+chirality-back Prd = refl
+chirality-back Cns = refl
+chirality-back Ext = refl
+
 pub chirality_exact : Exact (λ c. chirality_code_lem c ∷ []) (λ _. Unit {0}) (one_of chiralities)
-chirality_exact = one_of_exact chirality_code_lem chiralities (refl, (refl, (refl, tt))) back
-  where
-    back : (c : Chirality) → numbered chiralities (chirality_code_lem c) ≡ some c
-    back Prd = refl
-    back Cns = refl
-    back Ext = refl
+chirality_exact = one_of_exact chirality_code_lem chiralities (refl, (refl, (refl, tt))) chirality-back
 
 pub operator_exact : Exact (λ o. operator_code_lem o ∷ []) (λ _. Unit {0}) (one_of operators)
 operator_exact = one_of_exact operator_code_lem operators (refl, (refl, (refl, (refl, (refl, tt))))) back
@@ -121,3 +122,6 @@ module _ (w : ℕ) where
   pub binding-length : (b : ContextBinding) → length (binding_bytes w b) ≡ 6 + (w + w)
   binding-length b =
       simp (length-append, type-length, field-length) (omega arith)
+
+  pub pair-length : (p : ContextBinding × Identifier) → length (pair_bytes w p) ≡ 8 + (w + (w + w))
+  pair-length p = omega (arith, length-append (binding_bytes w p.0) (identifier_bytes w p.1), binding-length p.0, identifier-length p.1)

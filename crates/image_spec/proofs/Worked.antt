@@ -58,9 +58,11 @@ unfolding image flatten_defs flatten record_bytes
 linearized-written = refl
 
 pub source-read : reading layout1 source-bytes ≡ accept source
-unfolding reading question1 question2 question3 question4 question5 program_of definitions_of records_of records_at tiled_from records_from decode_record one_record content contents identifier type binding pair list integer definitions one_def stmt step clauses
+unfolding reading question1 question2 question3 question4 question5 program_of definitions_of records_of records_at tiled_from records_from
+    decode_record one_record content contents identifier type binding pair list integer definitions one_def stmt step clauses
 source-read = refl
 
 pub linearized-read : reading layout1 linearized-bytes ≡ accept linearized
-unfolding reading question1 question2 question3 question4 question5 program_of definitions_of records_of records_at tiled_from records_from decode_record one_record content contents identifier type binding pair list integer definitions one_def stmt step clauses
+unfolding reading question1 question2 question3 question4 question5 program_of definitions_of records_of records_at tiled_from records_from
+    decode_record one_record content contents identifier type binding pair list integer definitions one_def stmt step clauses
 linearized-read = refl

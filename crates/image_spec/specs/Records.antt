@@ -11,7 +11,8 @@ use Rattle.syntax.specs.declared.context.ContextBinding.{ContextBinding}
 use Rattle.syntax.specs.declared.op.BinOp.{BinOp}
 use Rattle.syntax.specs.declared.ifc.IfSort.{IfSort}
 use Rattle.image_spec.specs.Parse.{refused, Parser, via, both, each, All, code, one_of, counted, marked, mark, Marked, whole}
-use Rattle.image_spec.specs.Fields.{max_count, operator_code_lem, sort_code_lem, newlines, newline_code_lem, integer_bytes, integer, identifier_bytes, type_bytes, list_bytes, pair_bytes, IdentifierOk, TypeOk, ListOk, PairOk, identifier, type, list, pair}
+use Rattle.image_spec.specs.Fields.{max_count, operator_code_lem, sort_code_lem, newlines, newline_code_lem, integer_bytes, identifier_bytes, type_bytes, list_bytes, pair_bytes}
+use Rattle.image_spec.specs.Fields.{IdentifierOk, TypeOk, ListOk, PairOk, integer, identifier, type, list, pair}
 use Rattle.syntax.specs.Codes.{operators, sorts}
 
 -- a record without what follows it: a Switch or a Create has the number of its clauses

@@ -1,8 +1,8 @@
 // The image of a program: its layout, and the answers to a call. The format itself is defined in specs/.
 #![tactic(auto)]
 
-ghost use Rattle.std.specs.Prelude.{◌≡◌};
-ghost use Rattle.image_spec.specs.Layout.{layout1};
+ghost use Rattle.std.specs.Prelude.{◌≡◌, ◌≤◌, ◌<◌};
+ghost use Rattle.image_spec.specs.Layout.{layout1, header_size, body_at};
 ghost use Rattle.image_spec.specs.Answers.{number_of};
 
 // What the fields of an image measure.
@@ -43,46 +43,48 @@ impl Layout {
             largest: 65535,
         }
     }
+
+    // Where the directory of an image begins: behind layout number, definitions, max_id and records.
+    pub fn directory_at(self) -> usize
+        requires { (self.id ≤ 4) × (self.place ≤ 4) }
+        ensures { result ≡ header_size self }
+    {
+        2 + (2 + (self.id + self.place))
+    }
+
+    // Where the records of an image of n records begin: behind its directory, of a pair for each.
+    pub fn records_at(self, n: usize) -> usize
+        requires { (self.id ≤ 4) × ((self.place ≤ 4) × (n < 65536)) }
+        ensures { result ≡ body_at self n }
+    {
+        self.directory_at() + n * (self.place + self.place)
+    }
 }
 
-// The first question that is answered no, in document 01's order.
+// The first question that is answered no, in document 01's order, with the number for no.
 #[derive(Clone, Copy, PartialEq, Eq, Debug)]
 pub enum Refusal {
-    Size,
-    LayoutNumber,
-    Directory,
-    RecordForm,
-    Shape,
-    Linearized,
-    Limits,
-    Binders,
-    Scope,
-    MaxId,
-    Draws,
-    Room,
-    Place,
+    Size = 1,
+    LayoutNumber = 2,
+    Directory = 3,
+    RecordForm = 4,
+    Shape = 5,
+    Linearized = 6,
+    Limits = 7,
+    Binders = 8,
+    Scope = 9,
+    MaxId = 10,
+    Draws = 11,
+    Room = 12,
+    Place = 13,
 }
 
 impl Refusal {
-    // The number for no.
+    // The number for no. (No `From`: `u32::from(question)` would not say which number it is.)
     pub fn number(self) -> u32
         ensures { result ≡ number_of self }
     {
-        match self {
-            Refusal::Size => 1,
-            Refusal::LayoutNumber => 2,
-            Refusal::Directory => 3,
-            Refusal::RecordForm => 4,
-            Refusal::Shape => 5,
-            Refusal::Linearized => 6,
-            Refusal::Limits => 7,
-            Refusal::Binders => 8,
-            Refusal::Scope => 9,
-            Refusal::MaxId => 10,
-            Refusal::Draws => 11,
-            Refusal::Room => 12,
-            Refusal::Place => 13,
-        }
+        self as u32
     }
 }
 

@@ -9,7 +9,8 @@ use lib.Seq.{sets, sets-eq, length-sets, length-take-le}
 use borrow.Rule.Slice.PartMut.{put_mid, Post-is}
 use Rattle.std.proofs.lemmas.Bool.{cases_lt}
 use Rattle.std.specs.List.{copy_within}
-use Rattle.image_write_parts.proofs.Putting.{set_past, sets_append}
+use Rattle.std.proofs.lemmas.List.{set_past}
+use Rattle.image_write_parts.proofs.Putting.{sets_append}
 
 -- the bytes from a place on, as many as n
 abbrev pub part_of : List ℕ → ℕ → ℕ → List ℕ

@@ -24,7 +24,7 @@ pub fn move_up(out: &mut [u8], from: usize, n: usize, by: usize)
     out.copy_within(from..from + n, from + by);
 }
 
-// Sets every byte to zero.
+// Sets every byte to zero. (The library's `fill`, here and above its `copy_within`, under a contract in the words by which the callers' proofs go.)
 pub fn clear(out: &mut [u8])
     ensures { out.new ≡ replicate (length out.old) 0 }
 {

@@ -1,11 +1,10 @@
 -- The directory as the loop writes it: what is still to come, and how it becomes the whole. Assumes nothing.
 use Prim.Native.Nat.{ℕ, ◌+◌, ◌-◌, ◌*◌, ◌≤◌, ◌<◌, ◌^◌}
 use mathlib.Core.Path.{◌≡◌, sym, ap}
-use mathlib.Core.List.{List, ◌∷◌}
+use mathlib.Core.List.{List}
 use native.Mathlib.Omega.{arith}
-use native.Mathlib.Numerals.{add-one}
 use lib.ListN.{length, drop, get_or, drop_of_length-le}
-use lib.Seq.{drop-cons}
+use Rattle.std.proofs.lemmas.List.{drop_more}
 use Rattle.image_spec.specs.Parse.{each, field}
 use Rattle.image_spec.specs.Image.{entry_bytes}
 use Rattle.image_write_parts.specs.Puts.{Puts}
@@ -22,17 +21,14 @@ pub directory_begins : (w : ℕ) (sizes : List ℕ) (out : List ℕ) (at start :
 directory_begins w sizes out at start h k = record { fits = h; far = omega arith; ends = λ o m p. p }
 
 module _ {w : ℕ} {sizes : List ℕ} {out₀ : List ℕ} {at start : ℕ} {out : List ℕ} {place here i : ℕ} (d : DirectoryLeft w sizes out₀ at start out place here i) where
-  next-size : i < length sizes → drop i sizes ≡ get_or sizes i 0 ∷ drop (i + 1) sizes
-  next-size h = rw add-one (drop-cons sizes i 0 h)
-
   pub directory_next : {mid out' : List ℕ} {next here' : ℕ} → i < length sizes → w ≤ 8
       → length (field w place) ≡ w → length (field w (get_or sizes i 0)) ≡ w → Puts out mid here next (field w place) → Puts mid out' next here' (field w (get_or sizes i 0))
       → DirectoryLeft w sizes out₀ at start out' (place + get_or sizes i 0) here' (i + 1)
   directory_next h v f g p q =
       record {
-        fits = omega (arith, d.fits, ap total (next-size h));
+        fits = omega (arith, d.fits, ap total (drop_more sizes i 0 h));
         far = omega (arith, d.far, p.ends, q.ends);
-        ends = λ o m r. d.ends o m (puts_as (ap (λ (z : List ℕ). each (entry_bytes w) (entries_from place z)) (sym (next-size h))) (puts_then (puts_then p q) r));
+        ends = λ o m r. d.ends o m (puts_as (ap (λ (z : List ℕ). each (entry_bytes w) (entries_from place z)) (sym (drop_more sizes i 0 h))) (puts_then (puts_then p q) r));
       }
 
   pub directory_ends : length sizes ≤ i → Puts out₀ out at here (each (entry_bytes w) (entries_from start sizes))

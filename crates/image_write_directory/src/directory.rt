@@ -25,7 +25,7 @@ pub fn put_header(
     writer.number(layout.place, records);
 }
 
-// Offset and length of each record, `width` bytes each; the first begins at `start`.
+// Offset and length of each record, `width` bytes each; the first begins at `start`. (`place` goes on: each begins where the one before ends.)
 pub fn put_directory(writer: &mut Writer<'_>, lengths: &[usize], width: usize, start: usize)
     requires { (width ≤ 8) × ((writer.old.at + 16 * length lengths.now < 2 ^ 64) × (start + total lengths.now < 2 ^ 32)) }
     ensures { Wrote writer.old writer.new (each (entry_bytes width) (entries_from start lengths.now)) }

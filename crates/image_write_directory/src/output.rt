@@ -5,6 +5,7 @@ ghost use Rattle.image_write_directory.specs.Outputs.{NotedIn};
 use image_write_parts::writer::Writer;
 
 // A writer, and beside it the length of each record, how many there are, and the max_id.
+// (A slice and a count: the slice is lent, and the count goes on past its end.)
 #[derive(Drop)]
 pub struct Output<'o, 'l> {
     pub writer: Writer<'o>,
@@ -20,6 +21,7 @@ pub fn note(output: &mut Output<'_, '_>, start: usize)
 {
     let count = output.count;
     let length = output.writer.at - start;
+    // (No `get_mut`: as at `put_byte`.)
     if count < output.lengths.len() {
         output.lengths[count] = length;
     }

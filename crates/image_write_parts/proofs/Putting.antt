@@ -15,12 +15,6 @@ pub sets_append : (xs l : List ℕ) (i : ℕ) (ys : List ℕ) → sets l i (xs +
 sets_append [] l i ys = rw add-zero
 sets_append (x ∷ xs) l i ys = rw (add-suc, ← suc-add) (sets_append xs (set l i x) (suc i) ys)
 
--- nothing is stored past the end
-pub set_past : (l : List ℕ) (i b : ℕ) → length l ≤ i → set l i b ≡ l
-set_past [] i b h = refl
-set_past (x ∷ l) zero b h = absurd (omega arith)
-set_past (x ∷ l) (suc i) b h = ap (λ z. x ∷ z) (set_past l i b (omega arith))
-
 pub puts_none : (l : List ℕ) (at : ℕ) → Puts l l at at []
 puts_none l at = record { holds = refl; ends = sym (add-zero at) }
 

@@ -5,7 +5,7 @@ use mathlib.Core.Path.{◌≡◌, refl, sym, ap, ◌∙◌}
 use native.Mathlib.Omega.{arith}
 use native.Mathlib.Nat.{mul-zero}
 use lib.ListN.{length, take, get_or}
-use Rattle.syntax.proofs.Lists.{take_next}
+use Rattle.std.proofs.lemmas.List.{take_more}
 use Rattle.image_spec.specs.Parse.{each}
 use Rattle.image_spec.proofs.ListLaws.{each_append}
 use Rattle.image_write_parts.specs.Puts.{Puts}
@@ -18,7 +18,7 @@ module _ {A : Type 0} (e : A → List ℕ) where
 
   each_next : (l : List A) (i : ℕ) (d : A) → i < length l → each e (take (i + 1) l) ≡ each e (take i l) ++ e (get_or l i d)
   each_next l i d h =
-      ap (each e) (take_next l i d h) ∙ (each_append e (take i l) (get_or l i d ∷ []) ∙ ap (λ z. each e (take i l) ++ z) (append-nil (e (get_or l i d))))
+      ap (each e) (take_more l i d h) ∙ (each_append e (take i l) (get_or l i d ∷ []) ∙ ap (λ z. each e (take i l) ++ z) (append-nil (e (get_or l i d))))
 
   -- the first i elements are written, and each took at most k bytes
   pub record Written (k : ℕ) (l : List A) (before : List ℕ) (at : ℕ) (after : List ℕ) (here i : ℕ) : Type 0 where
@@ -38,10 +38,6 @@ module _ {A : Type 0} (e : A → List ℕ) where
 -- a byte by itself
 abbrev pub alone : ℕ → List ℕ
 alone b = b ∷ []
-
-pub each-alone : (xs : List ℕ) → each alone xs ≡ xs
-each-alone [] = refl
-each-alone (x ∷ xs) = ap (λ z. x ∷ z) (each-alone xs)
 
 -- a count, then as many elements
 pub counted-put : {A : Type 0} (e : A → List ℕ) (xs : List A) {a b c : List ℕ} {at n k m : ℕ} → Puts a b at n (m ∷ []) → m ≡ length xs → Puts b c n k (each e xs)

@@ -12,8 +12,9 @@ use syntax::context::ContextBinding;
 use syntax::names::Identifier;
 use syntax::types::Ty;
 
-// A byte put at a place of a buffer. (This and what stores more take a buffer and a place, since the steppers write slots at places that they
-// work out. Each answers the place past its bytes.)
+// A byte put at a place of a buffer. (This and what stores more take a buffer and a place, since the steppers write headers and events at places
+// that they work out. Each answers the place past its bytes. No `get_mut`, here and where others leave out what is past an end: once its borrow is
+// over, a proof knows the length of a slice, and no element.)
 pub fn put_byte(out: &mut [u8], at: usize, b: u8) -> usize
     requires { at + 1 < 2 ^ 64 }
     ensures { Puts out.old out.new at result (b ∷ []) }
@@ -32,7 +33,8 @@ fn short(len: usize, at: usize, n: usize, w: usize) -> bool
     w == 2 && at <= len && n <= len - at
 }
 
-// The two bytes of n where there is room for them, the lowest first.
+// The two bytes of n where there is room for them, the lowest first. (Two stores: `to_le_bytes` is no shorter, since it would have the two lowest
+// bytes be made a `u16`, and then its array be copied to a range.)
 pub fn store_pair(out: &mut [u8], at: usize, n: u32) -> usize
     requires { at + 2 ≤ length out.old }
     ensures { Puts out.old out.new at result (field 2 n) }
@@ -42,7 +44,9 @@ pub fn store_pair(out: &mut [u8], at: usize, n: u32) -> usize
     at + 2
 }
 
-// (`out` and `at`, here and below: as `store_pair` takes them. Methods of a writer would need a second `store_pair` beside the steppers'.)
+// (This and the two below are what a writer's methods do, for IDs of two bytes and where there is room: room is tested once, and not at each byte. Measured:
+// docs/SPEED.md.)
+// (`out` and `at`: each goes on from the place that `store_pair` answers, and a writer's place is set once, at the end.)
 fn store_identifier(out: &mut [u8], at: usize, x: Identifier) -> usize
     requires { at + 4 ≤ length out.old }
     ensures { Puts out.old out.new at result (identifier_bytes 2 x) }
@@ -77,7 +81,7 @@ fn store_binding(out: &mut [u8], at: usize, b: ContextBinding) -> usize
     store_type(out, next + 1, b.ty)
 }
 
-// The byte that stands for whether a PrintI64 ends its line. (The library's `From`, under the name of what it is here.)
+// The byte that stands for whether a PrintI64 ends its line. (The library's `From`, under the name of what it is here: its contract is the definition's.)
 pub fn newline_code(newline: bool) -> u8
     ensures { result ≡ newline_code_lem newline }
 {

@@ -4,12 +4,13 @@ ghost use Rattle.image_spec.specs.Parse.{field};
 ghost use Rattle.image_spec.specs.Fields.{integer_bytes, identifier_bytes, type_bytes, binding_bytes};
 
 use crate::{put_byte, short, store_binding, store_identifier, store_pair, store_type};
-use image_integers::bits;
 use syntax::context::ContextBinding;
 use syntax::names::Identifier;
 use syntax::types::Ty;
 
 // What bytes are written in: a lent buffer, the place of the next byte in it, and how many bytes an ID has.
+// (That places have room below 2^64 is asked of each caller. No field can say it: the place goes on past the buffer, since question 12 asks how long
+// the whole answer is, so any bound on `at` that a field gave, as 2^63, a long enough writing would break.)
 #[derive(Drop)]
 pub struct Writer<'o> {
     pub out: &'o mut [u8],
@@ -37,6 +38,7 @@ impl<'o> Writer<'o> {
             self.at = store_pair(self.out, self.at, n);
             return;
         }
+        // (No bytes of `to_le_bytes`: a type's zeros are up to eleven bytes, and a u32 has four.)
         let mut rest = n;
         for _ in 0..width {
             self.byte((rest % 256) as u8);
@@ -49,9 +51,9 @@ impl<'o> Writer<'o> {
         requires { self.old.at + 8 < 2 ^ 64 }
         ensures { Wrote self.old self.new (integer_bytes z) }
     {
-        let n = bits(z);
-        self.number(4, (n % 4294967296) as u32);
-        self.number(4, (n / 4294967296) as u32);
+        for b in z.to_le_bytes() {
+            self.byte(b);
+        }
     }
 
     // A name and an ID.

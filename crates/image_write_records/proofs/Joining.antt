@@ -25,8 +25,8 @@ module _ (w : ℕ) where
   bindings-length (b ∷ Γ) h =
       omega (arith, length-append (binding_bytes w b) (each (binding_bytes w) Γ), binding-length w b, bindings-length Γ h, h)
 
-  pub list_length : (c : TypingContext) → w ≤ 8 → c.len ≤ 64 → length (list_bytes w (context_of c)) ≤ 1409
-  list_length c h k = omega (arith, bindings-length (context_of c) h, length-take c.len (bindings_in c), k)
+  pub list_length : (c : TypingContext) → w ≤ 8 → length (list_bytes w (context_of c)) ≤ 1409
+  list_length c h = omega (arith, bindings-length (context_of c) h, length-take c.len (bindings_in c), c.fits)
 
 -- what follows a kind and two parts
 pub then_others : {u v w : Writer} (k : ℕ) (xs ys : List ℕ) (f : ℕ → List ℕ) → Wrote u v (k ∷ (xs ++ ys)) → Wrote v w (f v.id)

@@ -8,11 +8,11 @@ ghost use Rattle.syntax_substitution.specs.Pairs.{pair_of, parts_of};
 use image_kinds::kinds::Kind;
 use image_write_parts::writer::Writer;
 use syntax::context::TypingContext;
-use syntax_substitution::FlatPair;
+use syntax_substitution::{FlatPair, Pair};
 
 // A list: its count, then its bindings.
 pub fn put_list(writer: &mut Writer<'_>, context: TypingContext)
-    requires { (writer.old.at + 2048 < 2 ^ 64) × (context.len ≤ 64) }
+    requires { writer.old.at + 2048 < 2 ^ 64 }
     ensures { Wrote writer.old writer.new (list_bytes writer.old.id (context_of context)) }
 {
     let count = context.len;
@@ -36,9 +36,7 @@ pub fn put_pair(writer: &mut Writer<'_>, pair: FlatPair)
     requires { writer.old.at + 32 < 2 ^ 64 }
     ensures { Wrote writer.old writer.new (pair_bytes writer.old.id (parts_of (pair_of pair))) }
 {
-    let p = pair.pair();
-    let target = p.target;
-    let source = p.source;
-    writer.binding(target);
-    writer.identifier(source);
+    let p = Pair::from(pair);
+    writer.binding(p.target);
+    writer.identifier(p.source);
 }

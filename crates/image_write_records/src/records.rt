@@ -41,7 +41,7 @@ fn put_typed(writer: &mut Writer<'_>, kind: Kind, var: Identifier, ty: Ty)
 
 // A kind, an identifier and a list: a definition or a clause.
 pub fn put_headed(writer: &mut Writer<'_>, kind: Kind, x: Identifier, context: TypingContext)
-    requires { (writer.old.at + 8192 < 2 ^ 64) × (context.len ≤ 64) }
+    requires { writer.old.at + 8192 < 2 ^ 64 }
     ensures { Wrote writer.old writer.new (code_of kind ∷ (identifier_bytes writer.old.id x ++ list_bytes writer.old.id (context_of context))) }
 {
     put_named(writer, kind, x);
@@ -63,7 +63,7 @@ pub fn put_let(
     tag: Identifier,
     args: TypingContext,
 )
-    requires { (writer.old.at + 8192 < 2 ^ 64) × (args.len ≤ 64) }
+    requires { writer.old.at + 8192 < 2 ^ 64 }
     ensures { Wrote writer.old writer.new (record_bytes writer.old.id (let' var ty tag (context_of args))) }
 {
     put_typed(writer, Kind::Let, var, ty);
@@ -86,7 +86,7 @@ pub fn put_create(
     environment: TypingContext,
     clauses: u8,
 )
-    requires { (writer.old.at + 8192 < 2 ^ 64) × (environment.len ≤ 64) }
+    requires { writer.old.at + 8192 < 2 ^ 64 }
     ensures { Wrote writer.old writer.new (record_bytes writer.old.id (create var ty (some (context_of environment)) clauses)) }
 {
     put_typed(writer, Kind::Create, var, ty);
@@ -154,6 +154,7 @@ pub fn put_ifc(writer: &mut Writer<'_>, sort: IfSort, fst: Identifier, snd: Opti
     put_marked(writer, snd);
 }
 
+// (`newline`: the Rust's field, a yes or no.)
 pub fn put_print(writer: &mut Writer<'_>, newline: bool, var: Identifier)
     requires { writer.old.at + 8192 < 2 ^ 64 }
     ensures { Wrote writer.old writer.new (record_bytes writer.old.id (print newline var)) }

@@ -1,8 +1,8 @@
 -- Laws of association lists: `lookup`, `lookups`, `zip`, `pair_up`. Assumes nothing.
-use mathlib.Core.Path.{◌≡◌, refl, sym, ◌∙◌, ap, subst}
+use mathlib.Core.Path.{◌≡◌, refl, sym, ◌∙◌, ap}
 use mathlib.Core.Logic.{◌⊎◌, inl, inr}
 use mathlib.Core.List.{List, [], ◌∷◌, ◌++◌, map}
-use mathlib.Core.Option.{none, some, IsSome}
+use mathlib.Core.Option.{none, some, none-ne-some}
 use Prim.Native.Nat.{suc}
 use native.Mathlib.Omega.{arith}
 use lib.ListN.{length}
@@ -13,9 +13,6 @@ use Rattle.syntax.proofs.Bools.{Answers}
 use Rattle.syntax.proofs.Members.{same?, same_self, same_differ}
 use Rattle.model.specs.Lists.{lookup, lookups, zip}
 use Rattle.model.specs.Machine.{Value, values, pair_up}
-
-pub none≢some : {A : Type 0} {a : A} → none ≡ some a → ⊥
-none≢some h = subst IsSome (sym h) tt
 
 module _ {A : Type 0} where
   -- the IDs of an association list
@@ -29,7 +26,7 @@ module _ {A : Type 0} where
   lookup-other x y v l n = rw (same_differ x y n)
 
   pub lookup-left : (x : VarId) (v : A) (l k : List (VarId × A)) → lookup x l ≡ some v → lookup x (l ++ k) ≡ some v
-  lookup-left x v [] k h = absurd (none≢some h)
+  lookup-left x v [] k h = absurd (none-ne-some _ h)
   lookup-left x v (e ∷ l) k h = go (λ q. lookup-left x v l k q) (same? x e.0)
     where
       go : (lookup x l ≡ some v → lookup x (l ++ k) ≡ some v) → Answers (same_var_id x e.0) (x ≡ e.0) → lookup x (e ∷ l ++ k) ≡ some v
@@ -52,7 +49,7 @@ module _ {A : Type 0} where
 
   -- and only those have
   pub in_lookup : (x : VarId) (v : A) (l : List (VarId × A)) → lookup x l ≡ some v → x ∈ firsts l
-  in_lookup x v [] h = absurd (none≢some h)
+  in_lookup x v [] h = absurd (none-ne-some _ h)
   in_lookup x v (e ∷ l) h = go (λ q. in_lookup x v l q) (same? x e.0)
     where
       go : (lookup x l ≡ some v → x ∈ firsts l) → Answers (same_var_id x e.0) (x ≡ e.0) → x ∈ firsts (e ∷ l)

@@ -43,7 +43,9 @@ pub data SameDef (M : ℕ) : Option Def → Option Def → Type 0 where
 same-find_def : (M : ℕ) (f : Name) (ds : List Def) (m : ℕ) → M ≤ m → ScopedDefs ds M → SameDef M (find_def f ds) (find_def f (linearize_defs ds m).0)
 unfolding linearize_defs
 same-find_def M f [] m h sc = neither
-same-find_def M f (d ∷ ds) m h sc = go (same_name f d.name.name) (same-find_def M f ds (linearize_stmt d.body no_renaming d.context m).1 (le_trans h (linearize_stmt-grows d.body no_renaming d.context m)) sc.2)
+same-find_def M f (d ∷ ds) m h sc =
+    let grown = le_trans h (linearize_stmt-grows d.body no_renaming d.context m) in
+    go (same_name f d.name.name) (same-find_def M f ds (linearize_stmt d.body no_renaming d.context m).1 grown sc.2)
   where
     d' : Def
     d' = record { name = d.name; context = d.context; body = (linearize_stmt d.body no_renaming d.context m).0 }
@@ -103,9 +105,19 @@ module _ (M : ℕ) (tag : Name) (fv Δ : List VarId) (before : Bool) (ρ : Renam
   unfolding linearize_stmt free_vars Scoped
   same-clause end m h sub sc = neither
   same-clause (clause c ps body rest) m h sub sc =
-      go (same_name tag c.name) (same-clause rest (linearize_stmt body ρ (cond before (ps ++ Γ) (Γ ++ ps)) m).1 (le_trans h (linearize_stmt-grows body ρ (cond before (ps ++ Γ) (Γ ++ ps)) m)) (λ x k. sub x (∈_right x (without (free_vars body) (ids ps)) (free_vars_clauses rest) k)) sc.2)
+      go (same_name tag c.name) (same-clause rest (linearize_stmt body ρ (cond before (ps ++ Γ) (Γ ++ ps)) m).1
+      (le_trans h (linearize_stmt-grows body ρ (cond before (ps ++ Γ) (Γ ++ ps)) m))
+      (λ x k. sub x (∈_right x (without (free_vars body) (ids ps)) (free_vars_clauses rest) k)) sc.2)
     where
       go : (t : Bool) {o o' : Option (Context × Stmt)} → SameClause M fv Δ before ρ Γ m₀ o o'
           → SameClause M fv Δ before ρ Γ m₀ (cond t (some (ps, body)) o) (cond t (some (ps, (linearize_stmt body ρ (cond before (ps ++ Γ) (Γ ++ ps)) m).0)) o')
-      go true r = both (record { m = m; above = h; free = λ x k. sub x (∈_left x (without (free_vars body) (ids ps)) (free_vars_clauses rest) k); binds = sc.0; scoped = sc.1; context = refl; body = refl })
+      go true r = both (record {
+        m = m;
+        above = h;
+        free = λ x k. sub x (∈_left x (without (free_vars body) (ids ps)) (free_vars_clauses rest) k);
+        binds = sc.0;
+        scoped = sc.1;
+        context = refl;
+        body = refl;
+      })
       go false r = r

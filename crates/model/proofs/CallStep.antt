@@ -58,6 +58,7 @@ module _ (P : Prog) {Δ : List VarId} {ρ : Renaming} {Γ : Context} {m : ℕ} {
       let dr = freshen_unless_draws right args [] m (args-up_to f args₀ (λ x h. h)) (λ x h. absurd h) in
       let count : length (ids T) ≡ length vs = counts T args vs dr.count (got-length (ids args) l vs got.2) in (
         at (Call label []) (zip (ids T) vs) K',
-        arrive (linearize P) right Γ T args (Call label []) l K' vs (λ e. (same_context-sound Γ args e, dr.kept e)) f.good.once (after-distinct right Γ [] args T (λ e. same_context-sound Γ args e) dr f.good.once tt) dr.count f.ordered got.2,
+        arrive (linearize P) right Γ T args (Call label []) l K' vs (λ e. (same_context-sound Γ args e, dr.kept e)) f.good.once
+            (after-distinct right Γ [] args T (λ e. same_context-sound Γ args e) dr f.good.once tt) dr.count f.ordered got.2,
         rw (got-lookups (ids args₀) ε vs got.1, values-zip (ids T) vs count) (entered P K K' cells label.name vs _ _ (same-label P acc label.name)),
       )

@@ -86,7 +86,8 @@ same-invoked M K K' (outside n) s = same_out n
 -- ── a clause is entered ──
 
 -- with as many values as parameters, which stand before the context or behind it
-module _ (M : ℕ) (K K' : Cells) (cells : SameCells M K K') {fv Δ : List VarId} (before : Bool) {ρ : Renaming} {Γ : Context} {m : ℕ} {ε l : Entries} (f : Fits M fv Δ ρ Γ m ε l) (e : Event) (vs : List Value) where
+module _ (M : ℕ) (K K' : Cells) (cells : SameCells M K K') {fv Δ : List VarId} (before : Bool) {ρ : Renaming} {Γ : Context} {m : ℕ} {ε l : Entries}
+    (f : Fits M fv Δ ρ Γ m ε l) (e : Event) (vs : List Value) where
   pub opened : (o o' : Option (Context × Stmt)) → SameClause M fv Δ before ρ Γ m o o'
       → Matches M (or_halt o λ c. or_halt (pair_up (ids c.0) vs) λ new. shows e (at c.1 (new ++ ε) K))
       (or_halt o' λ c. or_halt (pair_up (ids c.0) vs) λ new. shows_unless_twice e c.1 (cond before (new ++ l) (l ++ new)) K')

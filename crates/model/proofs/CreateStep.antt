@@ -39,7 +39,9 @@ module _ (P : Prog) {Δ : List VarId} {ρ : Renaming} {Γ : Context} {m : ℕ} {
   work-Create : (var : Identifier) (ty : Ty) (none₀ : Option Context) (cs cs' : Clauses) (next : Stmt) (env : Context) (vs : List Value)
       → Fits P.max_id (without (free_vars next) (var.id ∷ [])) Δ ρ Γ m ε l → Scoped (Create var ty none₀ cs next) P.max_id Δ
       → AtClauses P.max_id cs ε cs' (zip (ids env) vs) → length (ids env) ≡ length vs
-      → Matches P.max_id (source_work P (Create var ty none₀ cs next) ε K) (linear_step_lem (linearize P) (at (Create var ty (some env) cs' (linearize_stmt next ρ (Γ ++ (bind var Cns ty ∷ [])) m).0) (l ++ zip (ids env) vs) K'))
+      → Matches P.max_id (source_work P (Create var ty none₀ cs next) ε K)
+      (linear_step_lem (linearize P) (at (Create var ty (some env) cs' (linearize_stmt next ρ (Γ ++ (bind var Cns ty ∷ [])) m).0)
+      (l ++ zip (ids env) vs) K'))
   unfolding Scoped source_work linear_step_lem in_order_lem linear_work
   work-Create var ty none₀ cs cs' next env vs f sc a count =
       let held = zip (ids env) vs in
@@ -47,11 +49,17 @@ module _ (P : Prog) {Δ : List VarId} {ρ : Renaming} {Γ : Context} {m : ℕ} {
       let after : Fits P.max_id (free_vars next) (var.id ∷ Δ) ρ (Γ ++ (bind var Cns ty ∷ [])) m ((var.id, cell (length K')) ∷ ε) (l ++ ((var.id, cell (length K')) ∷ [])) =
       behind (free_vars next) (bind var Cns ty ∷ []) f sc.2 (cell (length K') ∷ []) refl in
       let d = appended_distinct l var.id (cell (length K')) (fits-distinct after) in
-      rw (same_count P.max_id K K' cells, consumes l held (ids env) (length env) var.id (firsts-zip (ids env) vs count) (length-map env id_of) d, before_last-at l held (length env) e, last_of_at l held (length env) e)
+      rw (
+        same_count P.max_id K K' cells,
+        consumes l held (ids env) (length env) var.id (firsts-zip (ids env) vs count) (length-map env id_of) d,
+        before_last-at l held (length env) e,
+        last_of_at l held (length env) e,
+      )
       (refl, (record { Δ = var.id ∷ Δ; ρ = ρ; Γ = Γ ++ (bind var Cns ty ∷ []); m = m; fits = after; scoped = sc.3; is = refl }, one_more P.max_id K K' (closure ε cs) (closure held cs') cells a))
 
 module _ (P : Prog) {Δ : List VarId} {ρ : Renaming} {Γ : Context} {m : ℕ} {ε l : Entries} (K K' : Cells) (cells : SameCells P.max_id K K') where
-  pub sim-Create : (var : Identifier) (ty : Ty) (none₀ : Option Context) (cs : Clauses) (next : Stmt) → Fits P.max_id (free_vars (Create var ty none₀ cs next)) Δ ρ Γ m ε l → Scoped (Create var ty none₀ cs next) P.max_id Δ
+  pub sim-Create : (var : Identifier) (ty : Ty) (none₀ : Option Context) (cs : Clauses) (next : Stmt)
+      → Fits P.max_id (free_vars (Create var ty none₀ cs next)) Δ ρ Γ m ε l → Scoped (Create var ty none₀ cs next) P.max_id Δ
       → Simulates P (at (Create var ty none₀ cs next) ε K) (at (linearize_stmt (Create var ty none₀ cs next) ρ Γ m).0 l K')
   unfolding linearize_stmt free_vars Scoped source_step_lem
   sim-Create var ty none₀ cs next f sc =
@@ -70,11 +78,14 @@ module _ (P : Prog) {Δ : List VarId} {ρ : Renaming} {Γ : Context} {m : ℕ} {
       let us = partN.0 in
       let vs = partE.0 in
       let grown = linearize_clauses-grows cs true ρ env m in
-      let dr : Drawn right N (ids env) m₁ T m₂ = freshen_unless_draws right N (ids env) m₁ (λ x h. le_trans ((part-good f selN).up_to x h) grown) (λ x h. le_trans ((part-good f selE).up_to x h) grown) in
+      let dr : Drawn right N (ids env) m₁ T m₂ =
+      freshen_unless_draws right N (ids env) m₁ (λ x h. le_trans ((part-good f selN).up_to x h) grown)
+      (λ x h. le_trans ((part-good f selE).up_to x h) grown) in
       let same : right ≡ true → Γ ≡ N ++ env = same_context-sound Γ (N ++ env) in
       let countN : length N ≡ length us = sym (length-map N id_of) ∙ got-length (ids N) l us partN.1 in
       let fitsN : Fits P.max_id (without (free_vars next) (var.id ∷ [])) Δ ρ N m ε (zip (ids N) us) =
-      narrow f selN (λ x h. ∈_left x (without (free_vars next) (var.id ∷ [])) (free_vars_clauses cs) h) (λ x h. rename_ids_in ρ x (free_vars next) (without-∈ x (free_vars next) (var.id ∷ []) h).0) us partN.1 in
+      narrow f selN (λ x h. ∈_left x (without (free_vars next) (var.id ∷ [])) (free_vars_clauses cs) h)
+      (λ x h. rename_ids_in ρ x (free_vars next) (without-∈ x (free_vars next) (var.id ∷ []) h).0) us partN.1 in
       let fitsE : Fits P.max_id (free_vars_clauses cs) Δ ρ env m ε (zip (ids env) vs) =
       narrow f selE (λ x h. ∈_right x (without (free_vars next) (var.id ∷ [])) (free_vars_clauses cs) h) (λ x h. rename_ids_in ρ x (free_vars_clauses cs) h) vs partE.1 in (
         at (Create var ty (some env) cs' (linearize_stmt next ρ' (T ++ (bind var Cns ty ∷ [])) m₂).0) (zip (ids T) us ++ zip (ids env) vs) K',

@@ -29,7 +29,8 @@ module _ (P : Prog) (acc : ScopedProg P) where
       go (inr p) =
           let fits = body-fits P.max_id r.m d.context d.body r.above r.binds r.scoped (map value vs) p.1 in
           rw (← r.context, p.0, fits-distinct fits)
-          (both-begin (agree P acc (at d.body (zip (ids d.context) (map value vs)) []) (at d'.body (zip (ids d.context) (map value vs)) []) (record { Δ = ids d.context; ρ = no_renaming; Γ = d.context; m = r.m; fits = fits; scoped = r.scoped; is = r.body }, tt)))
+          (both-begin (agree P acc (at d.body (zip (ids d.context) (map value vs)) []) (at d'.body (zip (ids d.context) (map value vs)) [])
+          (record { Δ = ids d.context; ρ = no_renaming; Γ = d.context; m = r.m; fits = fits; scoped = r.scoped; is = r.body }, tt)))
 
 pub demand_3 : Demand3
 unfolding source_start linear_start

@@ -26,7 +26,8 @@ use Rattle.model.specs.Rules.{bind, arrange, freshen_unless_lem, fresh_var_unles
 use Rattle.model.specs.Pass.{linearize_stmt, linearize_defs, linearize}
 use Rattle.model.specs.Rows.{identifier}
 use Rattle.model.specs.Integers.{wrap, eval_op, holds}
-use Rattle.model.specs.Machine.{Value, int, cell, outside, Entries, State, at, ended, Event, Literal', Op', IfC', PrintI64', Exit', Let', Create', Switch', Invoke', Outside', Call', Outcome, shows, halts, stops, run, Given, integer, outside_number, Start, begun, no_start, stopped}
+use Rattle.model.specs.Machine.{Value, int, cell, outside, Entries, State, at, ended, Event, Literal', Op', IfC', PrintI64', Exit', Let', Create', Switch'}
+use Rattle.model.specs.Machine.{Invoke', Outside', Call', Outcome, shows, halts, stops, run, Given, integer, outside_number, Start, begun, no_start, stopped}
 use Rattle.model.specs.Source.{source_step_lem, source_work, source_enter_lem, source_start}
 use Rattle.model.specs.Linear.{linear_step_lem, in_order_lem, linear_work, linear_enter_lem, linear_start}
 use Rattle.model.specs.Questions.{asked, question6, question8, question9, question10, question11, Accepted}
@@ -136,7 +137,9 @@ examples =
     ∷ []
 
 pub examples-run : All ExampleClaim examples
-unfolding source_start source_step_lem source_work source_enter_lem eval_op holds wrap linear_start linear_step_lem in_order_lem linear_work linear_enter_lem fresh freshen retained fill filtered arrange freshen_unless_lem rename_unless fresh_var_unless move_behind_lem linearize_stmt free_vars linearize_defs linearize
+unfolding source_start source_step_lem source_work source_enter_lem eval_op holds wrap linear_start linear_step_lem in_order_lem linear_work
+    linear_enter_lem fresh freshen retained fill filtered arrange freshen_unless_lem rename_unless fresh_var_unless move_behind_lem linearize_stmt
+    free_vars linearize_defs linearize
 examples-run = refl & refl & refl & refl & done
 
 -- the source copied for the output: the linear machine stops at once

@@ -1,7 +1,7 @@
 -- Contexts as the pass keeps them: each ID is in scope or drawn, none stands twice, and a renaming leaves new binders alone; and how this
 -- is kept when the context is narrowed, when variables are added, when max_id grows, when the context is renamed. Assumes nothing.
 use mathlib.Core.Path.{◌≡◌, subst}
-use mathlib.Core.Logic.{◌⊎◌, inl, inr}
+use mathlib.Core.Logic.{◌⊎◌, inl, inr, ⊎_swap}
 use mathlib.Core.List.{List, ◌++◌}
 use mathlib.Core.Option.{none}
 use Prim.Native.Nat.{ℕ, ◌≤◌, ◌<◌}
@@ -16,7 +16,6 @@ use Rattle.syntax.proofs.Filters.{ids-++, perm_in, perm_distinct, filter_in, in_
 use Rattle.syntax.proofs.Permutations.{Perm, perm_sym, perm_swap}
 use Rattle.model.specs.Renaming.{Renaming}
 use Rattle.model.specs.Rules.{move_behind_lem}
-use Rattle.model.specs.Machine.{at}
 use Rattle.model.proofs.Scoping.{Binds}
 
 -- an ID that may stand in a context: in scope, or drawn, that is above the program's max_id M
@@ -94,10 +93,6 @@ module _ {M : ℕ} {Δ : List VarId} {ρ : Renaming} {Γ : Context} {m : ℕ} (p
   joined-up_to x (inl h) = g.up_to x h
   joined-up_to x (inr h) = omega (arith, b.small x h, g.above)
 
-  swapped : (x : VarId) → (x ∈ ids ps) ⊎ (x ∈ ids Γ) → (x ∈ ids Γ) ⊎ (x ∈ ids ps)
-  swapped x (inl h) = inr h
-  swapped x (inr h) = inl h
-
   -- behind the context
   pub good-behind : Good M (ids ps ++ Δ) ρ (Γ ++ ps) m
   good-behind = record {
@@ -112,8 +107,8 @@ module _ {M : ℕ} {Δ : List VarId} {ρ : Renaming} {Γ : Context} {m : ℕ} (p
   pub good-before : Good M (ids ps ++ Δ) ρ (ps ++ Γ) m
   good-before = record {
     once = rw (ids-++ ps Γ) (Distinct-++ (ids ps) (ids Γ) b.once g.once (λ x h k. new-clash x k h));
-    known = λ x h. joined-known x (swapped x (∈_split x (ids ps) (ids Γ) (rw (ids-++ ps Γ) at h)));
-    up_to = λ x h. joined-up_to x (swapped x (∈_split x (ids ps) (ids Γ) (rw (ids-++ ps Γ) at h)));
+    known = λ x h. joined-known x (⊎_swap (∈_split x (ids ps) (ids Γ) (rw (ids-++ ps Γ) at h)));
+    up_to = λ x h. joined-up_to x (⊎_swap (∈_split x (ids ps) (ids Γ) (rw (ids-++ ps Γ) at h)));
     above = g.above;
     moved = λ x. still_moved x (g.moved x);
   }

@@ -36,7 +36,8 @@ module _ (P : Prog) {Δ : List VarId} {ρ : Renaming} {Γ : Context} {m : ℕ} {
       let a' = renamed ρ x l a.0 a.2 in
       (a.0, a.1, a', got-present ((rename ρ x).id ∷ []) l (a.0 ∷ []) (a', tt))
 
-  pub sim-IfC : (sort : IfSort) (fst : Identifier) (snd : Option Identifier) (thenc elsec : Stmt) → Fits P.max_id (free_vars (IfC sort fst snd thenc elsec)) Δ ρ Γ m ε l → Scoped (IfC sort fst snd thenc elsec) P.max_id Δ
+  pub sim-IfC : (sort : IfSort) (fst : Identifier) (snd : Option Identifier) (thenc elsec : Stmt)
+      → Fits P.max_id (free_vars (IfC sort fst snd thenc elsec)) Δ ρ Γ m ε l → Scoped (IfC sort fst snd thenc elsec) P.max_id Δ
       → Simulates P (at (IfC sort fst snd thenc elsec) ε K) (at (linearize_stmt (IfC sort fst snd thenc elsec) ρ Γ m).0 l K')
   unfolding linearize_stmt free_vars Scoped source_step_lem source_work linear_step_lem in_order_lem linear_work
   sim-IfC sort fst snd thenc elsec f sc = (
@@ -54,6 +55,31 @@ module _ (P : Prog) {Δ : List VarId} {ρ : Renaming} {Γ : Context} {m : ℕ} {
       c : (v : Value) × (second snd ε ≡ some v) × (second (rename_option ρ snd) l ≡ some v) × (present (optional_id (rename_option ρ snd)) (keys l) ≡ true)
       c = second-agrees (free_vars (IfC sort fst snd thenc elsec)) f snd (λ x h. inr (∈_left x (optional_id snd) (free_vars thenc ++ free_vars elsec) h))
 
+      of_branches : (free_vars thenc ++ free_vars elsec) ⊆ free_vars (IfC sort fst snd thenc elsec)
+      of_branches x h = inr (∈_right x (optional_id snd) (free_vars thenc ++ free_vars elsec) h)
+
       branch : (t : Bool) → Same P.max_id (at (cond t thenc elsec) ε K) (at (cond t (linearize_stmt thenc ρ Γ m).0 (linearize_stmt elsec ρ Γ (linearize_stmt thenc ρ Γ m).1).0) l K')
-      branch true = (record { Δ = Δ; ρ = ρ; Γ = Γ; m = m; fits = fewer f (λ x h. inr (∈_right x (optional_id snd) (free_vars thenc ++ free_vars elsec) (∈_left x (free_vars thenc) (free_vars elsec) h))); scoped = sc.2; is = refl }, cells)
-      branch false = (record { Δ = Δ; ρ = ρ; Γ = Γ; m = (linearize_stmt thenc ρ Γ m).1; fits = later (fewer f (λ x h. inr (∈_right x (optional_id snd) (free_vars thenc ++ free_vars elsec) (∈_right x (free_vars thenc) (free_vars elsec) h)))) (linearize_stmt-grows thenc ρ Γ m); scoped = sc.3; is = refl }, cells)
+      branch true = (
+        record {
+          Δ = Δ;
+          ρ = ρ;
+          Γ = Γ;
+          m = m;
+          fits = fewer f (λ x h. of_branches x (∈_left x (free_vars thenc) (free_vars elsec) h));
+          scoped = sc.2;
+          is = refl;
+        },
+        cells,
+      )
+      branch false = (
+        record {
+          Δ = Δ;
+          ρ = ρ;
+          Γ = Γ;
+          m = (linearize_stmt thenc ρ Γ m).1;
+          fits = later (fewer f (λ x h. of_branches x (∈_right x (free_vars thenc) (free_vars elsec) h))) (linearize_stmt-grows thenc ρ Γ m);
+          scoped = sc.3;
+          is = refl;
+        },
+        cells,
+      )

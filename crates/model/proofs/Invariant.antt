@@ -149,7 +149,8 @@ module _ {M : ℕ} {fv Δ : List VarId} {ρ : Renaming} {Γ : Context} {m : ℕ}
 
 -- ── variables added ──
 
-module _ {M : ℕ} (fv : List VarId) {Δ : List VarId} {ρ : Renaming} {Γ : Context} {m : ℕ} {ε l : Entries} (ps : Context) (f : Fits M (without fv (ids ps)) Δ ρ Γ m ε l) (b : Binds M Δ (ids ps)) (vs : List Value) (count : length (ids ps) ≡ length vs) where
+module _ {M : ℕ} (fv : List VarId) {Δ : List VarId} {ρ : Renaming} {Γ : Context} {m : ℕ} {ε l : Entries} (ps : Context)
+    (f : Fits M (without fv (ids ps)) Δ ρ Γ m ε l) (b : Binds M Δ (ids ps)) (vs : List Value) (count : length (ids ps) ≡ length vs) where
   unmoved : (x : VarId) → x ∈ ids ps → rename_id ρ x ≡ x
   unmoved x h = rw (new-unmoved ps f.good b x h)
 

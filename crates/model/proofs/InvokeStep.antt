@@ -62,7 +62,14 @@ module _ (P : Prog) {Δ : List VarId} {ρ : Renaming} {Γ : Context} {m : ℕ} {
         arrive₂ (linearize P) right Γ T (b ∷ []) args (b ∷ []) _ l K' vs (a.0 ∷ []) (λ e. (same e, ap (λ (r : Context). r ++ (b ∷ [])) (dr.kept e))) f.good.once
             (before-distinct right Γ (b ∷ []) args T same dr f.good.once (λ k. k, tt)) dr.count refl f.ordered got.2
             (ap (λ (y : VarId). lookup y l) (rename-id ρ var) ∙ a.2, tt),
-        rw (a.1, got-lookups (ids args₀) ε vs got.1, last_in_order (zip (ids T) vs) (id_of b) a.0, last_value-at (zip (ids T) vs) (id_of b) a.0, before_last-at (zip (ids T) vs) ((id_of b, a.0) ∷ []) 1 refl, values-zip (ids T) vs count)
+        rw (
+          a.1,
+          got-lookups (ids args₀) ε vs got.1,
+          last_in_order (zip (ids T) vs) (id_of b) a.0,
+          last_value-at (zip (ids T) vs) (id_of b) a.0,
+          before_last-at (zip (ids T) vs) ((id_of b, a.0) ∷ []) 1 refl,
+          values-zip (ids T) vs count,
+        )
             (entered P K K' cells _ _ tt tag.name vs (same-invoked P.max_id K K' a.0 cells)),
       )
     where

@@ -35,7 +35,8 @@ module _ (P : Prog) {Δ : List VarId} {ρ : Renaming} {Γ : Context} {m : ℕ} {
   work-Let : (var : Identifier) (ty : Ty) (tag : Identifier) (args args' : Context) (next : Stmt) (vs : List Value)
       → Fits P.max_id (without (free_vars next) (var.id ∷ [])) Δ ρ Γ m ε l → Scoped (Let var ty tag args next) P.max_id Δ
       → Got (ids args) ε vs → length (ids args') ≡ length vs
-      → Matches P.max_id (source_work P (Let var ty tag args next) ε K) (linear_step_lem (linearize P) (at (Let var ty tag args' (linearize_stmt next ρ (Γ ++ (bind var Prd ty ∷ [])) m).0) (l ++ zip (ids args') vs) K'))
+      → Matches P.max_id (source_work P (Let var ty tag args next) ε K)
+      (linear_step_lem (linearize P) (at (Let var ty tag args' (linearize_stmt next ρ (Γ ++ (bind var Prd ty ∷ [])) m).0) (l ++ zip (ids args') vs) K'))
   unfolding Scoped source_work linear_step_lem in_order_lem linear_work
   work-Let var ty tag args args' next vs f sc got count =
       let used = zip (ids args') vs in
@@ -43,11 +44,24 @@ module _ (P : Prog) {Δ : List VarId} {ρ : Renaming} {Γ : Context} {m : ℕ} {
       let after : Fits P.max_id (free_vars next) (var.id ∷ Δ) ρ (Γ ++ (bind var Prd ty ∷ [])) m ((var.id, cell (length K')) ∷ ε) (l ++ ((var.id, cell (length K')) ∷ [])) =
       behind (free_vars next) (bind var Prd ty ∷ []) f sc.1 (cell (length K') ∷ []) refl in
       let d = appended_distinct l var.id (cell (length K')) (fits-distinct after) in
-      rw (got-lookups (ids args) ε vs got, same_count P.max_id K K' cells, consumes l used (ids args') (length args') var.id (firsts-zip (ids args') vs count) (length-map args' id_of) d, before_last-at l used (length args') e, last_of_at l used (length args') e, values-zip (ids args') vs count)
-      (refl, (record { Δ = var.id ∷ Δ; ρ = ρ; Γ = Γ ++ (bind var Prd ty ∷ []); m = m; fits = after; scoped = sc.2; is = refl }, one_more P.max_id K K' (xtor tag.name vs) (xtor tag.name vs) cells (refl, refl)))
+      rw (
+        got-lookups (ids args) ε vs got,
+        same_count P.max_id K K' cells,
+        consumes l used (ids args') (length args') var.id (firsts-zip (ids args') vs count) (length-map args' id_of) d,
+        before_last-at l used (length args') e,
+        last_of_at l used (length args') e,
+        values-zip (ids args') vs count,
+      ) (
+        refl,
+        (
+          record { Δ = var.id ∷ Δ; ρ = ρ; Γ = Γ ++ (bind var Prd ty ∷ []); m = m; fits = after; scoped = sc.2; is = refl },
+          one_more P.max_id K K' (xtor tag.name vs) (xtor tag.name vs) cells (refl, refl),
+        ),
+      )
 
 module _ (P : Prog) {Δ : List VarId} {ρ : Renaming} {Γ : Context} {m : ℕ} {ε l : Entries} (K K' : Cells) (cells : SameCells P.max_id K K') where
-  pub sim-Let : (var : Identifier) (ty : Ty) (tag : Identifier) (args : Context) (next : Stmt) → Fits P.max_id (free_vars (Let var ty tag args next)) Δ ρ Γ m ε l → Scoped (Let var ty tag args next) P.max_id Δ
+  pub sim-Let : (var : Identifier) (ty : Ty) (tag : Identifier) (args : Context) (next : Stmt)
+      → Fits P.max_id (free_vars (Let var ty tag args next)) Δ ρ Γ m ε l → Scoped (Let var ty tag args next) P.max_id Δ
       → Simulates P (at (Let var ty tag args next) ε K) (at (linearize_stmt (Let var ty tag args next) ρ Γ m).0 l K')
   unfolding linearize_stmt free_vars source_step_lem
   sim-Let var ty tag args₀ next f sc =
@@ -66,6 +80,7 @@ module _ (P : Prog) {Δ : List VarId} {ρ : Renaming} {Γ : Context} {m : ℕ} {
         arrive₂ (linearize P) right Γ new T new args _ l K' part.0 got.0 (λ e. (same e, ap (λ (r : Context). new ++ r) (dr.kept e))) f.good.once
             (after-distinct right Γ new args T same dr f.good.once (part-good f sel).once) refl dr.count f.ordered part.1 got.2,
         work-Let P K K' cells var ty tag args₀ T next got.0
-            (later (narrow f sel (λ x h. ∈_left x (without (free_vars next) (var.id ∷ [])) (ids args₀) h) (λ x h. rename_ids_in ρ x (free_vars next) (without-∈ x (free_vars next) (var.id ∷ []) h).0) part.0 part.1) dr.grows)
+            (later (narrow f sel (λ x h. ∈_left x (without (free_vars next) (var.id ∷ [])) (ids args₀) h)
+            (λ x h. rename_ids_in ρ x (free_vars next) (without-∈ x (free_vars next) (var.id ∷ []) h).0) part.0 part.1) dr.grows)
             sc got.1 (counts T args got.0 dr.count (got-length (ids args) l got.0 got.2)),
       )

@@ -29,8 +29,10 @@ use Rattle.model.proofs.Invariant.{Fits, SameCells, rename-id, rename_ids_in, fi
 use Rattle.model.proofs.Simulation.{Matches, Simulates, both_halt, arrive-kept, got-present, renamed, appended_distinct}
 
 module _ (P : Prog) {Δ : List VarId} {ρ : Renaming} {Γ : Context} {m : ℕ} {ε l : Entries} (K K' : Cells) (cells : SameCells P.max_id K K') where
-  work-Op : (fst : Identifier) (op : BinOp) (snd : Identifier) (var : Identifier) (next : Stmt) → Fits P.max_id (free_vars (Op fst op snd var next)) Δ ρ Γ m ε l → Scoped (Op fst op snd var next) P.max_id Δ
-      → Matches P.max_id (source_work P (Op fst op snd var next) ε K) (linear_step_lem (linearize P) (at (Op (rename ρ fst) op (rename ρ snd) var (linearize_stmt next ρ (Γ ++ (bind var Ext I64 ∷ [])) m).0) l K'))
+  work-Op : (fst : Identifier) (op : BinOp) (snd : Identifier) (var : Identifier) (next : Stmt) → Fits P.max_id (free_vars (Op fst op snd var next)) Δ ρ Γ m ε l
+      → Scoped (Op fst op snd var next) P.max_id Δ
+      → Matches P.max_id (source_work P (Op fst op snd var next) ε K)
+      (linear_step_lem (linearize P) (at (Op (rename ρ fst) op (rename ρ snd) var (linearize_stmt next ρ (Γ ++ (bind var Ext I64 ∷ [])) m).0) l K'))
   unfolding free_vars Scoped source_work linear_step_lem in_order_lem linear_work
   work-Op fst op snd var next f sc =
       let after : (z : ℤ) → Fits P.max_id (free_vars next) (var.id ∷ Δ) ρ (Γ ++ (bind var Ext I64 ∷ [])) m ((var.id, int z) ∷ ε) (l ++ ((var.id, int z) ∷ [])) =
@@ -48,7 +50,8 @@ module _ (P : Prog) {Δ : List VarId} {ρ : Renaming} {Γ : Context} {m : ℕ} {
       (refl, (record { Δ = var.id ∷ Δ; ρ = ρ; Γ = Γ ++ (bind var Ext I64 ∷ []); m = m; fits = after z; scoped = sc.3; is = refl }, cells)))
 
 module _ (P : Prog) {Δ : List VarId} {ρ : Renaming} {Γ : Context} {m : ℕ} {ε l : Entries} (K K' : Cells) (cells : SameCells P.max_id K K') where
-  pub sim-Op : (fst : Identifier) (op : BinOp) (snd : Identifier) (var : Identifier) (next : Stmt) → Fits P.max_id (free_vars (Op fst op snd var next)) Δ ρ Γ m ε l → Scoped (Op fst op snd var next) P.max_id Δ
+  pub sim-Op : (fst : Identifier) (op : BinOp) (snd : Identifier) (var : Identifier) (next : Stmt)
+      → Fits P.max_id (free_vars (Op fst op snd var next)) Δ ρ Γ m ε l → Scoped (Op fst op snd var next) P.max_id Δ
       → Simulates P (at (Op fst op snd var next) ε K) (at (linearize_stmt (Op fst op snd var next) ρ Γ m).0 l K')
   unfolding linearize_stmt free_vars source_step_lem
   sim-Op fst op snd var next f sc =

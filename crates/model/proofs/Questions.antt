@@ -56,7 +56,9 @@ mutual
   answered (Invoke var tag ty args) q b Δ e = e
   answered (Literal lit var next) q b Δ e = let p = three (q Δ (Literal lit var next)) (b Δ (var.id ∷ [])) (asked next q b (var.id ∷ Δ)) e in (p.0, p.1, answered next q b (var.id ∷ Δ) p.2)
   answered (Op fst op snd var next) q b Δ e = let p = three (q Δ (Op fst op snd var next)) (b Δ (var.id ∷ [])) (asked next q b (var.id ∷ Δ)) e in (p.0, p.1, answered next q b (var.id ∷ Δ) p.2)
-  answered (IfC sort fst snd thenc elsec) q b Δ e = let p = three (q Δ (IfC sort fst snd thenc elsec)) (asked thenc q b Δ) (asked elsec q b Δ) e in (p.0, answered thenc q b Δ p.1, answered elsec q b Δ p.2)
+  answered (IfC sort fst snd thenc elsec) q b Δ e =
+      let p = three (q Δ (IfC sort fst snd thenc elsec)) (asked thenc q b Δ) (asked elsec q b Δ) e in
+      (p.0, answered thenc q b Δ p.1, answered elsec q b Δ p.2)
   answered (PrintI64 newline var next) q b Δ e = let p = both_true (q Δ (PrintI64 newline var next)) (asked next q b Δ) e in (p.0, answered next q b Δ p.1)
   answered (Exit var) q b Δ e = e
 
@@ -99,7 +101,7 @@ binds-says M Δ xs e u =
 uses-says : (Δ s : List VarId) → every (λ (x : VarId). elem x Δ) s ≡ true → s ⊆ Δ
 uses-says Δ s e x h = elem-says x Δ (every_true (λ (y : VarId). elem y Δ) s e x h)
 
-none_says : (o : Option Context) → is_none o ≡ true → o ≡ none
+pub none_says : (o : Option Context) → is_none o ≡ true → o ≡ none
 none_says none e = refl
 none_says (some Γ) e = absurd (false≢true e)
 
@@ -111,19 +113,27 @@ mutual
   scoped-says (Call label args) M Δ a b c d = uses-says Δ (ids args) c
   scoped-says (Let var ty tag args next) M Δ a b c d = (uses-says Δ (ids args) c.0, binds-says M Δ (var.id ∷ []) b.1 d.1, scoped-says next M (var.id ∷ Δ) a.2 b.2 c.2 d.2)
   scoped-says (Switch var ty cs) M Δ a b c d = (uses-says Δ (var.id ∷ []) c.0 var.id (inl refl), scoped_clauses_says cs M Δ a.1 b.1 c.1 d.1)
-  scoped-says (Create var ty env cs next) M Δ a b c d = (none_says env a.0, scoped_clauses_says cs M Δ a.1 b.1 c.1 d.1, binds-says M Δ (var.id ∷ []) b.2 d.2, scoped-says next M (var.id ∷ Δ) a.3 b.3 c.3 d.3)
+  scoped-says (Create var ty env cs next) M Δ a b c d =
+      (none_says env a.0, scoped_clauses_says cs M Δ a.1 b.1 c.1 d.1, binds-says M Δ (var.id ∷ []) b.2 d.2, scoped-says next M (var.id ∷ Δ) a.3 b.3 c.3 d.3)
   scoped-says (Invoke var tag ty args) M Δ a b c d = let u = uses-says Δ (var.id ∷ ids args) c in (u var.id (inl refl), λ x h. u x (inr h))
   scoped-says (Literal lit var next) M Δ a b c d = (binds-says M Δ (var.id ∷ []) b.1 d.1, scoped-says next M (var.id ∷ Δ) a.2 b.2 c.2 d.2)
-  scoped-says (Op fst op snd var next) M Δ a b c d = let u = uses-says Δ (fst.id ∷ snd.id ∷ []) c.0 in (u fst.id (inl refl), u snd.id (inr (inl refl)), binds-says M Δ (var.id ∷ []) b.1 d.1, scoped-says next M (var.id ∷ Δ) a.2 b.2 c.2 d.2)
-  scoped-says (IfC sort fst snd thenc elsec) M Δ a b c d = let u = uses-says Δ (fst.id ∷ optional_id snd) c.0 in (u fst.id (inl refl), λ x h. u x (inr h), scoped-says thenc M Δ a.1 b.1 c.1 d.1, scoped-says elsec M Δ a.2 b.2 c.2 d.2)
+  scoped-says (Op fst op snd var next) M Δ a b c d =
+      let u = uses-says Δ (fst.id ∷ snd.id ∷ []) c.0 in
+      (u fst.id (inl refl), u snd.id (inr (inl refl)), binds-says M Δ (var.id ∷ []) b.1 d.1, scoped-says next M (var.id ∷ Δ) a.2 b.2 c.2 d.2)
+  scoped-says (IfC sort fst snd thenc elsec) M Δ a b c d =
+      let u = uses-says Δ (fst.id ∷ optional_id snd) c.0 in
+      (u fst.id (inl refl), λ x h. u x (inr h), scoped-says thenc M Δ a.1 b.1 c.1 d.1, scoped-says elsec M Δ a.2 b.2 c.2 d.2)
   scoped-says (PrintI64 newline var next) M Δ a b c d = (uses-says Δ (var.id ∷ []) c.0 var.id (inl refl), scoped-says next M Δ a.1 b.1 c.1 d.1)
   scoped-says (Exit var) M Δ a b c d = uses-says Δ (var.id ∷ []) c var.id (inl refl)
 
-  pub scoped_clauses_says : (cs : Clauses) (M : ℕ) (Δ : List VarId) → AskedClauses cs plain any_binders Δ → AskedClauses cs any_stmt new Δ → AskedClauses cs in_scope_lem any_binders Δ → AskedClauses cs any_stmt (up_to M) Δ → ScopedClauses cs M Δ
+  pub scoped_clauses_says : (cs : Clauses) (M : ℕ) (Δ : List VarId) → AskedClauses cs plain any_binders Δ → AskedClauses cs any_stmt new Δ
+      → AskedClauses cs in_scope_lem any_binders Δ → AskedClauses cs any_stmt (up_to M) Δ → ScopedClauses cs M Δ
   scoped_clauses_says end M Δ a b c d = tt
-  scoped_clauses_says (clause xtor context body rest) M Δ a b c d = (binds-says M Δ (ids context) b.0 d.0, scoped-says body M (ids context ++ Δ) a.1 b.1 c.1 d.1, scoped_clauses_says rest M Δ a.2 b.2 c.2 d.2)
+  scoped_clauses_says (clause xtor context body rest) M Δ a b c d =
+      (binds-says M Δ (ids context) b.0 d.0, scoped-says body M (ids context ++ Δ) a.1 b.1 c.1 d.1, scoped_clauses_says rest M Δ a.2 b.2 c.2 d.2)
 
-pub scoped_defs_says : (ds : List Def) (M : ℕ) → asked_defs ds plain any_binders ≡ true → asked_defs ds any_stmt new ≡ true → asked_defs ds in_scope_lem any_binders ≡ true → asked_defs ds any_stmt (up_to M) ≡ true → ScopedDefs ds M
+pub scoped_defs_says : (ds : List Def) (M : ℕ) → asked_defs ds plain any_binders ≡ true → asked_defs ds any_stmt new ≡ true
+    → asked_defs ds in_scope_lem any_binders ≡ true → asked_defs ds any_stmt (up_to M) ≡ true → ScopedDefs ds M
 scoped_defs_says [] M a b c d = tt
 scoped_defs_says (f ∷ ds) M a b c d =
     let Δ = ids f.context in
@@ -132,7 +142,8 @@ scoped_defs_says (f ∷ ds) M a b c d =
     let pc = both_true (asked f.body in_scope_lem any_binders Δ) (asked_defs ds in_scope_lem any_binders) c in
     let pd = three (up_to M [] Δ) (asked f.body any_stmt (up_to M) Δ) (asked_defs ds any_stmt (up_to M)) d in (
       binds-says M [] Δ pb.0 pd.0,
-      scoped-says f.body M Δ (answered f.body plain any_binders Δ pa.0) (answered f.body any_stmt new Δ pb.1) (answered f.body in_scope_lem any_binders Δ pc.0) (answered f.body any_stmt (up_to M) Δ pd.1),
+      scoped-says f.body M Δ (answered f.body plain any_binders Δ pa.0) (answered f.body any_stmt new Δ pb.1)
+          (answered f.body in_scope_lem any_binders Δ pc.0) (answered f.body any_stmt (up_to M) Δ pd.1),
       scoped_defs_says ds M pa.1 pb.2 pc.1 pd.2,
     )
 

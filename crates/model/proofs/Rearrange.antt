@@ -21,7 +21,8 @@ pub record Drawn (right : Bool) (W : Context) (C : List VarId) (m : ℕ) (T : Co
   pub count : length W ≡ length T
   pub grows : m ≤ m₁
 
-pub freshen_unless_draws : (right : Bool) (W : Context) (C : List VarId) (m : ℕ) → ((x : VarId) → x ∈ ids W → x.0 ≤ m) → ((x : VarId) → x ∈ C → x.0 ≤ m) → Drawn right W C m (freshen_unless_lem right W C m).0 (freshen_unless_lem right W C m).1
+pub freshen_unless_draws : (right : Bool) (W : Context) (C : List VarId) (m : ℕ) → ((x : VarId) → x ∈ ids W → x.0 ≤ m) → ((x : VarId) → x ∈ C → x.0 ≤ m)
+    → Drawn right W C m (freshen_unless_lem right W C m).0 (freshen_unless_lem right W C m).1
 unfolding freshen_unless_lem
 freshen_unless_draws true W C m hw hc = record { kept = λ e. refl; drew = λ e. absurd (true≢false e); count = refl; grows = omega arith }
 freshen_unless_draws false W C m hw hc =

@@ -98,7 +98,8 @@ module _ {M : ℕ} {Δ : List VarId} {ρ : Renaming} {N : Context} {m : ℕ} (f 
     moved = λ x. moved x (f.moved x);
   }
 
-module _ {M : ℕ} {fv Δ : List VarId} {ρ : Renaming} {N : Context} {m : ℕ} {ε : Entries} (us : List Value) (f : Fits M fv Δ ρ N m ε (zip (ids N) us)) (count : length N ≡ length us) (C : List VarId) where
+module _ {M : ℕ} {fv Δ : List VarId} {ρ : Renaming} {N : Context} {m : ℕ} {ε : Entries} (us : List Value) (f : Fits M fv Δ ρ N m ε (zip (ids N) us))
+    (count : length N ≡ length us) (C : List VarId) where
   -- the context under fresh names, and the renaming made to match, fit as before
   fresh-fits : (T : Context) (m₁ : ℕ) → Renamed N C m T m₁ → Fits M fv Δ (ρ ⨾ renaming N T) T m₁ ε (zip (ids T) us)
   fresh-fits T m₁ g = record {

@@ -8,7 +8,7 @@ use native.Mathlib.Omega.{arith}
 use lib.ListN.{length}
 use Rattle.model.specs.Syntax.{Prog}
 use Rattle.model.specs.Pass.{linearize}
-use Rattle.model.specs.Machine.{State, at, Event, Outcome, shows, silent, halts, stops, first_shown, go_on_lem, run}
+use Rattle.model.specs.Machine.{State, Event, Outcome, shows, silent, halts, stops, first_shown, go_on_lem, run}
 use Rattle.model.specs.Source.{source_step_lem}
 use Rattle.model.specs.Linear.{linear_step_lem}
 use Rattle.model.specs.Demand3.{NoNext, NoNextEither, Agree}
@@ -56,7 +56,8 @@ module _ (P : Prog) (acc : ScopedProg P) where
   Trails n t (some r) = (m : ℕ) × (n ≤ m) × (m ≤ 2 * n) × (t' : State) × (run (linear_step_lem (linearize P)) m t ≡ some (r.0, t')) × Same P.max_id r.1 t' × (length r.0 ≡ n)
 
   -- one more step in front, with its event, from t₁ on
-  shown : (n : ℕ) (t t₁ t₂ : State) (e : Event) (r : Option (List Event × State)) → linear_step_lem (linearize P) t₁ ≡ shows e t₂ → Reaches (linearize P) t t₁ → Trails n t₂ r → Trails (suc n) t (first_shown e r)
+  shown : (n : ℕ) (t t₁ t₂ : State) (e : Event) (r : Option (List Event × State)) → linear_step_lem (linearize P) t₁ ≡ shows e t₂ → Reaches (linearize P) t t₁
+      → Trails n t₂ r → Trails (suc n) t (first_shown e r)
   unfolding Trails
   shown n t t₁ t₂ e none q re h = tt
   shown n t t₁ t₂ e (some r) q (inl p) h = (suc (suc h.0), omega (arith, h.1), omega (arith, h.2), h.3, rw (p, q, h.4), h.5, ap suc h.6)
@@ -70,7 +71,8 @@ module _ (P : Prog) (acc : ScopedProg P) where
       sim : Simulates P s t
       sim = simulate P acc s t h
 
-      go : (o o' : Outcome) → linear_step_lem (linearize P) sim.0 ≡ o' → Matches P.max_id o o' → ((s' t' : State) → Same P.max_id s' t' → Trails n t' (run (source_step_lem P) n s')) → Trails (suc n) t (go_on_lem o (run (source_step_lem P) n))
+      go : (o o' : Outcome) → linear_step_lem (linearize P) sim.0 ≡ o' → Matches P.max_id o o'
+          → ((s' t' : State) → Same P.max_id s' t' → Trails n t' (run (source_step_lem P) n s')) → Trails (suc n) t (go_on_lem o (run (source_step_lem P) n))
       go (shows e s₁) (shows e' t₂) q k ih = shown n t sim.0 t₂ e (run (source_step_lem P) n s₁) (rw k.0 q) sim.1 (ih s₁ t₂ k.1)
       go (shows e s₁) (silent t₂) q k ih = absurd k
       go (shows e s₁) halts q k ih = absurd k

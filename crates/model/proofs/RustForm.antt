@@ -11,10 +11,11 @@ use Rattle.syntax.specs.declared.names.Identifier.{Identifier}
 use Rattle.model.specs.Syntax.{Stmt, Clauses, Substitute, Call, Let, Switch, Create, Invoke, Literal, Op, IfC, PrintI64, Exit, end, clause, Def}
 use Rattle.model.specs.FreeVars.{free_vars, free_vars_clauses}
 use Rattle.model.specs.Renaming.{Renaming, no_renaming, rename, rename_option, rename_context, rename_ids, or_self, then_rename, ◌⨾◌, rename_unless}
-use Rattle.model.specs.Rules.{Linearize, rule_let, rule_switch, rule_create, rule_literal, rule_op, rule_if_c, rule_print_i64, rule_exit, rule_clause}
+use Rattle.model.specs.Rules.{Linearize, rule_let, rule_switch, rule_create, rule_literal, rule_op, rule_if_c, rule_print_i64, rule_clause}
 use Rattle.model.specs.Pass.{linearize_stmt, linearize_clauses, linearize_defs}
 use Rattle.model.specs.Sizes.{depth, depth_clauses}
-use Rattle.model.specs.Rust.{Noted, NotedClauses, Substituteⁿ, Callⁿ, Letⁿ, Switchⁿ, Createⁿ, Invokeⁿ, Literalⁿ, Opⁿ, IfCⁿ, PrintI64ⁿ, Exitⁿ, endⁿ, clauseⁿ, annotate, annotate_clauses, subst_sim, subst_sim_clauses, subst_unless, linearize_clausesⁿ, linearizeⁿ, linearize_defsⁿ}
+use Rattle.model.specs.Rust.{Noted, NotedClauses, Substituteⁿ, Callⁿ, Letⁿ, Switchⁿ, Createⁿ, Invokeⁿ, Literalⁿ, Opⁿ, IfCⁿ, PrintI64ⁿ, Exitⁿ, endⁿ, clauseⁿ}
+use Rattle.model.specs.Rust.{annotate, annotate_clauses, subst_sim, subst_sim_clauses, subst_unless, linearize_clausesⁿ, linearizeⁿ, linearize_defsⁿ}
 use Rattle.model.proofs.Renames.{rename_id-⨾}
 
 -- ── first ρ, then σ ──
@@ -98,7 +99,8 @@ mutual
   rust_form (Exit var) zero ρ h = absurd (omega arith)
   rust_form (Exit var) (suc n) ρ h = refl
 
-  pub rust_form_clauses : (cs : Clauses) (n : ℕ) (ρ : Renaming) (before : Bool) → depth_clauses cs ≤ n → linearize_clausesⁿ (linearizeⁿ n) (subst_sim_clauses (annotate_clauses cs) ρ) before ≡ linearize_clauses cs before ρ
+  pub rust_form_clauses : (cs : Clauses) (n : ℕ) (ρ : Renaming) (before : Bool) → depth_clauses cs ≤ n
+      → linearize_clausesⁿ (linearizeⁿ n) (subst_sim_clauses (annotate_clauses cs) ρ) before ≡ linearize_clauses cs before ρ
   rust_form_clauses end n ρ before h = refl
   rust_form_clauses (clause xtor context body rest) n ρ before h =
       ap₂ (λ (f : Linearize Stmt) (g : Linearize Clauses). rule_clause xtor context before f g) (rust_form body n ρ (omega arith)) (rust_form_clauses rest n ρ before (omega arith))

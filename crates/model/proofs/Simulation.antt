@@ -123,7 +123,8 @@ arrive P false Γ T W s l K vs same dΓ dT e o g = inl (rw (targets-zip T W e, s
 
 -- what a filter keeps of the context needs at most the inserted Substitute
 pub arrive-kept : (P : Prog) {M : ℕ} {fv Δ : List VarId} {ρ : Renaming} {Γ : Context} {m : ℕ} {ε l : Entries} (f : Fits M fv Δ ρ Γ m ε l) (Z : List VarId) (s : Stmt) (K : Cells)
-    → Reaches P (at (arrange (same_context Γ (filter_by_set_lem Z Γ)) (filter_by_set_lem Z Γ) (filter_by_set_lem Z Γ) s) l K) (at s (zip (ids (filter_by_set_lem Z Γ)) (part-values f (selects_filter Z Γ)).0) K)
+    → Reaches P (at (arrange (same_context Γ (filter_by_set_lem Z Γ)) (filter_by_set_lem Z Γ) (filter_by_set_lem Z Γ) s) l K)
+    (at s (zip (ids (filter_by_set_lem Z Γ)) (part-values f (selects_filter Z Γ)).0) K)
 arrive-kept P {Γ = Γ} {l = l} f Z s K =
     let new = filter_by_set_lem Z Γ in
     let sel = selects_filter Z Γ in
@@ -132,7 +133,8 @@ arrive-kept P {Γ = Γ} {l = l} f Z s K =
 
 -- the same where targets and wanted are in two parts
 pub arrive₂ : (P : Prog) (right : Bool) (Γ A B C D : Context) (s : Stmt) (l : Entries) (K : Cells) (us vs : List Value)
-    → (right ≡ true → (Γ ≡ C ++ D) × (A ++ B ≡ C ++ D)) → Distinct (ids Γ) → Distinct (ids (A ++ B)) → length C ≡ length A → length D ≡ length B → firsts l ≡ ids Γ → Got (ids C) l us → Got (ids D) l vs
+    → (right ≡ true → (Γ ≡ C ++ D) × (A ++ B ≡ C ++ D)) → Distinct (ids Γ) → Distinct (ids (A ++ B)) → length C ≡ length A → length D ≡ length B
+    → firsts l ≡ ids Γ → Got (ids C) l us → Got (ids D) l vs
     → Reaches P (at (arrange right (A ++ B) (C ++ D) s) l K) (at s (zip (ids A) us ++ zip (ids B) vs) K)
 arrive₂ P right Γ A B C D s l K us vs same dΓ dT eA eB o g h =
     let count : length (ids A) ≡ length us = length-map A id_of ∙ sym eA ∙ sym (length-map C id_of) ∙ got-length (ids C) l us g in

@@ -26,7 +26,8 @@ use Rattle.model.proofs.IfCStep.{sim-IfC}
 use Rattle.model.proofs.PrintStep.{sim-PrintI64}
 use Rattle.model.proofs.ExitStep.{sim-Exit}
 
-sim-statement : (P : Prog) → ScopedProg P → (s : Stmt) {Δ : List VarId} {ρ : Renaming} {Γ : Context} {m : ℕ} {ε l : Entries} (K K' : Cells) → SameCells P.max_id K K' → Fits P.max_id (free_vars s) Δ ρ Γ m ε l → Scoped s P.max_id Δ
+sim-statement : (P : Prog) → ScopedProg P → (s : Stmt) {Δ : List VarId} {ρ : Renaming} {Γ : Context} {m : ℕ} {ε l : Entries} (K K' : Cells)
+    → SameCells P.max_id K K' → Fits P.max_id (free_vars s) Δ ρ Γ m ε l → Scoped s P.max_id Δ
     → Simulates P (at s ε K) (at (linearize_stmt s ρ Γ m).0 l K')
 unfolding Scoped
 sim-statement P acc (Substitute ps next) K K' cells f sc = absurd sc

@@ -90,7 +90,8 @@ module _ (P : Prog) {Δ : List VarId} {ρ : Renaming} {Γ : Context} {m : ℕ} {
       let same : right ≡ true → Γ ≡ new ++ (b ∷ []) = same_context-sound Γ (new ++ (b ∷ [])) in (
         at (Switch b'.var ty (linearize_clauses cs false ρ new m).0) (zip (ids new) part.0 ++ ((id_of b', a.0) ∷ [])) K',
         arrive₂ (linearize P) right Γ new (b' ∷ []) new (b ∷ []) _ l K' part.0 (a.0 ∷ []) (λ e. (same e, ap (λ (r : ContextBinding). new ++ (r ∷ [])) (kept-var right b (ids new) m₁ e))) f.good.once
-            (fresh-var-distinct right Γ new b m₁ same f.good.once (part-good f sel).once (λ x h. le_trans ((part-good f sel).up_to x h) (linearize_clauses-grows cs false ρ new m))) refl refl f.ordered part.1
+            (fresh-var-distinct right Γ new b m₁ same f.good.once (part-good f sel).once
+            (λ x h. le_trans ((part-good f sel).up_to x h) (linearize_clauses-grows cs false ρ new m))) refl refl f.ordered part.1
             (ap (λ (y : VarId). lookup y l) (rename-id ρ var) ∙ a.2, tt),
         work-Switch P K K' cells var ty cs b'.var a.0 (narrow f sel (λ x h. inr h) (λ x h. rename_ids_in ρ x (free_vars_clauses cs) h) part.0 part.1) sc.1 a.1,
       )

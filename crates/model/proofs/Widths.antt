@@ -1,12 +1,13 @@
 -- Under question 7 a context that a statement is linearized in is no longer than the scope there, so at most 64, and every count in the
 -- output is at most 128: what passes 7 gives what passes 4. Assumes nothing.
-use mathlib.Core.Path.{◌≡◌, refl, sym, ap, subst}
+use mathlib.Core.Path.{◌≡◌, refl, ap}
 use mathlib.Core.Bool.{Bool, true, false, cond, false≢true}
 use mathlib.Core.List.{List, [], ◌∷◌, ◌++◌}
 use Prim.Native.Nat.{ℕ, suc, ◌+◌, ◌≤◌}
 use native.Mathlib.Nat.{le_trans}
 use native.Mathlib.Omega.{arith}
-use lib.Dec.{T, leb, leb→le}
+use borrow.Author.Tests.{leb-true}
+use lib.Dec.{leb}
 use lib.ListN.{length, length-append, length-map}
 use Rattle.syntax.specs.Context.{Context, ids, vars, id_of, same_context}
 use Rattle.syntax.specs.Filter.{filter_by_set_lem}
@@ -52,12 +53,9 @@ unfolding arrange widest
 arrange-widest true T W s h k = k
 arrange-widest false T W s h k = omega (arith, zip-fewer T (vars W), length-map W (λ (b : ContextBinding). b.var))
 
-pub leb_says : (a b : ℕ) → leb a b ≡ true → a ≤ b
-leb_says a b e = leb→le a b (subst T (sym e) tt)
-
 -- what 7 says at a statement, and of binders
 pub small-says : (Δ : List VarId) (s : Stmt) → small Δ s ≡ true → (count s ≤ 32) × (length Δ ≤ 64)
-small-says Δ s e = let p = both_true (leb (count s) 32) (leb (length Δ) 64) e in (leb_says (count s) 32 p.0, leb_says (length Δ) 64 p.1)
+small-says Δ s e = let p = both_true (leb (count s) 32) (leb (length Δ) 64) e in (leb-true (count s) 32 p.0, leb-true (length Δ) 64 p.1)
 
 sized-clauses : (cs : Clauses) (before : Bool) (ρ : Renaming) (Γ : Context) (m : ℕ) → count_clauses (linearize_clauses cs before ρ Γ m).0 ≡ count_clauses cs
 unfolding linearize_stmt
@@ -75,9 +73,12 @@ longer N b Δ x h = omega (arith, length-append N (b ∷ []))
 mutual
   unfolding linearize_stmt widest Asked
 
-  pub linearize_stmt-widest : (s : Stmt) (Δ : List VarId) → Asked s plain any_binders Δ → Asked s small small_binders Δ → (ρ : Renaming) (Γ : Context) (m : ℕ) → length Γ ≤ length Δ → widest (linearize_stmt s ρ Γ m).0 ≤ 128
+  pub linearize_stmt-widest : (s : Stmt) (Δ : List VarId) → Asked s plain any_binders Δ → Asked s small small_binders Δ → (ρ : Renaming) (Γ : Context) (m : ℕ)
+      → length Γ ≤ length Δ → widest (linearize_stmt s ρ Γ m).0 ≤ 128
   linearize_stmt-widest (Substitute ps next) Δ p a ρ Γ m h = absurd (false≢true p.0)
-  linearize_stmt-widest (Call label args) Δ p a ρ Γ m h = let q = small-says Δ (Call label args) a in arrange-widest _ _ (rename_context ρ args) (Call label []) (omega (arith, length-map args (rename_binding ρ))) (omega arith)
+  linearize_stmt-widest (Call label args) Δ p a ρ Γ m h =
+      let q = small-says Δ (Call label args) a in
+      arrange-widest _ _ (rename_context ρ args) (Call label []) (omega (arith, length-map args (rename_binding ρ))) (omega arith)
   linearize_stmt-widest (Let var ty tag args₀ next) Δ p a ρ Γ m h =
       let q = small-says Δ (Let var ty tag args₀ next) a.0 in
       let args = rename_context ρ args₀ in
@@ -85,7 +86,8 @@ mutual
       let right = same_context Γ (new ++ args) in
       let k : length new ≤ length Δ = le_trans (filter-fewer (rename_ids ρ (free_vars next)) Γ) h in
       let ih = linearize_stmt-widest next (var.id ∷ Δ) p.2 a.2 ρ (new ++ (bind var Prd ty ∷ [])) (freshen_unless_lem right args (ids new) m).1 (longer new (bind var Prd ty) Δ var.id k) in
-      arrange-widest right _ (new ++ args) _ (omega (arith, length-append new args, length-map args₀ (rename_binding ρ))) (omega (arith, unless-length right args (ids new) m, length-map args₀ (rename_binding ρ)))
+      arrange-widest right _ (new ++ args) _ (omega (arith, length-append new args, length-map args₀ (rename_binding ρ)))
+      (omega (arith, unless-length right args (ids new) m, length-map args₀ (rename_binding ρ)))
   linearize_stmt-widest (Switch var ty cs) Δ p a ρ Γ m h =
       let q = small-says Δ (Switch var ty cs) a.0 in
       let new = filter_by_set_lem (rename_ids ρ (free_vars_clauses cs)) Γ in
@@ -104,7 +106,8 @@ mutual
       let kE : length env ≤ length Δ = le_trans (env_fewer (rename_ids ρ (free_vars_clauses cs)) (length N) Γ) h in
       let kT : length T ≤ length Δ = omega (arith, unless-length right N (ids env) m₁) in
       let ihC = linearize_clauses-widest cs Δ p.1 a.1 true ρ env m kE in
-      let ihN = linearize_stmt-widest next (var.id ∷ Δ) p.3 a.3 (rename_unless right ρ (renaming N T)) (T ++ (bind var Cns ty ∷ [])) (freshen_unless_lem right N (ids env) m₁).1 (longer T (bind var Cns ty) Δ var.id kT) in
+      let ihN = linearize_stmt-widest next (var.id ∷ Δ) p.3 a.3 (rename_unless right ρ (renaming N T)) (T ++ (bind var Cns ty ∷ []))
+      (freshen_unless_lem right N (ids env) m₁).1 (longer T (bind var Cns ty) Δ var.id kT) in
       arrange-widest right _ (N ++ env) _ (omega (arith, length-append N env)) (omega (arith, sized-clauses cs true ρ env m))
   linearize_stmt-widest (Invoke var tag ty args₀) Δ p a ρ Γ m h =
       let q = small-says Δ (Invoke var tag ty args₀) a in
@@ -122,7 +125,8 @@ mutual
       let new = filter_by_set_lem Z Γ in
       let k : length new ≤ length Δ = le_trans (filter-fewer Z Γ) h in
       arrange-widest (same_context Γ new) new new _ (omega arith) (linearize_stmt-widest next (var.id ∷ Δ) p.2 a.2 ρ (new ++ (bind var Ext I64 ∷ [])) m (longer new (bind var Ext I64) Δ var.id k))
-  linearize_stmt-widest (IfC sort fst snd thenc elsec) Δ p a ρ Γ m h = omega (arith, linearize_stmt-widest thenc Δ p.1 a.1 ρ Γ m h, linearize_stmt-widest elsec Δ p.2 a.2 ρ Γ (linearize_stmt thenc ρ Γ m).1 h)
+  linearize_stmt-widest (IfC sort fst snd thenc elsec) Δ p a ρ Γ m h =
+      omega (arith, linearize_stmt-widest thenc Δ p.1 a.1 ρ Γ m h, linearize_stmt-widest elsec Δ p.2 a.2 ρ Γ (linearize_stmt thenc ρ Γ m).1 h)
   linearize_stmt-widest (PrintI64 newline var next) Δ p a ρ Γ m h =
       let q = small-says Δ (PrintI64 newline var next) a.0 in
       let Z = (rename ρ var).id ∷ rename_ids ρ (free_vars next) in
@@ -131,11 +135,12 @@ mutual
       arrange-widest (same_context Γ new) new new _ (omega arith) (linearize_stmt-widest next Δ p.1 a.1 ρ new m k)
   linearize_stmt-widest (Exit var) Δ p a ρ Γ m h = omega arith
 
-  pub linearize_clauses-widest : (cs : Clauses) (Δ : List VarId) → AskedClauses cs plain any_binders Δ → AskedClauses cs small small_binders Δ → (before : Bool) (ρ : Renaming) (Γ : Context) (m : ℕ) → length Γ ≤ length Δ → widest_clauses (linearize_clauses cs before ρ Γ m).0 ≤ 128
+  pub linearize_clauses-widest : (cs : Clauses) (Δ : List VarId) → AskedClauses cs plain any_binders Δ → AskedClauses cs small small_binders Δ
+      → (before : Bool) (ρ : Renaming) (Γ : Context) (m : ℕ) → length Γ ≤ length Δ → widest_clauses (linearize_clauses cs before ρ Γ m).0 ≤ 128
   linearize_clauses-widest end Δ p a before ρ Γ m h = omega arith
   linearize_clauses-widest (clause xtor context body rest) Δ p a before ρ Γ m h =
       let Γ' = cond before (context ++ Γ) (Γ ++ context) in
-      let c : length context ≤ 32 = omega (arith, leb_says (length (ids context)) 32 a.0, length-map context id_of) in
+      let c : length context ≤ 32 = omega (arith, leb-true (length (ids context)) 32 a.0, length-map context id_of) in
       let k : length Γ' ≤ length (ids context ++ Δ) = omega (arith, joined_length before context Γ, length-append (ids context) Δ, length-map context id_of) in
       omega (arith, linearize_stmt-widest body (ids context ++ Δ) p.1 a.1 ρ Γ' m k, linearize_clauses-widest rest Δ p.2 a.2 before ρ Γ (linearize_stmt body ρ Γ' m).1 h)
 
@@ -146,16 +151,20 @@ linearize_defs-widest (d ∷ ds) m p a =
     let Δ = ids d.context in
     let pp = both_true (asked d.body plain any_binders Δ) (asked_defs ds plain any_binders) p in
     let pa = three (small_binders [] Δ) (asked d.body small small_binders Δ) (asked_defs ds small small_binders) a in
-    let c : length d.context ≤ 32 = omega (arith, leb_says (length Δ) 32 pa.0, length-map d.context id_of) in
+    let c : length d.context ≤ 32 = omega (arith, leb-true (length Δ) 32 pa.0, length-map d.context id_of) in
     let k : length d.context ≤ length Δ = omega (arith, length-map d.context id_of) in
-    omega (arith, linearize_stmt-widest d.body Δ (answered d.body plain any_binders Δ pp.0) (answered d.body small small_binders Δ pa.1) no_renaming d.context m k, linearize_defs-widest ds (linearize_stmt d.body no_renaming d.context m).1 pp.1 pa.2)
+    omega (
+      arith,
+      linearize_stmt-widest d.body Δ (answered d.body plain any_binders Δ pp.0) (answered d.body small small_binders Δ pa.1) no_renaming d.context m k,
+      linearize_defs-widest ds (linearize_stmt d.body no_renaming d.context m).1 pp.1 pa.2,
+    )
 
 -- of an accepted program: at most 4,000 records, 128 statements deep, counts 128
 pub linearized-readable : (P : Prog) → Accepted P → (records_defs (linearize P).defs ≤ 4000) × (depth_defs (linearize P).defs ≤ 128) × (widest_defs (linearize P).defs ≤ 128)
 unfolding linearize
 linearized-readable P a =
     let q = three (leb (records_defs P.defs) 2000) (leb (depth_defs P.defs) 64) (asked_defs P.defs small small_binders) a.seven in (
-      omega (arith, linearize-records P, leb_says (records_defs P.defs) 2000 q.0),
-      omega (arith, linearize-depth P, leb_says (depth_defs P.defs) 64 q.1),
+      omega (arith, linearize-records P, leb-true (records_defs P.defs) 2000 q.0),
+      omega (arith, linearize-depth P, leb-true (depth_defs P.defs) 64 q.1),
       linearize_defs-widest P.defs P.max_id a.six q.2,
     )

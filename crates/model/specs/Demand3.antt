@@ -1,7 +1,7 @@
 -- Demand 3, as one claim about the two runs.
 -- document 01, "The two machines": Demand 3 is one claim about these runs from their start, not one for each statement or step.
 use Rattle.std.specs.Prelude.{ℕ, ◌+◌, ◌*◌, ◌≤◌, ◌≡◌, ◌⊎◌, ◌≢◌, List, length}
-use Rattle.std.proofs.Math.Option.{Option, some}
+use Rattle.std.proofs.Math.Option.{some}
 use Rattle.model.specs.Syntax.{Prog}
 use Rattle.model.specs.Pass.{linearize}
 use Rattle.model.specs.Machine.{State, Event, Outcome, silent, halts, stops, run, Given, Start, begun, no_start}

@@ -2,7 +2,7 @@
 use Rattle.std.specs.Prelude.{cond, List, [], ◌∷◌, ◌++◌, ltb}
 use Rattle.std.proofs.Math.Option.{Option, none, some}
 use Rattle.syntax.specs.Names.{same_var_id}
-use Rattle.syntax.specs.Context.{Context, ids}
+use Rattle.syntax.specs.Context.{ids}
 use Rattle.syntax.specs.Sets.{without}
 use Rattle.syntax.specs.declared.names.VarId.{VarId}
 use Rattle.syntax.specs.declared.names.Identifier.{Identifier}

@@ -12,7 +12,9 @@ use Rattle.model.specs.Syntax.{Stmt, Substitute, Call, Let, Switch, Create, Invo
 use Rattle.model.specs.Lists.{every, lookup, lookups, zip}
 use Rattle.model.specs.FreeVars.{optional_id}
 use Rattle.model.specs.Integers.{eval_op, holds}
-use Rattle.model.specs.Machine.{Value, int, cell, Entries, keys, values, Cells, xtor, closure, State, at, ended, Event, Literal', Op', IfC', PrintI64', Exit', Let', Create', Switch', Invoke', Call', Outside', Outcome, shows, silent, halts, stops, or_halt, nth, pair_up, find_def, find_clause_lem, as_int, second, matched, Target, out, clo, invoked, Given, value, Start, begun, no_start, stopped}
+use Rattle.model.specs.Machine.{Value, int, cell, Entries, keys, values, Cells, xtor, closure, State, at, ended, Event, Literal', Op', IfC', PrintI64', Exit'}
+use Rattle.model.specs.Machine.{Let', Create', Switch', Invoke', Call', Outside', Outcome, shows, silent, halts, stops, or_halt, nth, pair_up, find_def}
+use Rattle.model.specs.Machine.{find_clause_lem, as_int, second, matched, Target, out, clo, invoked, Given, value, Start, begun, no_start, stopped}
 
 module _ {A : Type 0} where
   -- the last k, and what stands before them

@@ -1,5 +1,5 @@
 -- What the two machines share: values, cells, states, events, outcomes of a step, lookups, runs and starts.
-use Rattle.std.specs.Prelude.{ℕ, zero, suc, Bool, true, false, cond, List, [], ◌∷◌, map, ℤ, pos}
+use Rattle.std.specs.Prelude.{ℕ, zero, suc, Bool, cond, List, [], ◌∷◌, map, ℤ, pos}
 use Rattle.std.proofs.Math.Option.{Option, none, some}
 use Rattle.syntax.specs.Names.{same_name}
 use Rattle.syntax.specs.Context.{Context}

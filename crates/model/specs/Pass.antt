@@ -2,8 +2,6 @@
 -- is carried along instead, and applied where a variable or an annotation is met, so that the recursion is on the tree as it is.
 -- (`Rust.antt` has the pass with Rust's `subst_sim`; `proofs/RustForm.antt` proves that they are the same.)
 use Rattle.std.specs.Prelude.{ℕ, Bool, true, false, List, [], ◌∷◌}
-use Rattle.syntax.specs.Context.{Context}
-use Rattle.syntax.specs.declared.names.Identifier.{Identifier}
 use Rattle.model.specs.Syntax.{Stmt, Clauses, Substitute, Call, Let, Switch, Create, Invoke, Literal, Op, IfC, PrintI64, Exit, end, clause, Def, Prog}
 use Rattle.model.specs.FreeVars.{free_vars, free_vars_clauses}
 use Rattle.model.specs.Renaming.{Renaming, no_renaming, rename, rename_option, rename_context, rename_ids, rename_unless}

@@ -1,13 +1,12 @@
 -- The rows of document 01, as rows of one table under one theorem: a to e of `syntax`, f to k, the lines below them, and the order of
 -- draws that "The Rust" states; and rows for print.rs and exit.rs (document 02, A.1).
 use Rattle.std.specs.Prelude.{ℕ, ◌≡◌, refl, true, false, List, [], ◌∷◌, ◌++◌, map}
-use Rattle.std.proofs.Math.Option.{Option, none, some}
+use Rattle.std.proofs.Math.Option.{none, some}
 use Rattle.syntax.specs.Context.{Context}
 use Rattle.syntax.specs.Filter.{retained, fill, filtered}
 use Rattle.syntax.specs.Fresh.{fresh, freshen}
 use Rattle.syntax.specs.Rows as context
 use Rattle.syntax.specs.Rows.{All, done, ◌&◌}
-use Rattle.syntax.specs.declared.names.Name.{Name}
 use Rattle.syntax.specs.declared.names.Identifier.{Identifier}
 use Rattle.syntax.specs.declared.types.Ty.{Ty}
 use Rattle.syntax.specs.declared.types.Ty.TheVariants.{I64, Decl}

@@ -78,7 +78,8 @@ rule_switch var ty linearize_clauses freeClauses Γ m =
     (arrange right (new ++ (xtor' ∷ [])) (new ++ (xtor ∷ [])) (Switch xtor'.var ty clauses), m₂)
 
 -- create.rs: `linearizeNext right σ` linearizes the next, renamed by σ unless the context is right
-abbrev pub rule_create : (var : Identifier) (ty : Ty) (linearize_clauses : Linearize Clauses) (freeClauses : List VarId) (linearizeNext : Bool → Renaming → Linearize Stmt) (freeNext : List VarId) → Linearize Stmt
+abbrev pub rule_create : (var : Identifier) (ty : Ty) (linearize_clauses : Linearize Clauses) (freeClauses : List VarId) (linearizeNext : Bool → Renaming → Linearize Stmt) (freeNext : List VarId)
+    → Linearize Stmt
 rule_create var ty linearize_clauses freeClauses linearizeNext freeNext Γ m =
     let contextNext = filter_by_set_lem freeNext Γ in
     let env = filter_by_set_lem freeClauses (move_behind_lem (length contextNext) Γ) in

@@ -1,9 +1,8 @@
 -- The pass in Rust's own form: statements annotated by `free_vars`, `subst_sim` on them, and `linearize` of the renamed next.
 -- That recursion is not on a part of the statement, so it goes by how deep the statement is.
 use Rattle.std.specs.Prelude.{ℕ, zero, suc, Bool, true, false, List, [], ◌∷◌, ℤ}
-use Rattle.std.proofs.Math.Option.{Option, none, some}
-use Rattle.syntax.specs.Context.{Context, id_of}
-use Rattle.syntax.specs.Sets.{elem}
+use Rattle.std.proofs.Math.Option.{Option}
+use Rattle.syntax.specs.Context.{Context}
 use Rattle.syntax.specs.declared.names.VarId.{VarId}
 use Rattle.syntax.specs.declared.names.Identifier.{Identifier}
 use Rattle.syntax.specs.declared.types.Ty.{Ty}

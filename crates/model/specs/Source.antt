@@ -6,7 +6,9 @@ use Rattle.syntax.specs.declared.names.Name.{Name}
 use Rattle.model.specs.Syntax.{Stmt, Substitute, Call, Let, Switch, Create, Invoke, Literal, Op, IfC, PrintI64, Exit, Def, Prog}
 use Rattle.model.specs.Lists.{lookup, lookups}
 use Rattle.model.specs.Integers.{eval_op, holds}
-use Rattle.model.specs.Machine.{Value, int, cell, Entries, Cells, xtor, closure, State, at, ended, Literal', Op', IfC', PrintI64', Exit', Let', Create', Switch', Invoke', Call', Outside', Outcome, shows, halts, or_halt, nth, pair_up, find_def, find_clause_lem, as_int, second, matched, Target, out, clo, invoked, Given, value, Start, begun, no_start}
+use Rattle.model.specs.Machine.{Value, int, cell, Entries, Cells, xtor, closure, State, at, ended, Literal', Op', IfC', PrintI64', Exit', Let', Create'}
+use Rattle.model.specs.Machine.{Switch', Invoke', Call', Outside', Outcome, shows, halts, or_halt, nth, pair_up, find_def, find_clause_lem, as_int, second}
+use Rattle.model.specs.Machine.{matched, Target, out, clo, invoked, Given, value, Start, begun, no_start}
 
 -- Invoke runs the clause in it with the parameters added; of an outside number shows it, the tag and argument values, and ends the run
 unfoldable pub source_enter_lem : (end : State) (tag : Name) (args : List Value) → Cells → Target → Outcome

@@ -8,7 +8,8 @@ use lib.ListN.{length}
 use Rattle.model.specs.Syntax.{Def, Prog}
 use Rattle.model.specs.Pass.{linearize_defs, linearize}
 use Rattle.model.specs.Questions.{Accepted}
-use Rattle.model.proofs.Widths.{leb_says, linearized-readable}
+use borrow.Author.Tests.{leb-true}
+use Rattle.model.proofs.Widths.{linearized-readable}
 use Rattle.image_spec.specs.declared.Layout.{Layout}
 use Rattle.image_spec.specs.Layout.{layout1}
 use Rattle.image_spec.specs.Shape.{max_depth}
@@ -44,7 +45,7 @@ linearized-fits L P o a m h =
 
 -- .. of layout 1, whose IDs question 11 is about
 pub linearized-ok : (P : Prog) → ImageOk layout1 P → Accepted P → length (image layout1 (linearize P)) ≤ 65535 → ImageOk layout1 (linearize P)
-linearized-ok P o a h = linearized-fits layout1 P o a (omega (arith, leb_says (linearize P).max_id 65535 a.eleven)) h
+linearized-ok P o a h = linearized-fits layout1 P o a (omega (arith, leb-true (linearize P).max_id 65535 a.eleven)) h
 
 -- what is known of an answer with bytes
 pub record Output (s : List ℕ) (size : ℕ) (bytes : List ℕ) (m : ℕ) : Type 0 where

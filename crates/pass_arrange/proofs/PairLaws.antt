@@ -8,9 +8,7 @@ use borrow.Author.Tests.{ltb-true, ltb-false}
 use lib.Dec.{ltb}
 use lib.ListN.{length, get_or, set, length-append}
 use Rattle.syntax.specs.Context.{Context}
-use Rattle.syntax.specs.Arrays.{context_of, Holds}
 use Rattle.syntax.specs.declared.context.ContextBinding.{ContextBinding}
-use Rattle.syntax.specs.declared.context.TypingContext.{TypingContext}
 use Rattle.syntax_substitution.specs.Pairs.{pair_of}
 use Rattle.syntax_substitution.specs.declared.FlatPair.{FlatPair}
 use Rattle.syntax_substitution.proofs.Pairing.{Zipped, zipped-start, zipped-next}
@@ -20,13 +18,6 @@ use Rattle.pass_context.specs.Holding.{work_of, HoldsWork}
 use Rattle.pass_context.specs.declared.Held.{Held}
 use Rattle.pass_context.proofs.Stores.{joined-left, joined-right}
 use Rattle.pass_arrange.specs.Joined.{joined}
-use Rattle.pass_step.specs.Stepping.{Paired}
-use Rattle.pass_step.proofs.FreshLaws.{holds-count}
-
--- ── how many ──
-
-pub wanted-count : {targets wanted : TypingContext} → Paired targets wanted → length (context_of wanted) ≡ targets.len
-wanted-count p = sym (p.same ∙ p.wanted_count)
 
 -- ── one before the other ──
 
@@ -76,10 +67,6 @@ other_bool true false e = refl
 other_bool false true e = refl
 other_bool false false e = sym e
 
-pub place-most : (behind : Bool) (n : ℕ) {at : ℕ} → at ≡ cond behind n 0 → at ≤ n
-place-most true n e = omega (arith, e)
-place-most false n e = omega (arith, e)
-
 -- m targets stand at `to`, and k that are kept at `from`: what stands at i is a target where i is in front as they are, else it is kept
 pub at_target : (first : Bool) (m k from to i : ℕ) → from ≡ cond first m 0 → to ≡ cond (not first) k 0 → i < m + k → beq (ltb i (from + to)) first ≡ true → (to ≤ i) × (i - to < m)
 at_target true m k from to i e f h t = let a = ltb-true i (from + to) (same_bool _ true t) in (omega (arith, f), omega (arith, e, f, a))
@@ -90,10 +77,6 @@ at-kept true m k from to i e f h t = let a = ltb-false i (from + to) (other_bool
 at-kept false m k from to i e f h t = let a = ltb-true i (from + to) (other_bool _ false t) in (omega (arith, e), omega (arith, e, f, a))
 
 -- ── none, and one ──
-
--- structs that hold two lists of one length
-pub holds-paired : {c d : TypingContext} {Γ Δ : Context} → Holds c Γ → Holds d Δ → length Γ ≡ length Δ → length Γ ≤ 64 → Paired c d
-holds-paired h k e few = record { count = holds-count h; same = h.count ∙ e ∙ sym k.count; wanted_count = holds-count k; few = omega (arith, h.count, few) }
 
 -- with nothing behind it a list is as it was
 pub behind_none : (A : Context) {B : Context} → B ≡ [] → A ++ B ≡ A

@@ -1,15 +1,19 @@
 // A Substitute, where the context differs from the wanted list.
-ghost use Rattle.std.specs.Prelude.{◌≡◌, cond, [], ◌∷◌, ◌++◌};
+ghost use Rattle.std.specs.Prelude.{◌≡◌, ◌+◌, ◌<◌, ◌^◌, [], ◌∷◌, ◌++◌};
+ghost use Rattle.image_spec.specs.Records.{record_bytes, substitute};
+ghost use Rattle.image_write_parts.specs.Written.{Wrote};
+ghost use Rattle.syntax_substitution.specs.Pairs.{pairs_of};
 ghost use Rattle.pass_work_spec.specs.Work.{bindings};
 ghost use Rattle.pass_context.specs.Holding.{work_of};
 ghost use Rattle.syntax.specs.Arrays.{context_of};
 ghost use Rattle.pass_step_spec.specs.Steps.{arranged};
 ghost use Rattle.pass_arrange.specs.Joined.{joined};
-ghost use Rattle.pass_step.specs.Stepping.{RoomAt, Paired, Workable};
+ghost use Rattle.pass_step.specs.Stepping.{RoomAt};
 ghost use Rattle.pass_step.specs.Outputs.{ArrangesIn};
 ghost use Rattle.image_write_directory.specs.Outputs.{so_far};
 
 use image_write_directory::output::{Output, note};
+use image_write_parts::writer::Writer;
 use image_write_records::lists::{put_pair, put_substitute};
 use pass_context::Held;
 use syntax::context::{ContextBinding, TypingContext};
@@ -17,8 +21,9 @@ use syntax_substitution::{FlatPair, Substitution};
 
 // What is kept stays under its names.
 // `right`, here and below, is the answer of the Rust's `if context == context_rearrange`; the lists are there whatever it is.
+// (Each asks `right` first, here and below: no list is made or handed on where nothing is written.)
 pub fn arrange_kept(right: bool, kept: Held, output: &mut Output<'_, '_>)
-    requires { Workable kept 0 0 × RoomAt (so_far output.old) }
+    requires { RoomAt (so_far output.old) }
     ensures { ArrangesIn output.old output.new (arranged right (bindings (work_of kept)) (bindings (work_of kept))) }
 {
     if right {
@@ -29,15 +34,15 @@ pub fn arrange_kept(right: bool, kept: Held, output: &mut Output<'_, '_>)
 }
 
 // The context becomes the targets.
-// `targets` and `wanted`, here and below: the one is the other with fresh names, made by the statement, and each is also used alone; one
-// struct of both would copy them, which are more than 1 KB each.
+// `targets` and `wanted`, here and below: the one is the other with fresh names, made by the statement.
+// (No struct of both: each of four callers would make one for one call, and `arrange` would take it apart.)
 pub fn arrange_args(
     right: bool,
     targets: TypingContext,
     wanted: TypingContext,
     output: &mut Output<'_, '_>,
 )
-    requires { Paired targets wanted × RoomAt (so_far output.old) }
+    requires { (targets.len ≡ wanted.len) × RoomAt (so_far output.old) }
     ensures { ArrangesIn output.old output.new (arranged right (context_of targets) (context_of wanted)) }
 {
     if right {
@@ -55,7 +60,7 @@ pub fn arrange_closure(
     closure: ContextBinding,
     output: &mut Output<'_, '_>,
 )
-    requires { Paired targets wanted × RoomAt (so_far output.old) }
+    requires { (targets.len ≡ wanted.len) × RoomAt (so_far output.old) }
     ensures { ArrangesIn output.old output.new (arranged right (context_of targets ++ (closure ∷ [])) (context_of wanted ++ (closure ∷ []))) }
 {
     if right {
@@ -73,7 +78,7 @@ pub fn arrange_one(
     wanted: ContextBinding,
     output: &mut Output<'_, '_>,
 )
-    requires { Workable kept 0 0 × RoomAt (so_far output.old) }
+    requires { RoomAt (so_far output.old) }
     ensures { ArrangesIn output.old output.new (arranged right (bindings (work_of kept) ++ (target ∷ [])) (bindings (work_of kept) ++ (wanted ∷ []))) }
 {
     if right {
@@ -84,14 +89,18 @@ pub fn arrange_one(
     arrange(right, false, targets, sources, kept, output);
 }
 
-// Where a list stands that is put behind n others, or before them.
-fn place(behind: bool, n: usize) -> usize
-    ensures { result ≡ cond behind n 0 }
+// The record of a Substitute. (Its pairs are lent: by value they would be copied, decision 52.)
+fn put(writer: &mut Writer<'_>, all: &Substitution)
+    requires { writer.old.at + 4098 < 2 ^ 64 }
+    ensures { Wrote writer.old writer.new (record_bytes writer.old.id (substitute (pairs_of all.now))) }
 {
-    if behind { n } else { 0 }
+    put_substitute(writer, all.len);
+    for pair in &all.pairs[..all.len] {
+        put_pair(writer, *pair);
+    }
 }
 
-// The targets before what is kept, or behind it: a yes or no, for both lists are there and only their order is asked. The pairs are built and then written in one function: given to another they would be copied.
+// The targets before what is kept, or behind it: a yes or no, for both lists are there and only their order is asked.
 pub fn arrange(
     right: bool,
     targets_first: bool,
@@ -100,14 +109,17 @@ pub fn arrange(
     kept: Held,
     output: &mut Output<'_, '_>,
 )
-    requires { Paired targets wanted × (Workable kept 0 0 × RoomAt (so_far output.old)) }
+    requires { (targets.len ≡ wanted.len) × RoomAt (so_far output.old) }
     ensures { ArrangesIn output.old output.new (arranged right (joined targets_first (context_of targets) (bindings (work_of kept))) (joined targets_first (context_of wanted) (bindings (work_of kept)))) }
 {
     if right {
         return;
     }
-    let kept_at = place(targets_first, targets.len);
-    let targets_at = place(!targets_first, kept.len);
+    let (kept_at, targets_at) = if targets_first {
+        (targets.len, 0)
+    } else {
+        (0, kept.len)
+    };
     let front = kept_at + targets_at;
     let n = targets.len + kept.len;
     let none = FlatPair::empty();
@@ -115,6 +127,7 @@ pub fn arrange(
         pairs: [none; Substitution::MAX],
         len: n,
     };
+    // (By places, as `Held` says: `all` has ghost fields.)
     for i in 0..n {
         all.pairs[i] = if (i < front) == targets_first {
             let at = i - targets_at;
@@ -127,10 +140,6 @@ pub fn arrange(
         };
     }
     let start = output.writer.at;
-    let writer = &mut output.writer;
-    put_substitute(writer, n);
-    for j in 0..n {
-        put_pair(writer, all.pairs[j]);
-    }
+    put(&mut output.writer, &all);
     note(output, start);
 }

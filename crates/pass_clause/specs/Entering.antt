@@ -5,7 +5,7 @@ use Rattle.image_read_parts.specs.Parts.{list_of}
 use Rattle.pass_work_spec.specs.Work.{Work, owns}
 use Rattle.pass_step_spec.specs.Steps.{Step}
 
--- document 01, "The image": 1 definition, 11 clause
+-- document 01, "The image": 1 definition, 11 clause. (The two of `IsHead` in image_shape, of which nothing else is used here.)
 abbrev pub Enters : (kind : ℕ) → Type 0
 Enters kind = (kind ≡ 1) ⊎ (kind ≡ 11)
 

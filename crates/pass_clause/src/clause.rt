@@ -32,14 +32,10 @@ pub fn enter(
     put_headed(&mut output.writer, source.node.kind, record.name, params);
     note(output, start);
     let in_scope = here.in_scope + (params.len as u8);
-    if before {
-        return Working {
-            context: here.context.under(here.in_scope, params),
-            in_scope,
-        };
-    }
-    Working {
-        context: here.context.owns(here.in_scope, params),
-        in_scope,
-    }
+    let context = if before {
+        here.context.under(here.in_scope, params)
+    } else {
+        here.context.owns(here.in_scope, params)
+    };
+    Working { context, in_scope }
 }

@@ -5,11 +5,9 @@ use mathlib.Core.Path.{◌≡◌, refl, sym, ap, ◌∙◌, subst}
 use mathlib.Core.List.{List, ◌++◌, map}
 use Prim.Native.Nat.{ℕ, ◌+◌, ◌-◌, ◌≤◌, ◌<◌}
 use native.Mathlib.Omega.{arith}
-use native.Mathlib.Nat.{add-zero}
 use lib.ListN.{length, take, drop, get_or, set, length-set, length-append, length-map, get_or-map, get_or-append}
-use lib.Seq.{take_at, take-length, drop-drop, drop-set-lt, get_or-drop, get_or-take, get_or-append-add, length-take-le}
-use Rattle.syntax.proofs.Lists.{take_next, take-stored}
-use Rattle.syntax.proofs.Flats.{seen-set}
+use lib.Seq.{take_at, take-length, drop-drop, drop-set-lt, get_or-take, get_or-append-add, length-take-le}
+use Rattle.std.proofs.lemmas.List.{take_more, take_more_set, map-set}
 
 module _ {A : Type 0} where
   -- l₀ is the array as it was, l as it is; the first i are those of the whole
@@ -29,20 +27,13 @@ module _ {A : Type 0} where
       let q : length (take n l) ≡ n = length-take-le n l (omega arith) in
       record { size = h; within = omega (arith, length-append (take n l) more); below = omega (arith, length-append (take n l) more); front = sym (take_at (take n l) more n q); left = refl }
 
-  -- what is not yet done is as it was
-  pub built-reads : {whole l₀ l : List A} {room i : ℕ} (d : A) → Built whole l₀ l room i → get_or l i d ≡ get_or l₀ i d
-  built-reads {l₀ = l₀} {l = l} {i = i} d s = sym (at l) ∙ ap (λ (r : List A). get_or r 0 d) s.left ∙ at l₀
-    where
-      at : (k : List A) → get_or (drop i k) 0 d ≡ get_or k i d
-      at k = get_or-drop i k 0 d ∙ ap (λ (n : ℕ). get_or k n d) (add-zero i)
-
   -- the one at i is stored
   pub built-next : {whole l₀ l : List A} {room i : ℕ} (d a : A) → i < length whole → a ≡ get_or whole i d → Built whole l₀ l room i → Built whole l₀ (set l i a) room (i + 1)
   built-next {whole} {l₀} {l} {room} {i} d a h e s = record {
     size = rw length-set s.size;
     within = s.within;
     below = omega arith;
-    front = rw (take-stored l i a (omega (arith, s.size, s.within)), s.front, e, take_next whole i d h);
+    front = rw (take_more_set l i a (omega (arith, s.size, s.within)), s.front, e, take_more whole i d h);
     left = drop-set-lt (i + 1) l i a (omega arith) ∙ sym (drop-drop 1 i l) ∙ ap (drop 1) s.left ∙ drop-drop 1 i l₀;
   }
 
@@ -55,7 +46,7 @@ module _ {A : Type 0} where
 -- the array is seen through f, and the one at i is stored
 pub built-seen : {A B : Type 0} (f : A → B) (l : List A) {whole l₀ : List B} {room i : ℕ} (d : B) (a : A) → i < length whole → f a ≡ get_or whole i d →
     Built whole l₀ (map f l) room i → Built whole l₀ (map f (set l i a)) room (i + 1)
-built-seen {B = B} f l {whole} {l₀} {room} {i} d a h e s = subst (λ (k : List B). Built whole l₀ k room (i + 1)) (sym (seen-set f l i a)) (built-next d (f a) h e s)
+built-seen {B = B} f l {whole} {l₀} {room} {i} d a h e s = subst (λ (k : List B). Built whole l₀ k room (i + 1)) (sym (map-set f l i a)) (built-next d (f a) h e s)
 
 -- the images of an array's first n
 module _ {A B : Type 0} (f : A → B) where

@@ -1,46 +1,47 @@
 // The context at work: up to 64 entries by value with a count, and what the rules do to it.
 #![tactic(auto)]
 
-ghost use Rattle.std.specs.Prelude.{◌≡◌, map, ◌∷◌, [], ◌++◌, ◌+◌, ◌≤◌, ◌<◌};
-ghost use Rattle.syntax.specs.Context.{ids, same_context};
+ghost use Rattle.std.specs.Prelude.{◌≡◌, map, ◌∷◌, [], ◌++◌, ◌+◌, ◌≤◌, ◌<◌, length, get_or};
+ghost use Rattle.syntax.specs.Context.{empty_binding, ids, same_binding, same_context};
 ghost use Rattle.syntax.specs.Options.{option_of};
 ghost use Rattle.syntax.specs.Arrays.{context_of, Holds, SetHolds};
 ghost use Rattle.pass_work_spec.specs.Work.{bindings, entry_of, own, owns, used, used_all_lem, moved_behind, respelled};
-ghost use Rattle.pass_context.specs.Holding.{work_of, HoldsWork};
 ghost use Rattle.pass_entries.specs.Entries.{entry_in};
 ghost use Rattle.pass_entries.specs.Masks.{kept_by_mask, with_places_lem};
 
-use pass_entries::entries::{FlatEntry, flat, owned, respell, spelled, used_binding};
+use pass_entries::entries::{FlatEntry, owned, respell, spelled, used_binding};
 use pass_entries::masks::{bit, with_bit};
 use pass_work_spec::Entry;
 use syntax::context::{ContextBinding, TypingContext};
 use syntax::names::{Identifier, VarId};
 use syntax::sets::IdSet;
 
-// By value with a count, as `TypingContext`: nothing below the programs takes memory.
+// By value with a count, as `IdSet`, which says why: nothing below the programs takes memory.
+// (Below, what is written goes by places: of a part that is lent of a struct with a ghost field nothing is known after, so no slice of `out` is walked or
+// turned; and in a copy of the array 1 KB more would be moved.)
 #[derive(Clone, Copy)]
 pub struct Held {
     pub entries: [FlatEntry; TypingContext::MAX],
     pub len: usize,
+    pub ghost size: { length entries ≡ 64 },
+    pub ghost fits: { len ≤ 64 },
 }
 
 // The entry that stands for a variable of the source, if one does.
 fn entry_of(entries: &[FlatEntry], id: VarId) -> Option<Entry>
     ensures { option_of result ≡ entry_of id (map entry_in entries.now) }
 {
-    for e in entries {
-        if id == e.source {
-            return Some(e.entry());
-        }
-    }
-    None
+    let e = entries.iter().find(|e| id == e.source)?;
+    Some(e.entry())
 }
 
 impl Held {
+    ghost use Rattle.pass_context.specs.Holding.{work_of, HoldsWork};
+
     pub fn empty() -> Self
         ensures { HoldsWork result [] }
     {
-        let none = flat(Entry {
+        let none = FlatEntry::from(Entry {
             binding: ContextBinding::empty(),
             source: VarId(0),
             place: 0,
@@ -59,29 +60,23 @@ impl Held {
     {
         let at = self.len;
         let mut next = self;
-        next.entries[at] = flat(owned(n, b));
+        next.entries[at] = FlatEntry::from(owned(n, b));
         next.len = at + 1;
         next
     }
 
     // The mask with the places of the entries that stand for two variables.
     pub fn with_places(self, mask: u64, fst: VarId, snd: VarId) -> u64
-        requires { self.len ≤ 64 }
         ensures { result ≡ with_places_lem fst snd (work_of self) mask }
     {
-        let mut places = mask;
-        for i in 0..self.len {
-            let e = self.entries[i];
-            if e.source == fst || e.source == snd {
-                places = with_bit(places, e.place);
-            }
-        }
-        places
+        self.entries[..self.len]
+            .iter()
+            .filter(|e| e.source == fst || e.source == snd)
+            .fold(mask, |m, e| with_bit(m, e.place))
     }
 
     // Keeps the entries whose places are in the mask. One that goes gives its place to the last, which is looked at next.
     pub fn filter_by_set(self, mask: u64) -> Self
-        requires { self.len ≤ 64 }
         ensures { HoldsWork result (kept_by_mask mask (work_of self)) }
     {
         let mut out = self;
@@ -102,7 +97,6 @@ impl Held {
     }
 
     pub fn context(self) -> TypingContext
-        requires { self.len ≤ 64 }
         ensures { Holds result (bindings (work_of self)) }
     {
         let mut out = TypingContext::empty();
@@ -115,7 +109,6 @@ impl Held {
 
     // The IDs of the bindings.
     pub fn ids(self) -> IdSet
-        requires { self.len ≤ 64 }
         ensures { SetHolds result (ids (bindings (work_of self))) }
     {
         let mut out = IdSet::empty();
@@ -128,7 +121,6 @@ impl Held {
 
     // What a use of a variable of the source is written as.
     pub fn used(self, x: Identifier) -> Identifier
-        requires { self.len ≤ 64 }
         ensures { result ≡ used (work_of self) x }
     {
         match entry_of(&self.entries[..self.len], x.id) {
@@ -139,7 +131,6 @@ impl Held {
 
     // The arguments as they are written.
     pub fn used_all(self, args: TypingContext) -> TypingContext
-        requires { (self.len ≤ 64) × (args.len ≤ 64) }
         ensures { Holds result (used_all_lem (work_of self) (context_of args)) }
     {
         let mut out = args;
@@ -153,33 +144,37 @@ impl Held {
         out
     }
 
+    // Is the binding at place i that of the two contexts, one behind the other?
+    fn same_at(&self, front: &TypingContext, back: &TypingContext, i: usize) -> bool
+        requires { (i < self.now.len) × (self.now.len ≡ front.now.len + back.now.len) }
+        ensures { result ≡ same_binding (get_or (bindings (work_of self.now)) i empty_binding) (get_or (context_of front.now ++ context_of back.now) i empty_binding) }
+    {
+        let k = front.len;
+        let a = self.entries[i].flat_binding();
+        let b = if i < k {
+            front.bindings[i]
+        } else {
+            back.bindings[i - k]
+        };
+        a.binding() == b.binding()
+    }
+
     // Are the bindings those of the two contexts, one behind the other? No `==`: the two sides are of different types, and the right one is two.
+    // (By places: of a `zip` with a `chain` of the two, tried, it was not proved that what stands at a place is the same.)
+    // (Callers compare the counts first: no context is made where they differ.)
     pub fn same(self, front: TypingContext, back: TypingContext) -> bool
-        requires { (self.len ≤ 64) × ((front.len ≤ 64) × (back.len ≤ 64)) }
         ensures { result ≡ same_context (bindings (work_of self)) (context_of front ++ context_of back) }
     {
         let n = self.len;
-        let k = front.len;
-        if n != k + back.len {
+        if n != front.len + back.len {
             return false;
         }
-        for i in 0..n {
-            let a = self.entries[i].flat_binding();
-            let b = if i < k {
-                front.bindings[i]
-            } else {
-                back.bindings[i - k]
-            };
-            if a.binding() != b.binding() {
-                return false;
-            }
-        }
-        true
+        (0..n).all(|i| self.same_at(&front, &back, i))
     }
 
     // The first j entries behind the others.
     pub fn move_behind(self, j: usize) -> Self
-        requires { (self.len ≤ 64) × (j ≤ self.len) }
+        requires { j ≤ self.len }
         ensures { HoldsWork result (moved_behind j (work_of self)) }
     {
         let n = self.len;
@@ -203,7 +198,7 @@ impl Held {
         let mut out = self;
         for i in 0..params.len {
             let b = params.bindings[i];
-            out.entries[self.len + i] = flat(owned(n + i as u8, b.binding()));
+            out.entries[self.len + i] = FlatEntry::from(owned(n + i as u8, b.binding()));
         }
         out.len = self.len + params.len;
         out
@@ -221,7 +216,7 @@ impl Held {
             out.entries[i] = if i < k {
                 let b = params.bindings[i];
                 let place = n + i as u8;
-                flat(owned(place, b.binding()))
+                FlatEntry::from(owned(place, b.binding()))
             } else {
                 self.entries[i - k]
             };
@@ -232,13 +227,13 @@ impl Held {
 
     // The entries under other bindings, one by one.
     pub fn respelled(self, names: TypingContext) -> Self
-        requires { (self.len ≤ 64) × (names.len ≡ self.len) }
+        requires { names.len ≡ self.len }
         ensures { HoldsWork result (respelled (work_of self) (context_of names)) }
     {
         let mut out = self;
         for i in 0..self.len {
             let b = names.bindings[i];
-            out.entries[i] = flat(respell(self.entries[i].entry(), b.binding()));
+            out.entries[i] = FlatEntry::from(respell(self.entries[i].entry(), b.binding()));
         }
         out
     }

@@ -105,7 +105,7 @@ module _ {g : Frame} {s rows : List ℕ} {width i : ℕ} {p : Progress} (h : Def
   def-workable o =
       let b = (here-fits one.body _ _ _ h.fits.0).room in
       let e = ap (λ (r : Record). length (list_of r)) is_definition in
-      record { count = o.count ∙ sym (ap length o.list); room = omega (arith, o.count, b, e); places = omega (arith, b, e) }
+      record { room = omega (arith, o.count, b, e); places = omega (arith, b, e) }
 
   -- its record is written, and its parameters are the context
   module _ {none : Held} (o : HoldsWork none []) {out out₁ lengths lengths₁ : List ℕ} {st : Stepped}

@@ -3,6 +3,7 @@ ghost use Rattle.std.specs.Prelude.{◌+◌, ◌∷◌, [], length};
 ghost use Rattle.image_directory.specs.Images.{records_of};
 ghost use Rattle.image_spec.specs.Shape.{flatten_defs};
 ghost use Rattle.image_write_directory.specs.Outputs.{so_far};
+ghost use Rattle.scope_spec.specs.Pairs.{masks_of};
 ghost use Rattle.pass_work_spec.specs.Work.{work_defs};
 ghost use Rattle.pass_walk.specs.Outputs.{LinearizedIn};
 ghost use Rattle.pass_definitions.specs.Defining.{def_at, DefsAhead};
@@ -20,8 +21,11 @@ use pass_walk::walk::statement;
 
 // The definition at index i. The index behind it is answered.
 pub fn definition(source: &Source<'_>, i: usize, output: &mut Output<'_, '_>) -> usize
-    requires { DefsAhead source.now.image.frame source.now.image.bytes.now source.now.rows.now output.old.writer.id 1 i (so_far output.old) (def_at (records_of source.now.image) i ∷ []) }
-    ensures { LinearizedIn output.old output.new result (i + length (flatten_defs (def_at (records_of source.now.image) i ∷ []))) (flatten_defs (work_defs (def_at (records_of source.now.image) i ∷ []) output.old.max_id).0) (work_defs (def_at (records_of source.now.image) i ∷ []) output.old.max_id).1 }
+    requires { let image = source.now.image in
+        DefsAhead image.frame image.bytes.now (masks_of source.now.rows.now) output.old.writer.id 1 i (so_far output.old) (def_at (records_of image) i ∷ []) }
+    ensures { let part = def_at (records_of source.now.image) i ∷ [] in
+        let done = work_defs part output.old.max_id in
+        LinearizedIn output.old output.new result (i + length (flatten_defs part)) (flatten_defs done.0) done.1 }
 {
     let node = RecordAt {
         image: source.image,

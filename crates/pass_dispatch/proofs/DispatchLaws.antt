@@ -124,7 +124,6 @@ settled-leaves {w} {n} {r = r} {W} {out} {out'} {lengths} {lengths'} {p} {q} e h
 switch-sees : {v t n w clauses next W p r : _} → OpensAs w (switch v t n) clauses 0 W p r → OpensAs w (switch v t n) clauses next W p r
 unfolding front_bytes front_records right_of wanted tail_size
 switch-sees {W = W} h = record {
-  workable = h.workable;
   opens = λ fc fn x _. let o = h.opens fc [] x (says_none W) in record { context = o.context; right = o.right; at = o.at; count = o.count; max_id = o.max_id };
 }
 

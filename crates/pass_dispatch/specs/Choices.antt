@@ -1,5 +1,9 @@
--- Which statements without clauses the two steps are for.
-use Rattle.std.specs.Prelude.{ℕ, ◌≡◌, Bool, true, ◌||◌, eqb}
+-- Which statements each of the three steps is for.
+use Rattle.std.specs.Prelude.{ℕ, ◌≡◌, ◌≤◌, Bool, true, ◌||◌, eqb}
+
+-- document 01, "The image": 5 Switch, 6 Create. Its clauses come before its step.
+abbrev pub HasClauses : (kind : ℕ) → Type 0
+HasClauses k = (5 ≤ k) × (k ≤ 6)
 
 -- document 01, "The image": 4 Let, 8 Literal, 9 Op; document 02, A.1: 12 PrintI64. It goes on with its next, in a context of its own.
 abbrev pub proceeds : (kind : ℕ) → Bool

@@ -1,5 +1,6 @@
 // The statement at hand, by its kind.
-ghost use Rattle.std.specs.Prelude.{◌≤◌, length};
+// (A function for each statement, in its file of the Rust's name, and no trait over them: each asks of its own kind.)
+ghost use Rattle.std.specs.Prelude.{length};
 ghost use Rattle.image_kinds.specs.Codes.{code_of};
 ghost use Rattle.image_places_spec.specs.Views.{binders};
 ghost use Rattle.image_read_parts.specs.Recorded.{record_in};
@@ -8,7 +9,7 @@ ghost use Rattle.pass_entries.specs.Masks.{InPlaces};
 ghost use Rattle.pass_context.specs.Holding.{work_of};
 ghost use Rattle.pass_step.specs.Stepping.{RoomAt, Workable};
 ghost use Rattle.pass_step.specs.Outputs.{StepsFor, LeavesFor, OpensFor};
-ghost use Rattle.pass_dispatch.specs.Choices.{Proceeds, Settles};
+ghost use Rattle.pass_dispatch.specs.Choices.{HasClauses, Proceeds, Settles};
 
 use image_kinds::kinds::Kind;
 use image_write_directory::output::Output;
@@ -24,7 +25,8 @@ use pass_statement_op::op;
 use pass_statement_print::print;
 use pass_statement_switch::switch;
 use pass_step::source::SourceRecord;
-use pass_step::working::{FreeVars, Opened, Working};
+use pass_step::working::{Opened, Working};
+use scope_spec::FreeVars;
 
 // What comes before the clauses of a Switch or a Create. (Here and below the last arm is `_`: named, it would need one more arm that cannot come.)
 pub fn open(
@@ -33,7 +35,7 @@ pub fn open(
     context: &Held,
     output: &mut Output<'_, '_>,
 ) -> Opened
-    requires { (5 ≤ code_of source.now.node.kind) × ((code_of source.now.node.kind ≤ 6) × (Workable context.now 0 0 × RoomAt (so_far output.old))) }
+    requires { HasClauses (code_of source.now.node.kind) × RoomAt (so_far output.old) }
     ensures { OpensFor output.old output.new (record_in source.now.node) free_vars.clauses free_vars.next context.now result }
 {
     match source.node.kind {

@@ -28,9 +28,6 @@ pub marked-past : (mask w p : ℕ) → mask < 2 ^ w → w ≤ p → marked mask 
 unfolding marked
 marked-past mask w p h k = ap (λ (n : ℕ). eqb (n % 2) 1) (div-eq_of_lt (lt_of_lt_of_le h (pow_mono k)))
 
-pub kept-by_mask : {mask : ℕ} {Δ s : List VarId} {W : Work} → Placed Δ W → Marks mask Δ s → kept_by_mask mask W ≡ kept s W
-kept-by_mask {mask} {Δ} {s} p m = kept-by-place p s (marked mask) m.bits
-
 pub mask_fewer : (mask : ℕ) (W : Work) → length (kept_by_mask mask W) ≤ length W
 mask_fewer mask W = filtered-fewer (in_mask mask) W
 

@@ -40,7 +40,8 @@ abbrev pub with_places_lem : (fst snd : VarId) → Work → (mask : ℕ) → ℕ
 with_places_lem fst snd [] mask = mask
 with_places_lem fst snd (e ∷ W) mask = with_places_lem fst snd W (cond (is_either fst snd e) (with_bit_lem mask e.place) mask)
 
--- the places of the entries tell their sources, and a mask has a bit for each. (No field of `Held`: a context is built entry by entry, and only what reads masks asks it.)
+-- the places of the entries tell their sources, and a mask has a bit for each. (No field of `Held`: a context is built entry by entry, and only what reads
+-- masks asks it.)
 pub record InPlaces (W : Work) : Type 0 where
   pub scope : List VarId
   pub placed : Placed scope W

@@ -18,29 +18,32 @@ pub struct FlatEntry {
     pub name: Name,
     pub ty_name: Name,
     pub chi: Chirality,
-    // Whether the type is declared. I64 has no identifier. A flag and no Option: 16 bytes and not 24, measured (docs/SPEED.md).
+    // Whether the type is declared. I64 has no identifier. A flag and no Option: 20 bytes and not 28 (decision 51).
     pub declared: bool,
     pub place: u8,
     pub spelled: bool,
 }
 
-pub fn flat(e: Entry) -> FlatEntry
-    ensures { entry_in result ≡ e }
-{
-    let b = e.binding.flat();
-    FlatEntry {
-        id: b.id,
-        source: e.source,
-        ty_id: b.ty_id,
-        name: b.name,
-        ty_name: b.ty_name,
-        chi: b.chi,
-        declared: b.declared,
-        place: e.place,
-        spelled: e.spelled,
+impl From<Entry> for FlatEntry {
+    ghost from_gives = { λ e flat. entry_in flat ≡ e };
+
+    fn from(e: Entry) -> Self {
+        let b = e.binding.flat();
+        FlatEntry {
+            id: b.id,
+            source: e.source,
+            ty_id: b.ty_id,
+            name: b.name,
+            ty_name: b.ty_name,
+            chi: b.chi,
+            declared: b.declared,
+            place: e.place,
+            spelled: e.spelled,
+        }
     }
 }
 
+// (Methods and no `From`, as `ContextBinding::flat`: both stand in chains, as `self.flat_binding().binding()`.)
 impl FlatEntry {
     pub fn flat_binding(self) -> FlatBinding
         ensures { result ≡ flat_of self }
@@ -80,8 +83,7 @@ pub fn used_binding(e: Entry, b: ContextBinding) -> ContextBinding
 {
     ContextBinding {
         var: spelled(e, b.var),
-        chi: b.chi,
-        ty: b.ty,
+        ..b
     }
 }
 
@@ -103,8 +105,7 @@ pub fn respell(e: Entry, b: ContextBinding) -> Entry
 {
     Entry {
         binding: b,
-        source: e.source,
-        place: e.place,
         spelled: true,
+        ..e
     }
 }

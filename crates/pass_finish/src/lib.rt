@@ -4,7 +4,6 @@
 ghost use Rattle.std.specs.Prelude.{◌+◌, ◌-◌, ◌≤◌, ◌<◌, ◌≡◌, length, take, drop};
 ghost use Rattle.std.proofs.lemmas.List.Edits.{sets};
 ghost use Rattle.image_spec.specs.Layout.{body_at};
-ghost use Rattle.image_open.specs.Opening.{Known};
 ghost use Rattle.pass_finish.specs.Finishing.{heading, Clears, Finishable, Finishes, Same};
 ghost use Rattle.image_write_directory.specs.Outputs.{so_far, Keeps};
 
@@ -13,16 +12,6 @@ use image_write_bytes::bytes::{clear, move_up};
 use image_write_directory::directory::{put_directory, put_header};
 use image_write_directory::output::Output;
 use image_write_parts::writer::Writer;
-
-// Where the records of an image of n records begin.
-fn body_at(layout: Layout, n: usize) -> usize
-    requires { Known layout × (n < 65536) }
-    ensures { result ≡ body_at layout n }
-{
-    let id = layout.id;
-    let place = layout.place;
-    2 + (2 + (id + place)) + n * (place + place)
-}
 
 // Sets the whole buffer to zero.
 fn refuse(writer: &mut Writer<'_>, question: Refusal) -> Answer
@@ -44,12 +33,16 @@ fn shift(writer: &mut Writer<'_>, start: usize, size: usize, by: usize)
 // Moves the records from `start` up to their place, and writes the header and the directory before them.
 fn complete(output: &mut Output<'_, '_>, layout: Layout, defs: usize, start: usize)
     requires { Finishable layout output.old.lengths.now defs start (so_far output.old) × (body_at layout output.old.count + (output.old.writer.at - start) ≤ length output.old.writer.out.now) }
-    ensures { (output.new.writer.out.now ≡ sets (sets output.old.writer.out.now (body_at layout output.old.count) (take (output.old.writer.at - start) (drop start output.old.writer.out.now))) 0 (heading layout defs output.old.max_id output.old.count (take output.old.count output.old.lengths.now))) × Keeps output.old output.new }
+    ensures { let body = body_at layout output.old.count in
+        let before = output.old.writer.out.now in
+        let records = take (output.old.writer.at - start) (drop start before) in
+        (output.new.writer.out.now ≡ sets (sets before body records) 0 (heading layout defs output.old.max_id output.old.count (take output.old.count output.old.lengths.now)))
+        × Keeps output.old output.new }
 {
     let count = output.count;
     let max_id = output.max_id;
     let size = output.writer.at - start;
-    let body = body_at(layout, count);
+    let body = layout.records_at(count);
     shift(&mut output.writer, start, size, body - start);
     put_header(
         &mut output.writer,
@@ -58,6 +51,7 @@ fn complete(output: &mut Output<'_, '_>, layout: Layout, defs: usize, start: usi
         max_id,
         count as u32,
     );
+    // (The lengths are taken out while the writer is lent: two fields of one `&mut` are not lent at once, decision 101.)
     let lengths = std::mem::take(&mut output.lengths);
     put_directory(&mut output.writer, &lengths[..count], layout.place, body);
     output.lengths = lengths;
@@ -72,7 +66,7 @@ pub fn finish(output: &mut Output<'_, '_>, layout: Layout, defs: usize, start: u
     if Layout::MAX_ID < max_id {
         return refuse(&mut output.writer, Refusal::Draws);
     }
-    let length = body_at(layout, output.count) + (output.writer.at - start);
+    let length = layout.records_at(output.count) + (output.writer.at - start);
     if output.writer.out.len() < length || layout.largest < length {
         return refuse(&mut output.writer, Refusal::Room);
     }

@@ -14,7 +14,7 @@ use Rattle.model.specs.Syntax.{Def, Prog}
 use Rattle.model.specs.Sizes.{records_defs}
 use Rattle.model.specs.Pass.{linearize_defs, linearize}
 use Rattle.model.specs.Questions.{question6, question7, question8, question9, question10}
-use Rattle.model.proofs.Widths.{leb_says}
+use borrow.Author.Tests.{leb-true}
 use Rattle.image_spec.specs.declared.Layout.{Layout}
 use Rattle.std.specs.Prelude.{Ok, Err}
 use Rattle.image_spec.specs.declared.Accepted.{Accepted}
@@ -96,7 +96,7 @@ module _ {L : Layout} {g : Frame} {s : List ℕ} {d m : ℕ} (ready : Ready g s)
   count = ap length (sym c.read.defined.is) ∙ records-length g s ready
 
   pub few : g.count ≤ 2000
-  few = omega (arith, leb_says (records_defs P.defs) 2000 (both_true (leb (records_defs P.defs) 2000) _ c.seven).0, flatten_defs-length P.defs, count)
+  few = omega (arith, leb-true (records_defs P.defs) 2000 (both_true (leb (records_defs P.defs) 2000) _ c.seven).0, flatten_defs-length P.defs, count)
 
   sources : Sources g s
   sources = record {

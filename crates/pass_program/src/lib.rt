@@ -6,6 +6,7 @@ ghost use Rattle.model.specs.Pass.{linearize};
 ghost use Rattle.image_open.specs.Opening.{Known};
 ghost use Rattle.image_places_spec.specs.Places.{Begins};
 ghost use Rattle.scope_spec.specs.FreeRows.{rows_defs};
+ghost use Rattle.scope_spec.specs.Pairs.{masks_of};
 ghost use Rattle.scope_spec.specs.Calls.{Replies};
 ghost use Rattle.scope_check.specs.Definitions.{defs_in};
 ghost use Rattle.scope_check.specs.Deciding.{program_in};
@@ -24,19 +25,27 @@ use pass_definitions::program::definitions;
 use pass_finish::finish;
 use pass_walk::source::Source;
 use scope_check::check::check_image;
+use scope_spec::FreeVars;
 
-// Questions 11 and 12, of an image that has passed 1 to 10. `rows` has two masks of each record of the source, `lengths` has room for the length of
+// Questions 11 and 12, of an image that has passed 1 to 10. `rows` has a row of each record of the source, `lengths` has room for the length of
 // each that is written. (A writer that is in an output comes back by its buffer, so that a caller knows what was written to it.)
-// (`opened` and `layout`, here and below: what was read, and what the header is written by, which nobody else needs of what is opened.)
+// (`opened` and `layout`, here and below: what was read, and what the header is written by, which nobody else needs of what is opened. `opened` and
+// `rows`: the same rows are what the check stores in, while it reads what is opened.)
 fn linearize_program(
     opened: &Opened<'_>,
     layout: Layout,
-    rows: &[u64],
+    rows: &[FreeVars],
     lengths: &mut [usize],
     writer: &mut Writer<'_>,
 ) -> Answer
-    requires { Checked layout opened.now.image.frame opened.now.image.bytes.now opened.now.definitions opened.now.max_id × (Begins rows.now 0 (rows_defs (defs_in opened.now.definitions (records_of opened.now.image))) × ((2 * opened.now.image.frame.count ≤ length lengths.old) × AtRecords opened.now.image.frame writer.old)) }
-    ensures { Replies (closing layout (linearize (program_in opened.now.definitions (records_of opened.now.image) opened.now.max_id)) (length writer.old.out.now)) result writer.old.out.now writer.new.out.now × (writer.new.out.ghost_name ≡ writer.old.out.ghost_name) }
+    requires { let image = opened.now.image in
+        let definitions = opened.now.definitions in
+        Checked layout image.frame image.bytes.now definitions opened.now.max_id
+        × (Begins (masks_of rows.now) 0 (rows_defs (defs_in definitions (records_of image)))
+        × ((2 * image.frame.count ≤ length lengths.old) × AtRecords image.frame writer.old)) }
+    ensures { let whole = program_in opened.now.definitions (records_of opened.now.image) opened.now.max_id in
+        Replies (closing layout (linearize whole) (length writer.old.out.now)) result writer.old.out.now writer.new.out.now
+        × (writer.new.out.ghost_name ≡ writer.old.out.ghost_name) }
 {
     let at = writer.at;
     let id = writer.id;
@@ -63,15 +72,18 @@ fn linearize_program(
 }
 
 // Questions 6 to 12. The records are written behind the place of a directory for as many records as the source has; there may be up to twice as many.
-// What is worked with is lent: room in `rows` and `lengths` for two of each record, if there are not more than question 7 allows.
+// What is worked with is lent: room in `rows` for each record, in `lengths` for two of each, if there are not more than question 7 allows.
 fn linearize_lent(
     opened: &Opened<'_>,
     layout: Layout,
-    rows: &mut [u64],
+    rows: &mut [FreeVars],
     lengths: &mut [usize],
     out: &mut [u8],
 ) -> Answer
-    requires { Read layout opened.now.image.frame opened.now.image.bytes.now opened.now.definitions opened.now.max_id × (opened.now.image.frame.count ≤ 2000 → (2 * opened.now.image.frame.count ≤ length rows.old) × (2 * opened.now.image.frame.count ≤ length lengths.old)) }
+    requires { let image = opened.now.image in
+        let definitions = opened.now.definitions in
+        Read layout image.frame image.bytes.now definitions opened.now.max_id
+        × (image.frame.count ≤ 2000 → (image.frame.count ≤ length rows.old) × (2 * image.frame.count ≤ length lengths.old)) }
     ensures { Replies (linearizing layout (program_in opened.now.definitions (records_of opened.now.image) opened.now.max_id) (length out.old)) result out.old out.new }
 {
     check_image(opened, rows)?;
@@ -88,12 +100,16 @@ fn linearize_image(opened: &Opened<'_>, layout: Layout, out: &mut [u8]) -> Answe
     requires { Read layout opened.now.image.frame opened.now.image.bytes.now opened.now.definitions opened.now.max_id }
     ensures { Replies (linearizing layout (program_in opened.now.definitions (records_of opened.now.image) opened.now.max_id) (length out.old)) result out.old out.new }
 {
+    let none = FreeVars {
+        clauses: 0,
+        next: 0,
+    };
     if opened.image.frame.count <= Frame::FEW_SOURCE_RECORDS {
-        let mut rows = [0u64; Frame::FEW_OUTPUT_RECORDS];
+        let mut rows = [none; Frame::FEW_SOURCE_RECORDS];
         let mut lengths = [0usize; Frame::FEW_OUTPUT_RECORDS];
         return linearize_lent(opened, layout, &mut rows, &mut lengths, out);
     }
-    let mut rows = [0u64; Frame::MAX_OUTPUT_RECORDS];
+    let mut rows = [none; Frame::MAX_SOURCE_RECORDS];
     let mut lengths = [0usize; Frame::MAX_OUTPUT_RECORDS];
     linearize_lent(opened, layout, &mut rows, &mut lengths, out)
 }

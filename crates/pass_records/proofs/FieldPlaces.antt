@@ -3,7 +3,7 @@
 -- Assumes nothing.
 use Prim.Native.Nat.{ℕ, ◌+◌, ◌≤◌, ◌<◌}
 use mathlib.Core.Path.{◌≡◌, refl, sym, ap, ◌∙◌, subst}
-use mathlib.Core.Bool.{Bool, true, false≢true}
+use mathlib.Core.Bool.{Bool, true}
 use mathlib.Core.List.{List, [], ◌∷◌, append-nil}
 use mathlib.Core.Option.{Option, none, some}
 use native.Mathlib.Omega.{arith}
@@ -17,8 +17,8 @@ use Rattle.syntax.specs.declared.names.Identifier.{Identifier}
 use Rattle.syntax.specs.declared.types.Ty.{Ty}
 use Rattle.syntax.specs.declared.op.BinOp.{BinOp}
 use Rattle.syntax.specs.declared.ifc.IfSort.{IfSort}
-use Rattle.model.specs.Questions.{is_none}
-use Rattle.image_spec.specs.Parse.{got, numbered, or_refused, one_of, mark, Marked}
+use Rattle.model.proofs.Questions.{none_says}
+use Rattle.image_spec.specs.Parse.{got, numbered, or_refused, one_of}
 use Rattle.image_spec.specs.Fields.{operator_code_lem, sort_code_lem, newline_code_lem, integer_bytes, identifier_bytes, type_bytes, IdentifierOk, TypeOk}
 use Rattle.image_spec.specs.Records.{Record, switch, create, literal, op, ifc, print, record_bytes, RecordOk}
 use Rattle.image_spec.specs.Kinds.{kind_of, clauses_of, fixed, tail_bytes}
@@ -26,15 +26,14 @@ use Rattle.image_spec.proofs.ParseLaws.{Exact}
 use Rattle.image_spec.proofs.FieldLaws.{identifier-length, type-length}
 use Rattle.image_spec.proofs.KindLaws.{tail_at, fixed_le}
 use Rattle.scope_spec.specs.Flat.{plain_record_lem}
-use Rattle.image_read_parts.specs.Standing.{Stands, ReadsAs, IsCode}
+use Rattle.image_read_parts.specs.Standing.{Stands, IsCode}
 use Rattle.std.specs.Prelude.{Result, Ok}
 use Rattle.syntax.specs.Codes.{Decodes}
 use Rattle.syntax.specs.declared.codes.NoCode.{NoCode}
-use Rattle.image_read_parts.proofs.StandingLaws.{decoded, inner, stands_in, stands-room, byte-run, second_run}
+use Rattle.image_read_parts.proofs.StandingLaws.{decoded, inner, stands_in, byte-run}
 use Rattle.image_read_parts.proofs.PartPlaces.{byte_of, switch-var, switch-ty, create-var, create-ty, literal-integer, literal-var, op-fst, op-code, op-snd, op-var, ifc-code, ifc-fst, print-code}
 use Rattle.image_read_parts.proofs.NamedPlaces.{identifier-room, byte-room}
 use Rattle.image_read_nodes.specs.Nodes.{first_of, operand_of, target_of, second_of}
-use Rattle.pass_records.specs.Unpacked.{SecondAt}
 use Rattle.pass_records.proofs.MadeLaws.{parts_of, made_of}
 
 -- an identifier and a type that stand in a record
@@ -102,12 +101,8 @@ module _ (w : ℕ) (s : List ℕ) (o : ℕ) (r : Record) where
           }
 
   pub create-there : kind_of r ≡ 6 → plain_record_lem r ≡ true → Stands (record_bytes w) (RecordOk w) s o r → HeadThere (λ v t n. create v t none n) (7 + (w + w))
-  create-there k q h = go (first_of r) (parts_of r).ty (clauses_of r) (made_of r 6 k ∙ ap (λ (x : Option Context). create (first_of r) (parts_of r).ty x (clauses_of r)) (empty _ (sym (ap plain_record_lem (made_of r 6 k)) ∙ q)))
+  create-there k q h = go (first_of r) (parts_of r).ty (clauses_of r) (made_of r 6 k ∙ ap (λ (x : Option Context). create (first_of r) (parts_of r).ty x (clauses_of r)) (none_says _ (sym (ap plain_record_lem (made_of r 6 k)) ∙ q)))
     where
-      empty : (e : Option Context) → is_none e ≡ true → e ≡ none
-      empty none a = refl
-      empty (some Γ) a = absurd (false≢true a)
-
       go : (v : Identifier) (t : Ty) (n : ℕ) → r ≡ create v t none n → HeadThere (λ v t n. create v t none n) (7 + (w + w))
       go v t n e =
           let st : Stands (record_bytes w) (RecordOk w) s o (create v t none n) = subst (Stands (record_bytes w) (RecordOk w) s o) e h in
@@ -196,7 +191,6 @@ module _ (w : ℕ) (s : List ℕ) (o : ℕ) (r : Record) where
     pub is : r ≡ ifc sort fst snd
     pub sort-at : get_or s (o + 1) 0 ≡ sort_code_lem sort
     pub fst-at : Stands (identifier_bytes w) (IdentifierOk w) s (o + 2) fst
-    pub snd-at : Stands (mark (identifier_bytes w)) (Marked (IdentifierOk w)) s (o + (4 + w)) snd
     pub inside : o + 2 + (2 + w) ≤ length s
 
   pub ifc-there : kind_of r ≡ 10 → Stands (record_bytes w) (RecordOk w) s o r → IfCThere
@@ -214,7 +208,6 @@ module _ (w : ℕ) (s : List ℕ) (o : ℕ) (r : Record) where
             is = e;
             sort-at = byte_is (inner 1 refl (omega arith) st (ifc-code w c f j st.fits));
             fst-at = d;
-            snd-at = tail_in (mark (identifier_bytes w)) (Marked (IdentifierOk w)) j w (4 + w) (ifc c f j) refl st.fits.1.1 (omega arith) st;
             inside = identifier-room w s (o + 2) f d;
           }
 
@@ -235,39 +228,3 @@ print-there w r k ok = record {
   where
     e : r ≡ print (parts_of r).newline (first_of r)
     e = made_of r 12 k
-
--- ── an IfC's second operand, by its mark ──
-
-module _ (w : ℕ) {s : List ℕ} {at : ℕ} where
-  pub second_none : get_or s at 0 ≡ 0 → ReadsAs (mark (identifier_bytes w)) (Marked (IdentifierOk w)) s at none
-  second_none z = record { is = is }
-    where
-      is : (j : Option Identifier) → Stands (mark (identifier_bytes w)) (Marked (IdentifierOk w)) s at j → none ≡ j
-      is none h = refl
-      is (some x) h = absurd (omega (arith, z, byte-run s _ at _ h.bytes))
-
-  -- the operand behind a mark
-  behind-mark : (x : Identifier) → Stands (mark (identifier_bytes w)) (Marked (IdentifierOk w)) s at (some x) → Stands (identifier_bytes w) (IdentifierOk w) s (at + 1) x
-  behind-mark x h = record { others = h.others; bytes = second_run s h.others at (1 ∷ []) (identifier_bytes w x) 1 refl h.bytes; fits = h.fits }
-
-  pub second_some : {x : Identifier} → (get_or s at 0 ≡ 0 → ⊥) → ReadsAs (identifier_bytes w) (IdentifierOk w) s (at + 1) x
-      → ReadsAs (mark (identifier_bytes w)) (Marked (IdentifierOk w)) s at (some x)
-  second_some {x} z d = record { is = is }
-    where
-      is : (j : Option Identifier) → Stands (mark (identifier_bytes w)) (Marked (IdentifierOk w)) s at j → some x ≡ j
-      is none h = absurd (z (byte-run s _ at _ h.bytes))
-      is (some y) h = ap some (d.is y (behind-mark y h))
-
-  pub second-inside : SecondAt w s at → at < length s
-  second-inside h = go h.operand h.stands
-    where
-      go : (j : Option Identifier) → Stands (mark (identifier_bytes w)) (Marked (IdentifierOk w)) s at j → at < length s
-      go none h = omega (arith, stands-room {e = mark (identifier_bytes w)} (omega arith) h)
-      go (some x) h = omega (arith, stands-room {e = mark (identifier_bytes w)} (omega arith) h)
-
-  pub second-room : SecondAt w s at → (get_or s at 0 ≡ 0 → ⊥) → at + 1 + (2 + w) ≤ length s
-  second-room h z = go h.operand h.stands
-    where
-      go : (j : Option Identifier) → Stands (mark (identifier_bytes w)) (Marked (IdentifierOk w)) s at j → at + 1 + (2 + w) ≤ length s
-      go none h = absurd (z (byte-run s _ at _ h.bytes))
-      go (some x) h = identifier-room w s (at + 1) x (behind-mark x h)

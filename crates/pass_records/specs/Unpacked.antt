@@ -1,13 +1,11 @@
 -- What the structs of records stand for, and what reading a record whole must answer.
 use Rattle.std.specs.Prelude.{ℕ, ◌+◌, ◌≤◌, ◌<◌, ◌≡◌, true, List, length}
-use Rattle.std.proofs.Math.Option.{Option, none}
+use Rattle.std.proofs.Math.Option.{none}
 use Rattle.syntax.specs.Options.{option_of}
 use Rattle.syntax.specs.Arrays.{context_of, Holds}
 use Rattle.syntax.specs.Context.{Context}
-use Rattle.syntax.specs.declared.names.Identifier.{Identifier}
 use Rattle.syntax.specs.declared.context.TypingContext.{TypingContext}
-use Rattle.image_spec.specs.Parse.{mark, Marked}
-use Rattle.image_spec.specs.Fields.{identifier_bytes, list_bytes, IdentifierOk, ListOk}
+use Rattle.image_spec.specs.Fields.{list_bytes, ListOk}
 use Rattle.image_spec.specs.Records.{Record, call, let', switch, create, invoke, literal, op, ifc, print, exit}
 use Rattle.image_spec.specs.Kinds.{kind_of, fixed}
 use Rattle.image_directory.specs.declared.Frame.{Frame}
@@ -77,6 +75,7 @@ pub record Unpacked (r meant : Record) (list : TypingContext) : Type 0 where
 -- ── lists ──
 
 -- a list that an array has room for stands at `at`, and the code reads IDs of w bytes
+-- (Asked of `list` alone. Another than `image_read_nodes`', which is of a record: this one is of bytes, with at most 64.)
 pub record ListAt (w : ℕ) (s : List ℕ) (at : ℕ) : Type 0 where
   pub width : w ≤ 4
   pub list : Context
@@ -86,14 +85,6 @@ pub record ListAt (w : ℕ) (s : List ℕ) (at : ℕ) : Type 0 where
 -- the struct holds the list that stands at `at`
 pub record HoldsAt (w : ℕ) (s : List ℕ) (at : ℕ) (c : TypingContext) : Type 0 where
   pub is : (Γ : Context) → Stands (list_bytes w) (ListOk w) s at Γ → Holds c Γ
-
--- ── an IfC's second operand ──
-
--- a mark, and an operand where the mark announces one, stand at `at`
-pub record SecondAt (w : ℕ) (s : List ℕ) (at : ℕ) : Type 0 where
-  pub width : w ≤ 4
-  pub operand : Option Identifier
-  pub stands : Stands (mark (identifier_bytes w)) (Marked (IdentifierOk w)) s at operand
 
 -- ── records of an identifier and a list ──
 

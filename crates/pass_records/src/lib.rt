@@ -2,26 +2,23 @@
 #![tactic(auto)]
 
 ghost use Rattle.std.specs.Prelude.{◌≡◌, true};
-ghost use Rattle.syntax.specs.Options.{option_of};
-ghost use Rattle.image_spec.specs.Parse.{mark, Marked};
-ghost use Rattle.image_spec.specs.Fields.{identifier_bytes, IdentifierOk};
 ghost use Rattle.scope_spec.specs.Flat.{plain_record_lem, small_record_lem};
-ghost use Rattle.image_read_parts.specs.Standing.{ReadsAs};
-ghost use Rattle.pass_records.specs.Unpacked.{call_of, let_of, switch_of, create_of, invoke_of, literal_of, op_of, ifc_of, print_of, exit_of, Unpacked, ListAt, HoldsAt, SecondAt, NamedAt, NamedIs};
+ghost use Rattle.pass_records.specs.Unpacked.{call_of, let_of, switch_of, create_of, invoke_of, literal_of, op_of, ifc_of, print_of, exit_of, Unpacked, ListAt, HoldsAt, NamedAt, NamedIs};
 ghost use Rattle.image_read_parts.specs.Recorded.{record_in};
 ghost use Rattle.image_kinds.specs.declared.kinds.Kind.TheVariants.{Call, Let, Switch, Create, Invoke, Literal, Op, IfC, Print, Exit};
 
-use image_directory::image::Image;
+use image_fields::fields::Fields;
+use image_read_nodes::{first, second};
 use image_read_parts::record::RecordAt;
-use image_read_parts::{
-    binding_at, byte, identifier, identifier_at, integer_at, newline_of, offset, type_at,
-};
+use image_read_parts::{binding_at, byte, identifier_at, integer_at, newline_of, offset, type_at};
 use syntax::context::TypingContext;
 use syntax::ifc::IfSort;
 use syntax::names::Identifier;
 use syntax::op::BinOp;
 use syntax::types::Ty;
 
+// (A struct for each kind, also where another has the same fields, as `NameAndList` here, or is one identifier, as Exit's: contracts say `call_of` and
+// `exit_of` of it, and its fields have the Rust's names.)
 #[derive(Clone, Copy)]
 pub struct CallRecord {
     pub label: Identifier,
@@ -43,7 +40,7 @@ pub struct SwitchRecord {
     pub clauses: u8,
 }
 
-// A Create without an environment.
+// A Create without an environment. (Not one struct with `SwitchRecord`: which record a struct stands for is told by its type.)
 #[derive(Clone, Copy)]
 pub struct CreateRecord {
     pub var: Identifier,
@@ -99,35 +96,34 @@ pub struct NameAndList {
     pub list: TypingContext,
 }
 
-// The list of bindings at a place.
-pub fn list(image: &Image<'_>, at: usize) -> TypingContext
-    requires { ListAt image.now.frame.id image.now.bytes.now at }
-    ensures { HoldsAt image.now.frame.id image.now.bytes.now at result }
+// The list of bindings at a place. (By places: of a part of a struct with ghost fields, lent by itself, nothing is known after.)
+pub fn list(fields: &Fields<'_>, at: usize) -> TypingContext
+    requires { ListAt fields.now.id fields.now.bytes.now at }
+    ensures { HoldsAt fields.now.id fields.now.bytes.now at result }
 {
-    let w = image.frame.id;
-    let size = 6 + (w + w);
-    let n = usize::from(image.bytes[at]);
+    let w = fields.id;
+    let n = usize::from(fields.bytes[at]);
     let mut out = TypingContext::empty();
-    let mut from = at + 1;
     for j in 0..n {
-        out.bindings[j] = binding_at(image, from).flat();
-        from += size;
+        out.bindings[j] = binding_at(fields, at + (1 + j * (6 + (w + w)))).flat();
     }
     out.len = n;
     out
 }
 
-// A definition, a Call or a clause. (Here and below the counts have passed question 7.)
+// A definition, a Call or a clause.
+// (Here and below the counts have passed question 7. Asked and no field: `SourceRecord`, of a crate above, has it, and `Counted` has it of a whole image.)
 pub fn named(node: &RecordAt<'_>) -> NameAndList
     requires { NamedAt node.now.image.frame node.now.image.bytes.now node.now.index }
     ensures { NamedIs result (record_in node.now) }
 {
     let image = &node.image;
-    let w = image.frame.id;
+    let fields = image.fields();
+    let w = fields.id;
     let start = offset(image, node.index);
     NameAndList {
-        name: identifier_at(image, start + 1),
-        list: list(image, start + (3 + w)),
+        name: identifier_at(&fields, start + 1),
+        list: list(&fields, start + (3 + w)),
     }
 }
 
@@ -149,12 +145,13 @@ pub fn let_record(node: &RecordAt<'_>) -> LetRecord
     ensures { Unpacked (record_in node.now) (let_of result) result.args }
 {
     let image = &node.image;
-    let w = image.frame.id;
+    let fields = image.fields();
+    let w = fields.id;
     let start = offset(image, node.index);
-    let var = identifier_at(image, start + 1);
-    let ty = type_at(image, start + (3 + w));
-    let tag = identifier_at(image, start + (6 + (w + w)));
-    let args = list(image, start + (8 + (w + (w + w))));
+    let var = identifier_at(&fields, start + 1);
+    let ty = type_at(&fields, start + (3 + w));
+    let tag = identifier_at(&fields, start + (6 + (w + w)));
+    let args = list(&fields, start + (8 + (w + (w + w))));
     LetRecord { var, ty, tag, args }
 }
 
@@ -164,11 +161,12 @@ pub fn switch(node: &RecordAt<'_>) -> SwitchRecord
     ensures { record_in node.now ≡ switch_of result }
 {
     let image = &node.image;
-    let w = image.frame.id;
+    let fields = image.fields();
+    let w = fields.id;
     let start = offset(image, node.index);
-    let var = identifier_at(image, start + 1);
-    let ty = type_at(image, start + (3 + w));
-    let clauses = image.bytes[start + (6 + (w + w))];
+    let var = identifier_at(&fields, start + 1);
+    let ty = type_at(&fields, start + (3 + w));
+    let clauses = fields.bytes[start + (6 + (w + w))];
     SwitchRecord { var, ty, clauses }
 }
 
@@ -178,26 +176,28 @@ pub fn create(node: &RecordAt<'_>) -> CreateRecord
     ensures { record_in node.now ≡ create_of result }
 {
     let image = &node.image;
-    let w = image.frame.id;
+    let fields = image.fields();
+    let w = fields.id;
     let start = offset(image, node.index);
-    let var = identifier_at(image, start + 1);
-    let ty = type_at(image, start + (3 + w));
-    let clauses = image.bytes[start + (7 + (w + w))];
+    let var = identifier_at(&fields, start + 1);
+    let ty = type_at(&fields, start + (3 + w));
+    let clauses = fields.bytes[start + (7 + (w + w))];
     CreateRecord { var, ty, clauses }
 }
 
-// An Invoke.
+// An Invoke. (The parts of a Let in another order.)
 pub fn invoke(node: &RecordAt<'_>) -> InvokeRecord
     requires { (node.now.kind ≡ Invoke) × (small_record_lem (record_in node.now) ≡ true) }
     ensures { Unpacked (record_in node.now) (invoke_of result) result.args }
 {
     let image = &node.image;
-    let w = image.frame.id;
+    let fields = image.fields();
+    let w = fields.id;
     let start = offset(image, node.index);
-    let var = identifier_at(image, start + 1);
-    let tag = identifier_at(image, start + (3 + w));
-    let ty = type_at(image, start + (5 + (w + w)));
-    let args = list(image, start + (8 + (w + (w + w))));
+    let var = identifier_at(&fields, start + 1);
+    let tag = identifier_at(&fields, start + (3 + w));
+    let ty = type_at(&fields, start + (5 + (w + w)));
+    let args = list(&fields, start + (8 + (w + (w + w))));
     InvokeRecord { var, tag, ty, args }
 }
 
@@ -207,36 +207,28 @@ pub fn literal(node: &RecordAt<'_>) -> LiteralRecord
     ensures { record_in node.now ≡ literal_of result }
 {
     let image = &node.image;
+    let fields = image.fields();
     let start = offset(image, node.index);
-    let lit = integer_at(image.bytes, start + 1);
-    let var = identifier_at(image, start + 9);
+    let lit = integer_at(fields.bytes, start + 1);
+    let var = identifier_at(&fields, start + 9);
     LiteralRecord { lit, var }
 }
 
 // An Op.
+// (All parts by their places from one `offset`.)
 pub fn op(node: &RecordAt<'_>) -> OpRecord
     requires { node.now.kind ≡ Op }
     ensures { record_in node.now ≡ op_of result }
 {
     let image = &node.image;
-    let w = image.frame.id;
+    let fields = image.fields();
+    let w = fields.id;
     let start = offset(image, node.index);
-    let fst = identifier_at(image, start + 1);
-    let op = BinOp::try_from(image.bytes[start + (3 + w)]).unwrap();
-    let snd = identifier_at(image, start + (4 + w));
-    let var = identifier_at(image, start + (6 + (w + w)));
+    let fst = identifier_at(&fields, start + 1);
+    let op = BinOp::try_from(fields.bytes[start + (3 + w)]).unwrap();
+    let snd = identifier_at(&fields, start + (4 + w));
+    let var = identifier_at(&fields, start + (6 + (w + w)));
     OpRecord { fst, op, snd, var }
-}
-
-// The second operand of an IfC, if its mark announces one.
-fn second_at(image: &Image<'_>, at: usize) -> Option<Identifier>
-    requires { SecondAt image.now.frame.id image.now.bytes.now at }
-    ensures { ReadsAs (mark (identifier_bytes image.now.frame.id)) (Marked (IdentifierOk image.now.frame.id)) image.now.bytes.now at (option_of result) }
-{
-    if image.bytes[at] == 0 {
-        return None;
-    }
-    Some(identifier_at(image, at + 1))
 }
 
 // An IfC.
@@ -245,11 +237,12 @@ pub fn ifc(node: &RecordAt<'_>) -> IfCRecord
     ensures { record_in node.now ≡ ifc_of result }
 {
     let image = &node.image;
-    let w = image.frame.id;
+    let fields = image.fields();
+    let w = fields.id;
     let start = offset(image, node.index);
-    let sort = IfSort::try_from(image.bytes[start + 1]).unwrap();
-    let fst = identifier_at(image, start + 2);
-    let snd = second_at(image, start + (4 + w));
+    let sort = IfSort::try_from(fields.bytes[start + 1]).unwrap();
+    let fst = identifier_at(&fields, start + 2);
+    let snd = second(node);
     IfCRecord { sort, fst, snd }
 }
 
@@ -259,7 +252,7 @@ pub fn print(node: &RecordAt<'_>) -> PrintRecord
     ensures { record_in node.now ≡ print_of result }
 {
     let newline = newline_of(byte(&node.image, node.index, 1));
-    let var = identifier(&node.image, node.index, 2);
+    let var = first(node);
     PrintRecord { newline, var }
 }
 
@@ -268,6 +261,5 @@ pub fn exit(node: &RecordAt<'_>) -> ExitRecord
     requires { node.now.kind ≡ Exit }
     ensures { record_in node.now ≡ exit_of result }
 {
-    let var = identifier(&node.image, node.index, 1);
-    ExitRecord { var }
+    ExitRecord { var: first(node) }
 }

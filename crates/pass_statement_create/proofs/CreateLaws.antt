@@ -38,7 +38,7 @@ use Rattle.pass_step_spec.specs.Steps.{environment, arranged, step_create}
 use Rattle.pass_step_spec.specs.Fronts.{wanted, right_of, front_records, front_bytes, pairs_size, tail_size}
 use Rattle.pass_step.specs.Drawn.{drawn_to}
 use Rattle.pass_step.specs.Stepping.{Says, Reserves, OpensAs, OpenedAs, Arranges, StepsAs, Opened, Stepped}
-use Rattle.pass_step.proofs.StepLaws.{kept-says, arranged_then, emits_as, held-workable}
+use Rattle.pass_step.proofs.StepLaws.{kept-says, arranged_then, emits_as}
 use Rattle.pass_step.proofs.OpenLaws.{bindings-count}
 
 -- what the mask retains of the context with some moved behind
@@ -62,12 +62,6 @@ is_create_lem r k = record { var = first_of r; ty = (parts_of r).ty; environment
 
 -- ── how many there are ──
 
-pub moved-few : (j : ℕ) {h : Held} (held : Held) → HoldsWork h (moved_behind j (work_of held)) → h.len ≤ held.len
-moved-few j {h} held n = omega (arith, n.count, moved_length j (work_of held), length-take held.len (entries_in held))
-
-pub environment-few : (mask j : ℕ) {h : Held} (held : Held) → HoldsWork h (kept_by_mask mask (moved_behind j (work_of held))) → h.len ≤ held.len
-environment-few mask j {h} held n = omega (arith, n.count, mask_fewer mask (moved_behind j (work_of held)), moved_length j (work_of held), length-take held.len (entries_in held))
-
 pub respelled-few : (right : Bool) (new ren : Held) (T : Context) → HoldsWork ren (respelled_unless right (work_of new) T) → ren.len ≤ new.len
 unfolding respelled_unless
 respelled-few true new ren T n = omega (arith, n.count, length-take new.len (entries_in new))
@@ -76,14 +70,13 @@ respelled-few false new ren T n = omega (arith, n.count, respelled-fewer (work_o
 -- ── the place ──
 
 pub create-opens : {w : ℕ} {record' : Record} (var : Identifier) (ty : Ty) (env : Option Context) (clauses : ℕ) {maskClauses maskNext : ℕ} {W : Work} {p : Progress} {r : Opened} {new : Held} {own : ℕ}
-    → record' ≡ create var ty env clauses → HoldsWork new (kept_by_mask maskNext W) → HoldsWork r.context (kept_by_mask maskClauses (moved_behind new.len W)) → r.context.len ≤ 64
+    → record' ≡ create var ty env clauses → HoldsWork new (kept_by_mask maskNext W) → HoldsWork r.context (kept_by_mask maskClauses (moved_behind new.len W))
     → r.right ≡ same_context (bindings W) (bindings (work_of new) ++ bindings (work_of r.context)) → own ≡ fixed w 6
     → Reserves r.right (new.len + r.context.len) (own + (3 + r.context.len * (6 + (w + w)))) w p r.progress
     → OpensAs w record' maskClauses maskNext W p r
 unfolding front_bytes front_records right_of wanted tail_size environment
-create-opens {w} {record'} var ty env clauses {maskClauses} {maskNext} {W} {p} {r} {new} {own} e h k few b o a =
+create-opens {w} {record'} var ty env clauses {maskClauses} {maskNext} {W} {p} {r} {new} {own} e h k b o a =
     rw e record {
-      workable = held-workable k few;
       opens = λ fc fn s y.
           let N = kept fn W in
           let E = kept fc (moved_behind (length N) W) in
@@ -94,7 +87,8 @@ create-opens {w} {record'} var ty env clauses {maskClauses} {maskNext} {W} {p} {
           let X : work_of r.context ≡ E = k.list ∙ u in
           let q : r.right ≡ same_context (bindings W) (bindings N ++ bindings E) = cc (b, A, X) in
           let xe : r.context.len ≡ length E = k.count ∙ ap length u in
-          let n : new.len + r.context.len ≡ length (bindings N ++ bindings E) = omega (arith, bindings-count h, bindings-count k, ap (λ (i : Work). length (bindings i)) A, ap (λ (i : Work). length (bindings i)) X, length-append (bindings N) (bindings E)) in
+          let n : new.len + r.context.len ≡ length (bindings N ++ bindings E) =
+          omega (arith, bindings-count new, bindings-count r.context, ap (λ (i : Work). length (bindings i)) A, ap (λ (i : Work). length (bindings i)) X, length-append (bindings N) (bindings E)) in
           let R = same_context (bindings W) (bindings N ++ bindings E) in
           record {
             context = subst (HoldsWork r.context) u k;
@@ -113,8 +107,8 @@ create-opens {w} {record'} var ty env clauses {maskClauses} {maskNext} {W} {p} {
 
 -- ── the clauses are done ──
 
-pub create-steps : {w : ℕ} {record' : Record} (var : Identifier) (ty : Ty) (env : Option Context) (clauses : ℕ) {maskClauses maskNext : ℕ} {W : Work} {n : ℕ} {out mid out' lengths middle lengths' : List ℕ} {p q written : Progress} {place : ℕ} {o : Opened} {r : Stepped}
-    {new ren : Held} {c x : TypingContext} {clashes : IdSet} {f : Freshened}
+pub create-steps : {w : ℕ} {record' : Record} (var : Identifier) (ty : Ty) (env : Option Context) (clauses : ℕ) {maskClauses maskNext : ℕ} {W : Work} {n : ℕ} {out mid out' lengths middle lengths' : List ℕ}
+    {p q written : Progress} {place : ℕ} {o : Opened} {r : Stepped} {new ren : Held} {c x : TypingContext} {clashes : IdSet} {f : Freshened}
     → record' ≡ create var ty env clauses → OpenedAs record' maskClauses maskNext W o → HoldsWork new (kept_by_mask maskNext W)
     → Holds c (bindings (work_of new)) → Holds x (bindings (work_of o.context)) → SetHolds clashes (ids (bindings (work_of o.context)))
     → Freshens f (freshen_unless_lem o.right (context_of c) (set_of clashes) p.max_id)

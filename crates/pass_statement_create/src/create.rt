@@ -1,5 +1,5 @@
 // create.rs
-ghost use Rattle.std.specs.Prelude.{◌≤◌, ◌≡◌, length};
+ghost use Rattle.std.specs.Prelude.{◌≤◌, ◌≡◌};
 ghost use Rattle.syntax.specs.Arrays.{context_of};
 ghost use Rattle.pass_work_spec.specs.Work.{moved_behind, respelled_unless};
 ghost use Rattle.pass_context.specs.Holding.{work_of, HoldsWork};
@@ -19,12 +19,13 @@ use pass_records::create;
 use pass_step::fresh::freshen_unless;
 use pass_step::reserve::reserve;
 use pass_step::source::SourceRecord;
-use pass_step::working::{FreeVars, Opened, Working};
+use pass_step::working::{Opened, Working};
+use scope_spec::FreeVars;
 use syntax::context::{Chirality, ContextBinding, TypingContext};
 
 // The environment: what the clauses need, from the context with the first bindings, as many as the next context has, moved behind the rest.
 fn environment(context: &Held, next: usize, free_vars_clauses: u64) -> Held
-    requires { (context.now.len ≤ 64) × (next ≤ context.now.len) }
+    requires { next ≤ context.now.len }
     ensures { HoldsWork result (kept_by_mask free_vars_clauses (moved_behind next (work_of context.now))) }
 {
     let moved = context.move_behind(next);
@@ -38,7 +39,7 @@ pub fn open(
     context: &Held,
     output: &mut Output<'_, '_>,
 ) -> Opened
-    requires { (source.now.node.kind ≡ Create) × (Workable context.now 0 0 × RoomAt (so_far output.old)) }
+    requires { (source.now.node.kind ≡ Create) × RoomAt (so_far output.old) }
     ensures { OpensFor output.old output.new (record_in source.now.node) free_vars.clauses free_vars.next context.now result }
 {
     let context_next = context.filter_by_set(free_vars.next);
@@ -57,7 +58,7 @@ pub fn open(
 
 // The context of the next, under its fresh names where a Substitute is inserted: from there on uses take them.
 fn renamed(right: bool, context_next: Held, names: TypingContext) -> Held
-    requires { (context_next.len ≡ length (work_of context_next)) × ((context_next.len ≤ 64) × (names.len ≡ context_next.len)) }
+    requires { names.len ≡ context_next.len }
     ensures { HoldsWork result (respelled_unless right (work_of context_next) (context_of names)) }
 {
     if right {
@@ -99,8 +100,5 @@ pub fn linearize(
     output.max_id = freshened.max_id.0;
     let chi = Chirality::Cns;
     let binding = ContextBinding { var, chi, ty };
-    Working {
-        context: renamed(right, context_next, fresh).own(here.in_scope, binding),
-        in_scope: here.in_scope + 1,
-    }
+    here.with(&renamed(right, context_next, fresh), binding)
 }

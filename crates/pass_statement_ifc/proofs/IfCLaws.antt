@@ -16,7 +16,8 @@ use Rattle.pass_work_spec.specs.Work.{Work, used, used_option}
 use Rattle.pass_step_spec.specs.Steps.{step_if_c}
 use Rattle.pass_step.specs.Stepping.{LeavesAs}
 
-pub ifc-leaves : {w : ℕ} {record' : Record} (sort : IfSort) (fst : Identifier) (snd : Option Identifier) (W : Work) {clauses mask : ℕ} {n : ℕ} {out out' lengths lengths' : List ℕ} {p r : Progress} {next : ℕ} {a : Identifier} {b : Option Identifier}
+pub ifc-leaves : {w : ℕ} {record' : Record} (sort : IfSort) (fst : Identifier) (snd : Option Identifier) (W : Work) {clauses mask : ℕ} {n : ℕ} {out out' lengths lengths' : List ℕ} {p r : Progress} {next : ℕ}
+    {a : Identifier} {b : Option Identifier}
     → record' ≡ ifc sort fst snd → a ≡ used W fst → b ≡ used_option W snd → Puts out out' p.at next (record_bytes w (ifc sort a b)) → Noted r p next lengths lengths'
     → LeavesAs w record' clauses mask W n out out' lengths lengths' p r
 unfolding step_if_c

@@ -44,8 +44,5 @@ pub fn linearize(
     put_let(&mut output.writer, var, ty, statement.tag, freshened);
     note(output, start);
     output.max_id = fresh.max_id.0;
-    Working {
-        context: new_context.own(here.in_scope, new_binding),
-        in_scope: here.in_scope + 1,
-    }
+    here.with(&new_context, new_binding)
 }

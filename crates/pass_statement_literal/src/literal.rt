@@ -39,8 +39,5 @@ pub fn linearize(
         chi: Chirality::Ext,
         ty: Ty::I64,
     };
-    Working {
-        context: new_context.own(here.in_scope, binding),
-        in_scope: here.in_scope + 1,
-    }
+    here.with(&new_context, binding)
 }

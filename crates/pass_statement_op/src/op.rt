@@ -48,8 +48,5 @@ pub fn linearize(
     let start = output.writer.at;
     put_op(&mut output.writer, fst, operator, snd, var);
     note(output, start);
-    Working {
-        context: new_context.own(here.in_scope, new_binding),
-        in_scope: here.in_scope + 1,
-    }
+    here.with(&new_context, new_binding)
 }

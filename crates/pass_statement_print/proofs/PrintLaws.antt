@@ -1,7 +1,7 @@
 -- The step of a PrintI64: its var is retained beside what its next needs, and nothing is bound. Assumes nothing.
 use Prim.Native.Nat.{ℕ}
-use mathlib.Core.Path.{◌≡◌, refl, ap, ◌∙◌, subst}
-use mathlib.Core.Bool.{Bool, true, false, ◌||◌}
+use mathlib.Core.Path.{◌≡◌, ap, ◌∙◌, subst}
+use mathlib.Core.Bool.{Bool, or_self_left}
 use mathlib.Core.List.{List, [], ◌∷◌, ◌++◌}
 use Rattle.syntax.specs.Names.{same_var_id}
 use Rattle.syntax.specs.Sets.{elem}
@@ -18,13 +18,9 @@ use Rattle.pass_step.specs.Stepping.{Says, Steps, StepsAs, Stepped}
 use Rattle.pass_step.proofs.StepLaws.{kept-says}
 use Rattle.pass_step.proofs.BindLaws.{says_with}
 
-or_twice : (a b : Bool) → a || (a || b) ≡ a || b
-or_twice true b = refl
-or_twice false b = refl
-
 -- one variable twice is the variable once
 says-one : (x : VarId) {mask : ℕ} {s : List VarId} {W : Work} → InPlaces W → Says mask s W → Says (with_places_lem x x W mask) (x ∷ s) W
-says-one x {s = s} p a = record { says = λ e k. (says_with x x p a).says e k ∙ or_twice (same_var_id e.source x) (elem e.source s) }
+says-one x {s = s} p a = record { says = λ e k. (says_with x x p a).says e k ∙ or_self_left (same_var_id e.source x) (elem e.source s) }
 
 -- N is retained, and the record is written
 unfoldable pub retains_only : (N W : Work) (own-record : Record) (n m : ℕ) → Step

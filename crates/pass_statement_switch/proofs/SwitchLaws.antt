@@ -26,23 +26,22 @@ use Rattle.pass_step.specs.Drawn.{drawn_to}
 use Rattle.pass_step.specs.Stepping.{Reserves, OpensAs, OpenedAs, Arranges, LeavesAs, Opened}
 use Rattle.pass_statement_switch.specs.Drawing.{FreshVarIs}
 use Rattle.pass_statement_switch.specs.declared.switch.FreshVar.{FreshVar}
-use Rattle.pass_step.proofs.StepLaws.{kept-says, arranged_then, emits_as, held-workable}
+use Rattle.pass_step.proofs.StepLaws.{kept-says, arranged_then, emits_as}
 use Rattle.pass_step.proofs.OpenLaws.{bindings-count}
 
 -- ── the place ──
 
 pub switch-opens : {w : ℕ} {record' : Record} (var : Identifier) (ty : Ty) (clauses : ℕ) {mask next : ℕ} {W : Work} {p : Progress} {r : Opened} {x : ContextBinding} {own : ℕ}
-    → record' ≡ switch var ty clauses → HoldsWork r.context (kept_by_mask mask W) → r.context.len ≤ 64 → x ≡ bind (used W var) Prd ty
+    → record' ≡ switch var ty clauses → HoldsWork r.context (kept_by_mask mask W) → x ≡ bind (used W var) Prd ty
     → r.right ≡ same_context (bindings W) (bindings (work_of r.context) ++ (x ∷ [])) → own ≡ fixed w 5 → Reserves r.right (r.context.len + 1) (own + 1) w p r.progress → OpensAs w record' mask next W p r
 unfolding front_bytes front_records right_of wanted tail_size
-switch-opens {w} {record'} var ty clauses {mask} {next} {W} {p} {r} {x} {own} e h few i b o a =
+switch-opens {w} {record'} var ty clauses {mask} {next} {W} {p} {r} {x} {own} e h i b o a =
     rw e record {
-      workable = held-workable h few;
       opens = λ fc fn s _.
           let g : kept_by_mask mask W ≡ kept fc W = kept-says s in
           let k : work_of r.context ≡ kept fc W = h.list ∙ g in
           let xtor = bind (used W var) Prd ty in
-          let n : r.context.len + 1 ≡ length (bindings (kept fc W) ++ (xtor ∷ [])) = omega (arith, length-append (bindings (kept fc W)) (xtor ∷ []), bindings-count h, ap (λ (t : Work). length (bindings t)) k) in
+          let n : r.context.len + 1 ≡ length (bindings (kept fc W) ++ (xtor ∷ [])) = omega (arith, length-append (bindings (kept fc W)) (xtor ∷ []), bindings-count r.context, ap (λ (t : Work). length (bindings t)) k) in
           let q : r.right ≡ same_context (bindings W) (bindings (kept fc W) ++ (xtor ∷ [])) = cc (b, k, i) in
           record {
             context = subst (HoldsWork r.context) g h;

@@ -1,5 +1,5 @@
 // switch.rs
-ghost use Rattle.std.specs.Prelude.{◌≡◌, ◌+◌, ◌<◌, ◌≤◌, ◌^◌};
+ghost use Rattle.std.specs.Prelude.{◌≡◌, ◌+◌, ◌<◌, ◌^◌};
 ghost use Rattle.syntax.specs.Arrays.{set_of};
 ghost use Rattle.syntax.specs.declared.context.Chirality.TheVariants.{Prd};
 ghost use Rattle.model.specs.Rules.{bind, fresh_var_unless};
@@ -29,7 +29,6 @@ use syntax::types::Ty;
 // The variable that is matched on, as the last of the wanted list.
 // (`var` and `ty`: as the record has them. The binding of both, with its chirality, is what is answered.)
 fn matched(context: &Held, var: Identifier, ty: Ty) -> ContextBinding
-    requires { context.now.len ≤ 64 }
     ensures { result ≡ bind (used (work_of context.now) var) Prd ty }
 {
     ContextBinding {
@@ -46,7 +45,7 @@ pub fn open(
     context: &Held,
     output: &mut Output<'_, '_>,
 ) -> Opened
-    requires { (source.now.node.kind ≡ Switch) × (Workable context.now 0 0 × RoomAt (so_far output.old)) }
+    requires { (source.now.node.kind ≡ Switch) × RoomAt (so_far output.old) }
     ensures { OpensFor output.old output.new (record_in source.now.node) free_vars_clauses 0 context.now result }
 {
     let statement = switch(&source.node);
@@ -69,6 +68,7 @@ pub fn open(
 }
 
 // A variable under the name that it has from here on, and the max_id then.
+// (Beside `Freshened`, which is of a context: each has its own definition, and both are taken apart where they come.)
 #[derive(Clone, Copy)]
 pub struct FreshVar {
     pub binding: ContextBinding,
@@ -77,7 +77,7 @@ pub struct FreshVar {
 
 // A fresh name for the variable if it is duplicated, where the context is not right.
 fn fresh_var(right: bool, binding: ContextBinding, clashes: IdSet, max_id: u32) -> FreshVar
-    requires { (clashes.len ≤ 128) × (max_id + 256 < 2 ^ 32) }
+    requires { max_id + 256 < 2 ^ 32 }
     ensures { FreshVarIs result (fresh_var_unless right binding (set_of clashes) max_id) }
 {
     if right || !clashes.contains(binding.var.id) {

@@ -31,7 +31,8 @@ end_step W A B C own n m =
     record { front = arranged right (freshened ++ B) (A ++ B) ++ (own ∷ []); context = W; in_scope_lem = n; max_id = m₁ }
 
 -- is the context right? Where there are as many bindings as are wanted, they are compared
-pub compared_right : (W : Work) (Γ : Context) {B : Context} {right same : Bool} {behind : TypingContext} → Holds behind B → same ≡ same_context (bindings W) (Γ ++ context_of behind) → right ≡ same → right ≡ same_context (bindings W) (Γ ++ B)
+pub compared_right : (W : Work) (Γ : Context) {B : Context} {right same : Bool} {behind : TypingContext} → Holds behind B
+    → same ≡ same_context (bindings W) (Γ ++ context_of behind) → right ≡ same → right ≡ same_context (bindings W) (Γ ++ B)
 compared_right W Γ h s e = e ∙ s ∙ ap (λ (Δ : Context). same_context (bindings W) (Γ ++ Δ)) h.list
 
 -- .. and where there are not, it is not

@@ -15,6 +15,7 @@ use Rattle.syntax.proofs.Same.{same_context_self, same-lengths}
 use Rattle.pass_work_spec.specs.Work.{Work, bindings}
 use Rattle.pass_work_spec.specs.declared.Entry.{Entry}
 use Rattle.pass_context.specs.Holding.{work_of, HoldsWork}
+use Rattle.pass_context.proofs.Counts.{work-count}
 use Rattle.pass_context.specs.declared.Held.{Held}
 
 -- where all are retained, nothing changes
@@ -45,5 +46,5 @@ filtered-right p W = by (eqb (length (filtered p W)) (length W)) refl
         sym (same-lengths (bindings W) (bindings (filtered p W)) h)
 
 -- .. as the structs have them
-pub kept-right : (p : Entry → Bool) (held : Held) {new : Held} → held.len ≡ length (work_of held) → HoldsWork new (filtered p (work_of held)) → eqb new.len held.len ≡ same_context (bindings (work_of held)) (bindings (filtered p (work_of held)))
-kept-right p held {new} e h = ap (λ (k : ℕ). eqb k held.len) h.count ∙ ap (eqb (length (filtered p (work_of held)))) e ∙ filtered-right p (work_of held)
+pub kept-right : (p : Entry → Bool) (held : Held) {new : Held} → HoldsWork new (filtered p (work_of held)) → eqb new.len held.len ≡ same_context (bindings (work_of held)) (bindings (filtered p (work_of held)))
+kept-right p held h = ap (λ (k : ℕ). eqb k held.len) h.count ∙ ap (eqb (length (filtered p (work_of held)))) (work-count held) ∙ filtered-right p (work_of held)

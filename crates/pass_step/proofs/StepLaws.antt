@@ -21,6 +21,7 @@ use Rattle.pass_work_spec.specs.declared.Entry.{Entry}
 use Rattle.pass_work_spec.proofs.Lists.{filtered-same}
 use Rattle.pass_context.specs.Holding.{work_of, HoldsWork}
 use Rattle.pass_entries.specs.Masks.{in_mask, kept_by_mask}
+use Rattle.pass_context.proofs.Counts.{work-count}
 use Rattle.pass_context.specs.declared.Held.{Held}
 use Rattle.pass_entries.proofs.MaskLaws.{mask_fewer}
 use Rattle.pass_step.specs.Stepping.{Says, Arranges, SourceAt, Workable}
@@ -38,17 +39,9 @@ pub arranged_then : {w : ℕ} {out mid out' lengths middle lengths' : List ℕ} 
     → Puts mid out' q.at next (record_bytes w own) → Noted r q next middle lengths' → Emits w out out' lengths lengths' p r (R ++ (own ∷ []))
 arranged_then own a b n = emits_then a.emits (emits_one own b n)
 
--- a struct that holds a list is one to work with
-pub held-workable : {h : Held} {N : Work} → HoldsWork h N → h.len ≤ 64 → Workable h 0 0
-held-workable n k = record { count = n.count ∙ ap length (sym n.list); room = omega (arith, k); places = omega arith }
-
 -- what is retained has room for what is bound
-module _ {held : Held} {n k : ℕ} (a : Workable held n k) (mask : ℕ) {new : Held} (h : HoldsWork new (kept_by_mask mask (work_of held))) where
-  pub kept-room : new.len + k ≤ 64
-  kept-room = omega (arith, h.count, mask_fewer mask (work_of held), a.count, a.room)
-
-  pub kept-count : {c : TypingContext} → Holds c (bindings (work_of new)) → c.len + k ≤ 64
-  kept-count {c} b = omega (arith, b.count, length-map (work_of new) (λ (e : Entry). e.binding), ap length h.list, h.count, kept-room)
+pub kept-room : {held : Held} {n k : ℕ} → Workable held n k → (mask : ℕ) {new : Held} → HoldsWork new (kept_by_mask mask (work_of held)) → new.len + k ≤ 64
+kept-room {held} a mask h = omega (arith, h.count, mask_fewer mask (work_of held), work-count held, a.room)
 
 -- the same records, in another struct with the same place and count
 pub emits_as : {w : ℕ} {out out' lengths lengths' : List ℕ} {p q r : Progress} {R S : List Record} → R ≡ S → r.at ≡ q.at → r.count ≡ q.count → Emits w out out' lengths lengths' p q R → Emits w out out' lengths lengths' p r S

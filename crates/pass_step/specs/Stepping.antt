@@ -1,10 +1,8 @@
 -- One step of linearization: what the code needs to make it, and what it has done then.
-use Rattle.std.specs.Prelude.{ℕ, ◌+◌, ◌≤◌, ◌<◌, ◌^◌, ◌≡◌, Bool, true, cond, length}
+use Rattle.std.specs.Prelude.{ℕ, ◌+◌, ◌≤◌, ◌<◌, ◌^◌, ◌≡◌, Bool, true, cond}
 use mathlib.Core.List.{List, Memᴰ}
 use Rattle.syntax.specs.Sets.{elem}
-use Rattle.syntax.specs.Arrays.{context_of}
 use Rattle.syntax.specs.declared.names.VarId.{VarId}
-use Rattle.syntax.specs.declared.context.TypingContext.{TypingContext}
 use Rattle.image_directory.specs.declared.Frame.{Frame}
 use Rattle.image_spec.specs.Records.{Record}
 use Rattle.image_write_directory.specs.Emitting.{Emits, Progress}
@@ -12,7 +10,7 @@ use Rattle.scope_spec.specs.Flat.{plain_record_lem, small_record_lem}
 use Rattle.image_read_parts.specs.Indexed.{record_at, At}
 use Rattle.pass_work_spec.specs.Work.{Work}
 use Rattle.pass_work_spec.specs.declared.Entry.{Entry}
-use Rattle.pass_context.specs.Holding.{work_of, HoldsWork}
+use Rattle.pass_context.specs.Holding.{HoldsWork}
 use Rattle.pass_entries.specs.Masks.{marked}
 use Rattle.pass_context.specs.declared.Held.{Held}
 use Rattle.pass_step_spec.specs.Steps.{Step, step_of, clause_context}
@@ -41,13 +39,6 @@ pub record RoomAt (p : Progress) : Type 0 where
   pub count : p.count + 2 < 2 ^ 64
   pub max_id : p.max_id + 256 < 2 ^ 32
 
--- a list of targets beside what is wanted in their places. (Asked of two lists that come from two sides, and that only a substitution puts together.)
-pub record Paired (targets wanted : TypingContext) : Type 0 where
-  pub count : targets.len ≡ length (context_of targets)
-  pub same : targets.len ≡ wanted.len
-  pub wanted_count : wanted.len ≡ length (context_of wanted)
-  pub few : targets.len ≤ 64
-
 -- these records were written, one at most, and nothing was drawn
 pub record Arranges (w : ℕ) (out out' lengths lengths' : List ℕ) (p q : Progress) (R : List Record) : Type 0 where
   pub emits : Emits w out out' lengths lengths' p q R
@@ -69,7 +60,6 @@ pub record SourceAt (g : Frame) (s : List ℕ) (i kind : ℕ) : Type 0 where
 
 -- the context at work, with n variables in scope, has room for what binds k more. (Asked and no field: how much differs from statement to statement.)
 pub record Workable (held : Held) (n k : ℕ) : Type 0 where
-  pub count : held.len ≡ length (work_of held)
   pub room : held.len + k ≤ 64
   pub places : n + k ≤ 64
 
@@ -101,13 +91,11 @@ pub record Opens (w : ℕ) (record' : Record) (freeClauses freeNext : List VarId
   pub count : r.progress.count ≡ p.count + front_records record' freeClauses freeNext W
   pub max_id : r.progress.max_id ≡ p.max_id
 
--- .. with whatever sets the masks say. Whatever they say, the context for the clauses is one to work with.
+-- .. with whatever sets the masks say
 pub record OpensAs (w : ℕ) (record' : Record) (clauses next : ℕ) (W : Work) (p : Progress) (r : Opened) : Type 0 where
-  pub workable : Workable r.context 0 0
   pub opens : (freeClauses freeNext : List VarId) → Says clauses freeClauses W → Says next freeNext W → Opens w record' freeClauses freeNext W p r
 
 -- what was opened: the context for the clauses, and whether the context is right already, with whatever sets the masks say
 pub record OpenedAs (record' : Record) (clauses next : ℕ) (W : Work) (r : Opened) : Type 0 where
-  pub workable : Workable r.context 0 0
   pub context : (freeClauses freeNext : List VarId) → Says clauses freeClauses W → Says next freeNext W → HoldsWork r.context (clause_context record' freeClauses freeNext W)
   pub right : (freeClauses freeNext : List VarId) → Says clauses freeClauses W → Says next freeNext W → r.right ≡ right_of record' freeClauses freeNext W

@@ -12,7 +12,6 @@ use Rattle.syntax.specs.declared.names.VarId.{VarId}
 use Rattle.syntax.specs.declared.names.Identifier.{Identifier}
 use Rattle.syntax.specs.declared.context.Chirality.TheVariants.{Prd, Cns}
 use Rattle.syntax.specs.declared.context.ContextBinding.{ContextBinding}
-use Rattle.syntax.specs.declared.ifc.IfSort.{IfSort}
 use Rattle.syntax.proofs.Same.{same_context_self}
 use Rattle.model.specs.Lists.{zip}
 use Rattle.model.specs.Rules.{bind, freshen_unless_lem, fresh_var_unless}
@@ -21,11 +20,12 @@ use Rattle.image_spec.specs.Parse.{each, mark}
 use Rattle.image_spec.specs.Fields.{identifier_bytes, binding_bytes, list_bytes, pair_bytes}
 use Rattle.image_spec.specs.Records.{Record, definition, substitute, call, let', switch, create, invoke, literal, op, ifc, clause', print, exit, record_bytes}
 use Rattle.image_spec.specs.Kinds.{kind_of, fixed, tail_bytes}
-use Rattle.image_spec.proofs.FieldLaws.{identifier-length, binding-length}
+use Rattle.image_spec.proofs.FieldLaws.{identifier-length, binding-length, pair-length}
 use Rattle.image_spec.proofs.KindLaws.{tail_at, fixed_le}
 use Rattle.pass_work_spec.specs.declared.Entry.{Entry}
 use Rattle.pass_work_spec.specs.Work.{Work, bindings, used, used_option, used_binding_lem, used_all_lem, kept}
-use Rattle.pass_step_spec.specs.Steps.{arranged, environment, step_of, step_call_lem, step_let, step_switch, step_create, step_invoke, step_literal, step_op, step_if_c, step_print_i64, step_exit, step_other}
+use Rattle.pass_step_spec.specs.Steps.{arranged, environment, step_of, step_call_lem, step_let, step_switch, step_create, step_invoke, step_literal, step_op}
+use Rattle.pass_step_spec.specs.Steps.{step_if_c, step_print_i64, step_exit, step_other}
 use Rattle.pass_step_spec.specs.Fronts.{wanted, right_of, front_records, list_size, pairs_size, option_size, tail_size, front_bytes}
 
 -- ── bytes of records ──
@@ -39,11 +39,8 @@ module _ (w : ℕ) where
   pub list_length : (Γ : Context) → length (list_bytes w Γ) ≡ list_size w (length Γ)
   list_length Γ = omega (arith, each-length (binding_bytes w) (6 + (w + w)) (binding-length w) Γ)
 
-  pair-length : (p : ContextBinding × Identifier) → length (pair_bytes w p) ≡ 8 + (w + (w + w))
-  pair-length p = omega (arith, length-append (binding_bytes w p.0) (identifier_bytes w p.1), binding-length w p.0, identifier-length w p.1)
-
   pub pairs-length : (ps : List (ContextBinding × Identifier)) → length (tail_bytes w (substitute ps)) ≡ pairs_size w (length ps)
-  pairs-length ps = omega (arith, each-length (pair_bytes w) (8 + (w + (w + w))) pair-length ps)
+  pairs-length ps = omega (arith, each-length (pair_bytes w) (8 + (w + (w + w))) (pair-length w) ps)
 
   option_length : (o : Option Identifier) → length (mark (identifier_bytes w) o) ≡ option_size w o
   option_length none = refl
@@ -134,8 +131,24 @@ front-form (invoke var tag ty args) fc fn W n m =
       tail = λ w. list_length w [];
     }
 front-form (literal lit var) fc fn W n m = record { targets = bindings (kept fn W); own = literal lit var; form = refl; count = refl; kind = refl; tail = λ w. refl }
-front-form (op fst o snd var) fc fn W n m = record { targets = bindings (kept (fst.id ∷ snd.id ∷ fn) W); own = op (used W fst) o (used W snd) var; form = refl; count = refl; kind = refl; tail = λ w. refl }
-front-form (ifc sort fst snd) fc fn W n m = record { targets = bindings W; own = ifc sort (used W fst) (used_option W snd); form = self_front W _; count = refl; kind = refl; tail = λ w. option_length w (used_option W snd) ∙ same_option w W snd }
+front-form (op fst o snd var) fc fn W n m =
+    record {
+      targets = bindings (kept (fst.id ∷ snd.id ∷ fn) W);
+      own = op (used W fst) o (used W snd) var;
+      form = refl;
+      count = refl;
+      kind = refl;
+      tail = λ w. refl;
+    }
+front-form (ifc sort fst snd) fc fn W n m =
+    record {
+      targets = bindings W;
+      own = ifc sort (used W fst) (used_option W snd);
+      form = self_front W _;
+      count = refl;
+      kind = refl;
+      tail = λ w. option_length w (used_option W snd) ∙ same_option w W snd;
+    }
 front-form (clause' x Γ) fc fn W n m = record { targets = bindings W; own = clause' x Γ; form = self_front W _; count = refl; kind = refl; tail = λ w. list_length w Γ }
 front-form (print newline var) fc fn W n m = record { targets = bindings (kept (var.id ∷ fn) W); own = print newline (used W var); form = refl; count = refl; kind = refl; tail = λ w. refl }
 front-form (exit var) fc fn W n m = record { targets = bindings W; own = exit (used W var); form = self_front W _; count = refl; kind = refl; tail = λ w. refl }
@@ -177,8 +190,3 @@ module _ (r : Record) (fc fn : List VarId) (W : Work) (n m : ℕ) where
       ap (λ (l : List Record). length (each (record_bytes w) l)) f.form
       ∙ arranged-bytes w (right_of r fc fn W) f.targets (wanted r fc fn W) f.own f.count
       ∙ ap (λ (k : ℕ). cond (right_of r fc fn W) 0 (1 + pairs_size w (length (wanted r fc fn W))) + k) (record_length w f.own ∙ rw (f.kind, f.tail w))
-
--- an IfC finds the context right
-pub right-ifc : (sort : IfSort) (fst : Identifier) (snd : Option Identifier) (fc fn : List VarId) (W : Work) → right_of (ifc sort fst snd) fc fn W ≡ true
-unfolding right_of wanted
-right-ifc sort fst snd fc fn W = same_context_self (bindings W)

@@ -20,7 +20,8 @@ use Rattle.model.specs.Syntax.{Stmt, Substitute, Call, Let, Switch, Create, Invo
 use Rattle.model.specs.Sizes.{records_defs, depth_defs, count}
 use Rattle.model.specs.Questions.{OfStmt, OfBinders, asked, asked_defs, any_binders, plain, small, small_binders, question6, question7}
 use Rattle.model.proofs.Questions.{Asked, AskedClauses, answered, three}
-use Rattle.model.proofs.Widths.{small-says, leb_says}
+use borrow.Author.Tests.{leb-true}
+use Rattle.model.proofs.Widths.{small-says}
 use Rattle.image_spec.specs.Parse.{each, All}
 use Rattle.image_spec.specs.Fields.{max_count, list_bytes}
 use Rattle.image_spec.specs.Records.{Record, definition, substitute, call, let', switch, create, invoke, literal, op, ifc, clause', print, exit, record_bytes}
@@ -89,7 +90,8 @@ module _ (e : Record → List ℕ) (K : ℕ) where
         let s = step_done t W n m in
         let k : length s.context ≤ length (binders r ++ Δ) = omega (arith, h, bodies-longer r fc fn W n (clauses_done t W n m).1, length-append (binders r) Δ) in
         sized_same (work_view t p W n m).flat (flatten-view t)
-        (sized-append (f.stmt t Δ a W n _ h) (sized-append (cs (params_first r) (clause_context r fc fn W) n m (le_trans (clauses-fewer r fc fn W) h)) (bodies-sized (bodies_of t) (binders r ++ Δ) bs s.context s.in_scope_lem s.max_id k)))
+        (sized-append (f.stmt t Δ a W n _ h) (sized-append (cs (params_first r) (clause_context r fc fn W) n m (le_trans (clauses-fewer r fc fn W) h))
+        (bodies-sized (bodies_of t) (binders r ++ Δ) bs s.context s.in_scope_lem s.max_id k)))
 
     no-clauses : (Δ : List VarId) → SizedClauses end Δ
     unfolding flatten work_stmt
@@ -238,9 +240,10 @@ module _ (w : ℕ) (v : w ≤ 8) where
   front-least r fc fn W = omega (arith, fixed-least r)
 
   -- a record with a name and a list of binders
-  named-sized : (r : Record) (Γ : Context) (Δ : List VarId) → small_binders Δ (ids Γ) ≡ true → fixed w (kind_of r) ≤ 11 → length (tail_bytes w r) ≡ length (list_bytes w Γ) → Sized (record_bytes w) 8192 (r ∷ []) (r ∷ [])
+  named-sized : (r : Record) (Γ : Context) (Δ : List VarId) → small_binders Δ (ids Γ) ≡ true → fixed w (kind_of r) ≤ 11
+      → length (tail_bytes w r) ≡ length (list_bytes w Γ) → Sized (record_bytes w) 8192 (r ∷ []) (r ∷ [])
   named-sized r Γ Δ a f e =
-      let k : length Γ ≤ 32 = omega (arith, leb_says (length (ids Γ)) 32 a, length-map Γ id_of) in
+      let k : length Γ ≤ 32 = omega (arith, leb-true (length (ids Γ)) 32 a, length-map Γ id_of) in
       let n = length-append (record_bytes w r) [] in
       record { least = omega (arith, n, record_length w r, fixed-least r); most = omega (arith, n, record_length w r, f, e, list_length w Γ, list-most (length Γ) 32 k) }
 

@@ -24,7 +24,8 @@ use Rattle.pass_work_spec.specs.Work.{Work, bindings, own, used, used_binding_le
 use Rattle.pass_work_spec.specs.Placed.{Fits, AllFit, AllFitClauses}
 use Rattle.pass_work_spec.proofs.Lengths.{kept-fewer, env_fewer, unless-fewer}
 use Rattle.pass_work_spec.proofs.Bounds.{work_rises}
-use Rattle.pass_step_spec.specs.Steps.{environment, step_of, step_call_lem, step_let, step_switch, step_create, step_invoke, step_literal, step_op, step_if_c, step_print_i64, step_exit, step_other, clause_context, params_first, work_bodies}
+use Rattle.pass_step_spec.specs.Steps.{environment, step_of, step_call_lem, step_let, step_switch, step_create, step_invoke, step_literal, step_op, step_if_c}
+use Rattle.pass_step_spec.specs.Steps.{step_print_i64, step_exit, step_other, clause_context, params_first, work_bodies}
 use Rattle.pass_step_spec.specs.Fronts.{wanted}
 use Rattle.pass_step_spec.proofs.WorkViews.{free_in_clauses, free_in_bodies, def_done}
 
@@ -44,7 +45,14 @@ wanted-short (Let var ty tag args next) fc fn W h k =
 wanted-short (Switch var ty cs) fc fn W h k =
     omega (arith, length-append (bindings (kept fc W)) (bind (used W var) Prd ty ∷ []), length-map (kept fc W) (λ (e : Entry). e.binding), kept-fewer fc W)
 wanted-short (Create var ty env cs next) fc fn W h k =
-    omega (arith, length-append (bindings (kept fn W)) (bindings (environment fc fn W)), length-map (kept fn W) (λ (e : Entry). e.binding), kept-fewer fn W, length-map (environment fc fn W) (λ (e : Entry). e.binding), environment-fewer fc fn W)
+    omega (
+      arith,
+      length-append (bindings (kept fn W)) (bindings (environment fc fn W)),
+      length-map (kept fn W) (λ (e : Entry). e.binding),
+      kept-fewer fn W,
+      length-map (environment fc fn W) (λ (e : Entry). e.binding),
+      environment-fewer fc fn W,
+    )
 wanted-short (Invoke var tag ty args) fc fn W h k =
     omega (arith, length-append (used_all_lem W args) (bind (used W var) Cns ty ∷ []), length-map args (used_binding_lem W))
 wanted-short (Literal lit var next) fc fn W h k = omega (arith, length-map (kept fn W) (λ (e : Entry). e.binding), kept-fewer fn W)
@@ -129,7 +137,8 @@ defs_rise (d ∷ ds) m = le_trans (work_rises d.body (owns 0 d.context) (length 
 pub record FitView (t : Stmt) (Δ : List VarId) (W : Work) (n : ℕ) : Type 0 where
   pub here : Fits Δ W n
   pub clauses : AllFitClauses (clauses_in t) (params_first (record_of t)) Δ (clause_context (record_of t) (free_in_clauses t) (free_in_bodies t) W) n
-  pub bodies : (m : ℕ) → (let s = step_of (record_of t) (free_in_clauses t) (free_in_bodies t) W n m in All (λ (b : Stmt). AllFit b (Δ ++ binders (record_of t)) s.context s.in_scope_lem) (bodies_of t))
+  pub bodies : (m : ℕ)
+      → (let s = step_of (record_of t) (free_in_clauses t) (free_in_bodies t) W n m in All (λ (b : Stmt). AllFit b (Δ ++ binders (record_of t)) s.context s.in_scope_lem) (bodies_of t))
 
 pub fit-view : (t : Stmt) → Plain t → (Δ : List VarId) (W : Work) (n : ℕ) → AllFit t Δ W n → FitView t Δ W n
 unfolding AllFit environment step_call_lem step_let step_switch step_create step_invoke step_literal step_op step_if_c step_print_i64 step_exit

@@ -19,8 +19,10 @@ use Rattle.image_spec.specs.Shape.{flatten, flatten_clauses, flatten_defs}
 use Rattle.image_places_spec.specs.Views.{record_of, clauses_in, bodies_of}
 use Rattle.scope_spec.specs.FreeRows.{free_bodies}
 use Rattle.scope_spec.proofs.FreeViews.{Plain}
-use Rattle.pass_work_spec.specs.Work.{Work, owns, kept, moved_behind, work_stmt, work_clauses, work_defs, work_call, work_let, work_switch, work_create, work_invoke, work_literal, work_op, work_if_c, work_print_i64, work_exit, work_clause}
-use Rattle.pass_step_spec.specs.Steps.{Step, arranged, environment, step_of, step_call_lem, step_let, step_switch, step_create, step_invoke, step_literal, step_op, step_if_c, step_print_i64, step_exit, clause_context, params_first, work_bodies}
+use Rattle.pass_work_spec.specs.Work.{Work, owns, kept, moved_behind, work_stmt, work_clauses, work_defs, work_call, work_let, work_switch, work_create}
+use Rattle.pass_work_spec.specs.Work.{work_invoke, work_literal, work_op, work_if_c, work_print_i64, work_exit, work_clause}
+use Rattle.pass_step_spec.specs.Steps.{Step, arranged, environment, step_of, step_call_lem, step_let, step_switch, step_create, step_invoke, step_literal}
+use Rattle.pass_step_spec.specs.Steps.{step_op, step_if_c, step_print_i64, step_exit, clause_context, params_first, work_bodies}
 
 -- ── a statement ──
 
@@ -60,12 +62,18 @@ module _ (t : Stmt) (W : Work) (n m : ℕ) where
     pub max : (work_stmt t W n m).1 ≡ bodies_done.1
 
 pub work_view : (t : Stmt) → Plain t → (W : Work) (n m : ℕ) → WorkView t W n m
-unfolding work_stmt work_bodies work_call work_let work_switch work_create work_invoke work_literal work_op work_if_c work_print_i64 work_exit environment step_call_lem step_let step_switch step_create step_invoke step_literal step_op step_if_c step_print_i64 step_exit flatten
+unfolding work_stmt work_bodies work_call work_let work_switch work_create work_invoke work_literal work_op work_if_c work_print_i64 work_exit
+    environment step_call_lem step_let step_switch step_create step_invoke step_literal step_op step_if_c step_print_i64 step_exit flatten
 work_view (Substitute ps next) p W n m = absurd p
 work_view (Call label args) p W n m = record { flat = arrange-flat _ _ _ (Call label []) _ [] refl; max = refl }
 work_view (Let var ty tag args next) p W n m = record { flat = rw (append-nil (free_vars next), append-nil) (arrange-flat _ _ _ _ _ _ refl); max = rw (append-nil (free_vars next)) }
 work_view (Switch var ty cs) p W n m = record { flat = rw append-nil (arrange-flat _ _ _ _ _ _ (rw (same_count cs false (kept (free_vars_clauses cs) W) n m))); max = refl }
-work_view (Create var ty env cs next) p W n m = record { flat = rw (append-nil (free_vars next), append-nil) (arrange-flat _ _ _ _ _ _ (rw (same_count cs true (kept (free_vars_clauses cs) (moved_behind (length (kept (free_vars next) W)) W)) n m))); max = rw (append-nil (free_vars next)) }
+work_view (Create var ty env cs next) p W n m =
+    let others = moved_behind (length (kept (free_vars next) W)) W in
+    record {
+      flat = rw (append-nil (free_vars next), append-nil) (arrange-flat _ _ _ _ _ _ (rw (same_count cs true (kept (free_vars_clauses cs) others) n m)));
+      max = rw (append-nil (free_vars next));
+    }
 work_view (Invoke var tag ty args) p W n m = record { flat = arrange-flat _ _ _ (Invoke _ tag ty []) _ [] refl; max = refl }
 work_view (Literal lit var next) p W n m = record { flat = rw (append-nil (free_vars next), append-nil) (arrange-flat _ _ _ _ _ _ refl); max = rw (append-nil (free_vars next)) }
 work_view (Op fst op snd var next) p W n m = record { flat = rw (append-nil (free_vars next), append-nil) (arrange-flat _ _ _ _ _ _ refl); max = rw (append-nil (free_vars next)) }

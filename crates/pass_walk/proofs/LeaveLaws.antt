@@ -15,6 +15,7 @@ use Rattle.image_read_parts.specs.Indexed.{record_at, At}
 use Rattle.pass_records.proofs.ListPlaces.{at-made}
 use Rattle.pass_work_spec.specs.Work.{Work}
 use Rattle.pass_context.specs.Holding.{work_of}
+use Rattle.pass_context.proofs.Counts.{work-count}
 use Rattle.pass_context.specs.declared.Held.{Held}
 use Rattle.pass_step_spec.specs.Steps.{Step, step_of, step_other, step_call_lem, step_switch, step_invoke, step_if_c, step_exit}
 use Rattle.pass_step_spec.specs.Fronts.{wanted, right_of}
@@ -49,13 +50,13 @@ none_bound (exit var) fc fn W n m e o = record { context = refl; in_scope_lem = 
 abbrev pub stayed : Held → ℕ → Progress → Stepped
 stayed held n q = record { context = held; in_scope = n; progress = q }
 
-pub leaves_stay : {w : ℕ} {r : Record} {clauses next n : ℕ} {out out' lengths lengths' : List ℕ} {p q : Progress} (held : Held) → held.len ≡ length (work_of held) → binders r ≡ [] → (kind_of r ≡ 12 → ⊥)
+pub leaves_stay : {w : ℕ} {r : Record} {clauses next n : ℕ} {out out' lengths lengths' : List ℕ} {p q : Progress} (held : Held) → binders r ≡ [] → (kind_of r ≡ 12 → ⊥)
     → LeavesAs w r clauses next (work_of held) n out out' lengths lengths' p q → StepsAs w r clauses next (work_of held) n out out' lengths lengths' p (stayed held n q)
-leaves_stay {r = r} {n = n} {p = p} held c e o h = record {
+leaves_stay {r = r} {n = n} {p = p} held e o h = record {
   steps = λ fc fn x y.
       let l = h.leaves fc fn x y in
       let z = none_bound r fc fn (work_of held) n p.max_id e o in
-      record { emits = l.emits; context = record { count = c ∙ ap length (sym z.context); list = sym z.context }; in_scope_lem = sym z.in_scope_lem; max_id = l.max_id };
+      record { emits = l.emits; context = record { count = work-count held ∙ ap length (sym z.context); list = sym z.context }; in_scope_lem = sym z.in_scope_lem; max_id = l.max_id };
 }
 
 -- ── what was opened ──
@@ -63,7 +64,7 @@ leaves_stay {r = r} {n = n} {p = p} held c e o h = record {
 -- what was opened for a Switch is the same whatever its bodies need: it has none
 switch-sees : {v t n clauses next W r : _} (fn : List VarId) → Says next fn W → OpenedAs (switch v t n) clauses next W r → OpenedAs (switch v t n) clauses 0 W r
 unfolding right_of wanted
-switch-sees fn y h = record { workable = h.workable; context = λ fc _ x _. h.context fc fn x y; right = λ fc _ x _. h.right fc fn x y }
+switch-sees fn y h = record { context = λ fc _ x _. h.context fc fn x y; right = λ fc _ x _. h.right fc fn x y }
 
 pub switch-opened : {g : Frame} {s : List ℕ} {i clauses next : ℕ} {W : Work} {r : Opened} (fn : List VarId) → At g s i 5 → Says next fn W
     → OpenedAs (record_at g s i) clauses next W r → OpenedAs (record_at g s i) clauses 0 W r

@@ -30,6 +30,7 @@ use Rattle.pass_work_spec.specs.Placed.{AllFit, AllFitClauses}
 use Rattle.pass_work_spec.proofs.Rooms.{here-fits, clauses-fit}
 use Rattle.pass_work_spec.proofs.Bounds.{work_rises_clauses}
 use Rattle.pass_context.specs.Holding.{work_of, HoldsWork}
+use Rattle.pass_context.proofs.Counts.{work-count}
 use Rattle.pass_context.specs.declared.Held.{Held}
 use Rattle.pass_step_spec.specs.Steps.{work_bodies}
 use Rattle.pass_step_spec.proofs.WorkViews.{body_done, rest_done, clause-view, bodies-view}
@@ -69,7 +70,6 @@ body-ahead {g} {s} {width = width} {d = d} {i = i} {n = n} {p = p} {st = st} {W 
     record {
       sources = q;
       stands = x;
-      count = e.context.count ∙ sym (ap length e.context.list);
       scope = Δ;
       rows_are = b;
       fits = rw (e.context.list, e.in_scope_lem) f;
@@ -125,12 +125,12 @@ module _ {g : Frame} {s rows : List ℕ} {width : ℕ} (q : Sources g s) {d : �
   pub clause-source : Ready g s → SourceAt g s z.next 11
   clause-source ready = source-at ready q (record { inside = omega (arith, x.inside, records-length g s ready); kind = clause-kind x })
 
-  pub clause-workable : held.len ≡ length (work_of held) → Workable held n (length (list_of (record_at g s z.next)))
-  clause-workable c =
+  pub clause-workable : Workable held n (length (list_of (record_at g s z.next)))
+  clause-workable =
       let f = clauses-fit x.rest before Δ (work_of held) n fits.1 in
       let b = (here-fits t _ _ _ fits.0).room in
       let e = ap (λ (r : Record). length (list_of r)) is_clause in
-      record { count = c; room = omega (arith, c, f.placed.fits, f.count, b, e); places = omega (arith, b, e) }
+      record { room = omega (arith, work-count held, f.placed.fits, f.count, b, e); places = omega (arith, b, e) }
 
   pub clause-room : RoomAt z.progress
   clause-room = room-here x.holds.writing.room (work_rises_clauses _ before (work_of held) n m)
@@ -190,11 +190,10 @@ module _ {g : Frame} {s rows : List ℕ} {width : ℕ} (q : Sources g s) {d : �
   ahead' : Writing width all top out out' lengths lengths' p z.progress (flatten first_is.0 ++ each flatten (work_bodies x.rest (work_of held) n first_is.1).0) (work_bodies x.rest (work_of held) n first_is.1).1
   ahead' = let v = bodies-view first x.rest (work_of held) n z.progress.max_id in writing_as v.flat v.max x.holds.writing
 
-  pub first_body : held.len ≡ length (work_of held) → StmtAhead g s rows width d z.next held n z.progress first
-  first_body c = record {
+  pub first_body : StmtAhead g s rows width d z.next held n z.progress first
+  first_body = record {
     sources = q;
     stands = x.body;
-    count = c;
     scope = x.holds.scope;
     rows_are = begins-left (rows_stmt first x.holds.scope) _ x.holds.rows_are;
     fits = x.holds.fits.0;
@@ -229,7 +228,7 @@ module _ {g : Frame} {s rows : List ℕ} {width d k i : ℕ} {held : Held} {n : 
   only out lengths = body-next (record { rest = ts; stand = h.stand; size = refl; holds = bodies-begun out lengths h }) (omega (arith, one))
 
   pub one-body : StmtAhead g s rows width d i held n p (stmt_at d (records_in g s) i)
-  one-body = first_body h.sources (only [] []) h.count
+  one-body = first_body h.sources (only [] [])
 
   pub one-body-done : {out out' lengths lengths' : List ℕ} {v : Linearized}
       → (let t = stmt_at d (records_in g s) i in let b = work_stmt t (work_of held) n p.max_id in LinearizedTo width out out' lengths lengths' p v (i + length (flatten t)) (flatten b.0) b.1)

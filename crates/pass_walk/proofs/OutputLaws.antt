@@ -37,4 +37,4 @@ linearized-behind {o} {o₁} {o₂} {next} {place} {R} {top} u y =
 
 -- what was opened, however far the output has come since
 pub opened-since : {w : ℕ} {z : Record} {c n : ℕ} {W : Work} {p : Progress} {r : Opened} (q : Progress) → OpensAs w z c n W p r → OpenedAs z c n W (record { context = r.context; right = r.right; progress = q })
-opened-since q o = let a = opened_as o in record { workable = a.workable; context = a.context; right = a.right }
+opened-since q o = let a = opened_as o in record { context = a.context; right = a.right }

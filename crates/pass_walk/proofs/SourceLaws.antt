@@ -13,7 +13,7 @@ use Rattle.syntax.specs.Sets.{elem}
 use Rattle.syntax.specs.declared.names.VarId.{VarId}
 use Rattle.syntax.proofs.Bools.{both_true}
 use Rattle.model.specs.Syntax.{Stmt, Substitute, Call, Let, Switch, Create, Invoke, Literal, Op, IfC, PrintI64, Exit, end}
-use Rattle.model.proofs.Widths.{leb_says}
+use borrow.Author.Tests.{leb-true}
 use Rattle.image_spec.specs.Records.{Record, definition, substitute, call, let', switch, create, invoke, literal, op, ifc, clause', print, exit}
 use Rattle.image_spec.specs.Kinds.{kind_of, bodies}
 use Rattle.image_kinds.specs.Codes.{code_of, named_kind}
@@ -37,7 +37,7 @@ use Rattle.pass_work_spec.proofs.Rooms.{here-fits}
 use Rattle.pass_entries.specs.Masks.{marked}
 use Rattle.pass_step_spec.specs.Steps.{params_first}
 use Rattle.pass_step.specs.Stepping.{Says, SourceAt}
-use Rattle.pass_dispatch.specs.Choices.{proceeds, Proceeds, Settles}
+use Rattle.pass_dispatch.specs.Choices.{HasClauses, proceeds, Proceeds, Settles}
 use Rattle.pass_walk.specs.Walking.{Sources}
 
 pub source-at : {g : Frame} {s : List ℕ} {i kind : ℕ} → Ready g s → Sources g s → At g s i kind → SourceAt g s i kind
@@ -62,8 +62,8 @@ plain-source (PrintI64 newline var next) e = tt
 plain-source (Exit var) e = tt
 
 -- a Switch or a Create
-pub has-clauses : (k : ℕ) → (leb 5 k && leb k 6) ≡ true → (5 ≤ k) × (k ≤ 6)
-has-clauses k e = let b = both_true (leb 5 k) (leb k 6) e in (leb_says 5 k b.0, leb_says k 6 b.1)
+pub has-clauses : (k : ℕ) → (leb 5 k && leb k 6) ≡ true → HasClauses k
+has-clauses k e = let b = both_true (leb 5 k) (leb k 6) e in (leb-true 5 k b.0, leb-true k 6 b.1)
 
 pub no-clauses : (t : Stmt) → (leb 5 (kind_of (record_of t)) && leb (kind_of (record_of t)) 6) ≡ false → clauses_in t ≡ end
 no-clauses (Substitute ps next) e = refl
@@ -131,7 +131,7 @@ params_first_lem (exit var) = refl
 pub a-create : (k : Kind) {t : Bool} → t ≡ sameb the_type k kind.Create → t ≡ true → k ≡ kind.Create
 a-create k e h = same_true the_type (search rules) k kind.Create (sym e ∙ h)
 
-pub a-switch : (k : Kind) → (5 ≤ code_of k) × (code_of k ≤ 6) → (code_of k ≡ 6 → ⊥) → k ≡ kind.Switch
+pub a-switch : (k : Kind) → HasClauses (code_of k) → (code_of k ≡ 6 → ⊥) → k ≡ kind.Switch
 a-switch k b n = same_code k kind.Switch (omega (arith, b.0, b.1, n))
 
 pub no-create : (k : Kind) {t : Bool} → t ≡ sameb the_type k kind.Create → t ≡ false → code_of k ≡ 6 → ⊥

@@ -33,10 +33,14 @@ use Rattle.pass_work_spec.specs.Work.{Work, work_stmt}
 use Rattle.pass_work_spec.proofs.Rooms.{here-fits}
 use Rattle.pass_entries.specs.Masks.{InPlaces}
 use Rattle.pass_context.specs.Holding.{work_of}
+use Rattle.pass_context.proofs.Counts.{work-count}
 use Rattle.pass_context.specs.declared.Held.{Held}
 use Rattle.pass_step_spec.specs.Steps.{Step, clause_context, params_first}
 use Rattle.pass_step_spec.proofs.WorkViews.{free_in_clauses, free_in_bodies, clauses_done, step_done, bodies_done, WorkView, work_view}
 use Rattle.pass_step_spec.proofs.StepBounds.{FitView, fit-view, step_rises, bodies_rise}
+use Rattle.scope_spec.specs.declared.FreeVars.{FreeVars}
+use Rattle.scope_spec.specs.Pairs.{masks_of}
+use Rattle.scope_spec.proofs.PairLaws.{no_masks, masks-length, masks-first, masks-second}
 use Rattle.pass_work_spec.proofs.Bounds.{work_rises_clauses}
 use Rattle.pass_step.specs.Stepping.{Says, RoomAt, Workable}
 use Rattle.pass_dispatch.specs.Choices.{proceeds, Proceeds}
@@ -142,13 +146,10 @@ module _ {g : Frame} {s rows : List ℕ} {width d i : ℕ} {held : Held} {n : �
       let f = here-fits here h.scope W n h.fits in
       let b = binders-fit here h.scope W n plain_here h.fits in
       let e = ap (λ (r : Record). length (binders r)) is_record in
-      record { count = h.count; room = omega (arith, h.count, f.placed.fits, f.count, b, e); places = omega (arith, b, e) }
+      record { room = omega (arith, work-count held, f.placed.fits, f.count, b, e); places = omega (arith, b, e) }
 
   pub workable_for : {k : ℕ} → length (binders (record_at g s i)) ≡ k → Workable held n k
   workable_for e = subst (Workable held n) e workable
-
-  pub workable_open : Workable held 0 0
-  workable_open = let w = workable in record { count = h.count; room = omega (arith, w.room); places = omega arith }
 
   -- the places of the entries tell their sources
   pub in_places : InPlaces W
@@ -159,15 +160,15 @@ module _ {g : Frame} {s rows : List ℕ} {width d i : ℕ} {held : Held} {n : �
   unfolding row_of
   row = row_here _ _ _ (subst (Begins rows (2 * i)) (rows-view here h.scope) h.rows_are)
 
-  pub row_inside : 2 * i + 1 < length rows
-  row_inside = row.inside
+  masks_inside : 2 * i + 1 < length rows
+  masks_inside = row.inside
 
-  pub say_clauses : Says (get_or rows (2 * i) 0) (free_in_clauses here) W
-  say_clauses = subst (λ (z : ℕ). Says z (free_in_clauses here) W) (ap (mask_of (free_in_clauses here)) (append-nil h.scope) ∙ sym row.first)
+  first_says : Says (get_or rows (2 * i) 0) (free_in_clauses here) W
+  first_says = subst (λ (z : ℕ). Says z (free_in_clauses here) W) (ap (mask_of (free_in_clauses here)) (append-nil h.scope) ∙ sym row.first)
       (row-says (free_in_clauses here) h.scope [] (here-fits here h.scope W n h.fits).placed)
 
-  pub say_next : Says (get_or rows (2 * i + 1) 0) (free_in_bodies here) W
-  say_next = subst (λ (z : ℕ). Says z (free_in_bodies here) W) (sym row.second) (row-says (free_in_bodies here) h.scope (binders (record_of here)) (here-fits here h.scope W n h.fits).placed)
+  second_says : Says (get_or rows (2 * i + 1) 0) (free_in_bodies here) W
+  second_says = subst (λ (z : ℕ). Says z (free_in_bodies here) W) (sym row.second) (row-says (free_in_bodies here) h.scope (binders (record_of here)) (here-fits here h.scope W n h.fits).placed)
 
   -- the rows of its clauses, and those of its bodies
   rows-below : Begins rows (2 * i + 2) (rows_clauses (clauses_in here) h.scope ++ rows_bodies (bodies_of here) (h.scope ++ binders (record_of here)))
@@ -182,3 +183,14 @@ module _ {g : Frame} {s rows : List ℕ} {width d i : ℕ} {held : Held} {n : �
   rows-bodies next e = subst (λ (z : ℕ). Begins rows z (rows_bodies (bodies_of here) (h.scope ++ binders (record_of here))))
       (omega (arith, e, rows-clauses-length (clauses_in here) h.scope))
       (begins-right (rows_clauses (clauses_in here) h.scope) _ rows-below)
+
+-- .. in a row of pairs
+module _ {g : Frame} {s : List ℕ} (pairs : List FreeVars) {width d i : ℕ} {held : Held} {n : ℕ} {p : Progress} (h : StmtAhead g s (masks_of pairs) width d i held n p (stmt_at d (records_in g s) i)) where
+  pub row_inside : i < length pairs
+  row_inside = omega (arith, masks_inside h, masks-length pairs)
+
+  pub say_clauses : Says (get_or pairs i no_masks).clauses (free_in_clauses (here h)) (W h)
+  say_clauses = subst (λ (z : ℕ). Says z (free_in_clauses (here h)) (W h)) (masks-first pairs i no_masks row_inside) (first_says h)
+
+  pub say_next : Says (get_or pairs i no_masks).next (free_in_bodies (here h)) (W h)
+  say_next = subst (λ (z : ℕ). Says z (free_in_bodies (here h)) (W h)) (masks-second pairs i no_masks row_inside) (second_says h)

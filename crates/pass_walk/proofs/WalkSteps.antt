@@ -36,11 +36,11 @@ use Rattle.pass_step_spec.specs.Fronts.{front_records, front_bytes}
 use Rattle.pass_step_spec.proofs.WorkViews.{free_in_clauses, free_in_bodies, clauses_done, step_done, bodies_done}
 use Rattle.pass_step_spec.proofs.FrontLaws.{front-records, front-bytes}
 use Rattle.pass_step.specs.Drawn.{drawn_to}
-use Rattle.pass_step.specs.Stepping.{RoomAt, Steps, Opens, OpensAs, Stepped, Opened}
+use Rattle.pass_step.specs.Stepping.{Says, RoomAt, Steps, Opens, OpensAs, Stepped, Opened}
 use Rattle.pass_walk.specs.Walking.{RoomTo, StmtAhead, ClausesAhead, BodiesAhead, LinearizedTo, Linearized}
 use Rattle.pass_walk.proofs.RoomLaws.{emits-at, room-first, room-second}
 use Rattle.pass_walk.proofs.SourceLaws.{params_first_lem}
-use Rattle.pass_walk.proofs.StatementLaws.{is_record, view, fit, drawn-step, drawn-bodies, room-view, say_clauses, say_next, rows-clauses, rows-bodies}
+use Rattle.pass_walk.proofs.StatementLaws.{is_record, view, fit, drawn-step, drawn-bodies, room-view, rows-clauses, rows-bodies}
 
 module _ {g : Frame} {s rows : List ℕ} {width d i : ℕ} {held : Held} {n : ℕ} {p : Progress} (h : StmtAhead g s rows width d i held n p (stmt_at d (records_in g s) i)) where
   abbrev here : Stmt
@@ -66,11 +66,12 @@ module _ {g : Frame} {s rows : List ℕ} {width d i : ℕ} {held : Held} {n : �
     pub first : before ≡ params_first (record_at g s i)
     pub opens : Opens width (record_at g s i) (free_in_clauses here) (free_in_bodies here) W p o
 
-  pub begun : {f : Follows} {before : Bool} {o : Opened} → Followed g s i f → before ≡ sameb the_type f.kind Create → OpensAs width (record_at g s i) (get_or rows (2 * i) 0) (get_or rows (2 * i + 1) 0) W p o → Begun f.clauses before o
-  begun {f = follows} f e o = record {
+  pub begun : {f : Follows} {before : Bool} {o : Opened} {clauses next : ℕ} → Followed g s i f → before ≡ sameb the_type f.kind Create
+      → Says clauses (free_in_clauses here) W → Says next (free_in_bodies here) W → OpensAs width (record_at g s i) clauses next W p o → Begun f.clauses before o
+  begun {f = follows} f e first second o = record {
     count = f.clauses;
     first = e ∙ ap (λ (z : Kind). sameb the_type z Create) (code-kind follows.kind (record_at g s i) (sym f.at.kind)) ∙ params_first_lem (record_at g s i);
-    opens = o.opens (free_in_clauses here) (free_in_bodies here) (say_clauses h) (say_next h);
+    opens = o.opens (free_in_clauses here) (free_in_bodies here) first second;
   }
 
   module _ {k : ℕ} {before : Bool} {o : Opened} (x : Begun k before o) where
@@ -110,7 +111,6 @@ module _ {g : Frame} {s rows : List ℕ} {width d i : ℕ} {held : Held} {n : �
     clauses-ahead = record {
       sources = h.sources;
       stand = a.clauses;
-      count = x.opens.context.count ∙ sym (ap length x.opens.context.list);
       scope = h.scope;
       rows_are = subst (λ (z : Clauses). Begins rows (2 * (i + 1)) (rows_clauses z h.scope)) (sym a.are_clauses) (rows-clauses h);
       fits = rw (a.are_clauses, first, in_clauses) (fit h).clauses;
@@ -182,7 +182,6 @@ module _ {g : Frame} {s rows : List ℕ} {width d i : ℕ} {held : Held} {n : �
     bodies-ahead = record {
       sources = h.sources;
       stand = b.bodies;
-      count = r.context.count ∙ sym (ap length r.context.list);
       scope = h.scope ++ binders (record_of here);
       rows_are = subst (λ (z : List Stmt). Begins rows (2 * next) (rows_bodies z (h.scope ++ binders (record_of here)))) (sym b.are_bodies)
           (rows-bodies h next (b.clauses_size ∙ ap (λ (z : Clauses). i + 1 + length (flatten_clauses z)) b.are_clauses));
@@ -211,5 +210,7 @@ module _ {g : Frame} {s rows : List ℕ} {width d i : ℕ} {held : Held} {n : �
     pub statement-ended : ts ≡ []
         → LinearizedTo width out out₁ lengths lengths₁ p (record { next = next; progress = q }) (i + length (flatten here)) (flatten (work_stmt here W n p.max_id).0) (work_stmt here W n p.max_id).1
     unfolding work_bodies flatten
-    statement-ended e = statement-done (subst (λ (us : List Stmt). let bs = work_bodies us (work_of st.context) st.in_scope q.max_id in LinearizedTo width out₁ out₁ lengths₁ lengths₁ q (record { next = next; progress = q }) (next + length (each flatten us)) (each flatten bs.0) bs.1)
+    statement-ended e = statement-done (
+        subst (λ (us : List Stmt). let bs = work_bodies us (work_of st.context) st.in_scope q.max_id in
+        LinearizedTo width out₁ out₁ lengths₁ lengths₁ q (record { next = next; progress = q }) (next + length (each flatten us)) (each flatten bs.0) bs.1)
         (sym e) (record { next_is = omega arith; writes = record { emits = emits_none width out₁ lengths₁ q; max_id = refl } }))

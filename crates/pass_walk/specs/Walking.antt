@@ -38,7 +38,6 @@ pub record RoomTo (w : ℕ) (p : Progress) (R : List Record) (top : ℕ) : Type 
 pub record StmtAhead (g : Frame) (s rows : List ℕ) (w d i : ℕ) (held : Held) (n : ℕ) (p : Progress) (t : Stmt) : Type 0 where
   pub sources : Sources g s
   pub stands : StmtStands d (records_in g s) i t
-  pub count : held.len ≡ length (work_of held)
   pub scope : List VarId
   pub rows_are : Begins rows (2 * i) (rows_stmt t scope)
   pub fits : AllFit t scope (work_of held) n
@@ -47,7 +46,6 @@ pub record StmtAhead (g : Frame) (s rows : List ℕ) (w d i : ℕ) (held : Held)
 pub record ClausesAhead (g : Frame) (s rows : List ℕ) (w d k i : ℕ) (before : Bool) (held : Held) (n : ℕ) (p : Progress) (cs : Clauses) : Type 0 where
   pub sources : Sources g s
   pub stand : ClausesStand d k (records_in g s) i cs
-  pub count : held.len ≡ length (work_of held)
   pub scope : List VarId
   pub rows_are : Begins rows (2 * i) (rows_clauses cs scope)
   pub fits : AllFitClauses cs before scope (work_of held) n
@@ -56,7 +54,6 @@ pub record ClausesAhead (g : Frame) (s rows : List ℕ) (w d k i : ℕ) (before 
 pub record BodiesAhead (g : Frame) (s rows : List ℕ) (w d k i : ℕ) (held : Held) (n : ℕ) (p : Progress) (ts : List Stmt) : Type 0 where
   pub sources : Sources g s
   pub stand : BodiesStand d k (records_in g s) i ts
-  pub count : held.len ≡ length (work_of held)
   pub scope : List VarId
   pub rows_are : Begins rows (2 * i) (rows_bodies ts scope)
   pub fits : All (λ (t : Stmt). AllFit t scope (work_of held) n) ts

@@ -2,6 +2,7 @@
 // step's; here is only the order: clauses first, then the step, then the bodies. What stands before the clauses is written once they are done,
 // for they draw first; its place is kept free.
 // (`source`, `depth`, `i`, `here` and `output`: source and output are the walk's, depth falls, i goes on, here is each statement's own.)
+// (`before`: whether the clauses are a Create's, whose parameters come before the context; one test by the kind, as `enter` asks it.)
 // (`depth`, `n` and `i`: n comes from the record above, and n clauses or statements may take more records, so n and i are no range.)
 ghost use Rattle.std.specs.Prelude.{◌≡◌, ◌&&◌, ◌+◌, leb, length};
 ghost use Rattle.image_spec.specs.Parse.{each};
@@ -10,6 +11,7 @@ ghost use Rattle.image_places_spec.specs.Places.{stmt_at, clauses_at, bodies_at}
 ghost use Rattle.image_directory.specs.Images.{records_of};
 ghost use Rattle.image_kinds.specs.Codes.{code_of};
 ghost use Rattle.image_write_directory.specs.Outputs.{so_far};
+ghost use Rattle.scope_spec.specs.Pairs.{masks_of};
 ghost use Rattle.pass_work_spec.specs.Work.{work_stmt, work_clauses};
 ghost use Rattle.pass_step_spec.specs.Steps.{work_bodies};
 ghost use Rattle.pass_context.specs.Holding.{work_of};
@@ -27,7 +29,7 @@ use pass_dispatch::step::{open, proceed, settle};
 use pass_statement_create::create;
 use pass_statement_switch::switch;
 use pass_step::source::SourceRecord;
-use pass_step::working::{FreeVars, Working};
+use pass_step::working::Working;
 
 // (`has_clauses` and `proceeds` are names and no `match` in the walk: its proof then has three cases and not thirteen.)
 fn has_clauses(kind: Kind) -> bool
@@ -43,6 +45,7 @@ fn proceeds(kind: Kind) -> bool
 }
 
 // The statement at index i, of depth at most `depth`. The index behind it is answered.
+// (Place and count are set back by hand behind clauses: the output is lent, so there is no earlier one to go back to.)
 #[cycle(bodies_clauses_statement)]
 pub fn statement(
     source: &Source<'_>,
@@ -51,16 +54,15 @@ pub fn statement(
     here: &Working,
     output: &mut Output<'_, '_>,
 ) -> usize
-    requires { StmtAhead source.now.image.frame source.now.image.bytes.now source.now.rows.now output.old.writer.id depth i here.now.context here.now.in_scope (so_far output.old) (stmt_at depth (records_of source.now.image) i) }
-    ensures { LinearizedIn output.old output.new result (i + length (flatten (stmt_at depth (records_of source.now.image) i))) (flatten (work_stmt (stmt_at depth (records_of source.now.image) i) (work_of here.now.context) here.now.in_scope output.old.max_id).0) (work_stmt (stmt_at depth (records_of source.now.image) i) (work_of here.now.context) here.now.in_scope output.old.max_id).1 }
+    requires { let image = source.now.image in
+        StmtAhead image.frame image.bytes.now (masks_of source.now.rows.now) output.old.writer.id depth i here.now.context here.now.in_scope (so_far output.old) (stmt_at depth (records_of image) i) }
+    ensures { let part = stmt_at depth (records_of source.now.image) i in
+        let done = work_stmt part (work_of here.now.context) here.now.in_scope output.old.max_id in
+        LinearizedIn output.old output.new result (i + length (flatten part)) (flatten done.0) done.1 }
 {
     let parts = parts_of(&source.image, i);
     let kind = parts.kind;
-    let row = 2 * i;
-    let free_vars = FreeVars {
-        clauses: source.rows[row],
-        next: source.rows[row + 1],
-    };
+    let free_vars = source.rows[i];
     let node = RecordAt {
         image: source.image,
         index: i,
@@ -113,8 +115,11 @@ fn clauses(
     here: &Working,
     output: &mut Output<'_, '_>,
 ) -> usize
-    requires { ClausesAhead source.now.image.frame source.now.image.bytes.now source.now.rows.now output.old.writer.id depth n i before here.now.context here.now.in_scope (so_far output.old) (clauses_at depth n (records_of source.now.image) i) }
-    ensures { LinearizedIn output.old output.new result (i + length (flatten_clauses (clauses_at depth n (records_of source.now.image) i))) (flatten_clauses (work_clauses (clauses_at depth n (records_of source.now.image) i) before (work_of here.now.context) here.now.in_scope output.old.max_id).0) (work_clauses (clauses_at depth n (records_of source.now.image) i) before (work_of here.now.context) here.now.in_scope output.old.max_id).1 }
+    requires { let image = source.now.image in
+        ClausesAhead image.frame image.bytes.now (masks_of source.now.rows.now) output.old.writer.id depth n i before here.now.context here.now.in_scope (so_far output.old) (clauses_at depth n (records_of image) i) }
+    ensures { let part = clauses_at depth n (records_of source.now.image) i in
+        let done = work_clauses part before (work_of here.now.context) here.now.in_scope output.old.max_id in
+        LinearizedIn output.old output.new result (i + length (flatten_clauses part)) (flatten_clauses done.0) done.1 }
 {
     let mut next = i;
     for _ in 0..n {
@@ -129,7 +134,7 @@ fn clauses(
     next
 }
 
-// The n statements from index i on, each of depth at most `depth`.
+// The n statements from index i on, each of depth at most `depth`. (Beside `clauses`: a clause has a record of its own before its body.)
 #[cycle(bodies_clauses_statement)]
 fn bodies(
     source: &Source<'_>,
@@ -139,8 +144,11 @@ fn bodies(
     here: &Working,
     output: &mut Output<'_, '_>,
 ) -> usize
-    requires { BodiesAhead source.now.image.frame source.now.image.bytes.now source.now.rows.now output.old.writer.id depth n i here.now.context here.now.in_scope (so_far output.old) (bodies_at depth n (records_of source.now.image) i) }
-    ensures { LinearizedIn output.old output.new result (i + length (each flatten (bodies_at depth n (records_of source.now.image) i))) (each flatten (work_bodies (bodies_at depth n (records_of source.now.image) i) (work_of here.now.context) here.now.in_scope output.old.max_id).0) (work_bodies (bodies_at depth n (records_of source.now.image) i) (work_of here.now.context) here.now.in_scope output.old.max_id).1 }
+    requires { let image = source.now.image in
+        BodiesAhead image.frame image.bytes.now (masks_of source.now.rows.now) output.old.writer.id depth n i here.now.context here.now.in_scope (so_far output.old) (bodies_at depth n (records_of image) i) }
+    ensures { let part = bodies_at depth n (records_of source.now.image) i in
+        let done = work_bodies part (work_of here.now.context) here.now.in_scope output.old.max_id in
+        LinearizedIn output.old output.new result (i + length (each flatten part)) (each flatten done.0) done.1 }
 {
     let mut next = i;
     for _ in 0..n {

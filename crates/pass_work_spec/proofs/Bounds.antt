@@ -18,12 +18,15 @@ use Rattle.model.specs.Syntax.{Stmt, Clauses, Substitute, Call, Let, Switch, Cre
 use Rattle.model.specs.Sizes.{records, records_clauses, records_defs, depth_defs}
 use Rattle.model.specs.FreeVars.{free_vars, free_vars_clauses}
 use Rattle.model.specs.Rules.{bind, freshen_unless_lem, fresh_var_lem, fresh_var_unless}
-use Rattle.model.specs.Questions.{asked, asked_clauses, asked_defs, small, small_binders, question7}
-use Rattle.model.proofs.Questions.{Asked, AskedClauses, answered, answered_clauses, three}
-use Rattle.model.proofs.Widths.{small-says, leb_says}
+use Rattle.model.specs.Questions.{asked, asked_defs, small, small_binders, question7}
+use Rattle.model.proofs.Questions.{Asked, AskedClauses, answered, three}
+use borrow.Author.Tests.{leb-true}
+use Rattle.model.proofs.Widths.{small-says}
 use Rattle.model.proofs.Grows.{freshen_unless-grows, fresh_var_unless-grows}
 use Rattle.pass_work_spec.specs.declared.Entry.{Entry}
-use Rattle.pass_work_spec.specs.Work.{Work, bindings, own, owns, used, used_binding_lem, used_all_lem, kept, moved_behind, respelled_unless, work_stmt, work_clauses, work_defs, work_call, work_let, work_switch, work_create, work_invoke, work_literal, work_op, work_if_c, work_print_i64, work_exit, work_clause}
+use Rattle.pass_work_spec.specs.Work.{Work, bindings, own, owns, used, used_binding_lem, used_all_lem, kept, moved_behind, respelled_unless, work_stmt}
+use Rattle.pass_work_spec.specs.Work.{work_clauses, work_defs, work_call, work_let, work_switch, work_create, work_invoke, work_literal, work_op, work_if_c}
+use Rattle.pass_work_spec.specs.Work.{work_print_i64, work_exit, work_clause}
 use Rattle.pass_work_spec.proofs.Lengths.{kept-fewer, env_fewer, unless-fewer, owns-length, longer, joined_length}
 
 -- ── it never falls ──
@@ -70,7 +73,9 @@ mutual
 
   asked-grows : (t : Stmt) (Δ : List VarId) → Asked t small small_binders Δ → (W : Work) (n m : ℕ) → length W ≤ length Δ → (work_stmt t W n m).1 ≤ m + 128 * records t
   asked-grows (Substitute ps next) Δ a W n m h = omega arith
-  asked-grows (Call label args) Δ a W n m h = let q = small-says Δ (Call label args) a in omega (arith, unless-near (same_context (bindings W) (used_all_lem W args)) (used_all_lem W args) [] m, length-map args (used_binding_lem W))
+  asked-grows (Call label args) Δ a W n m h =
+      let q = small-says Δ (Call label args) a in
+      omega (arith, unless-near (same_context (bindings W) (used_all_lem W args)) (used_all_lem W args) [] m, length-map args (used_binding_lem W))
   asked-grows (Let var ty tag args next) Δ a W n m h =
       let q = small-says Δ (Let var ty tag args next) a.0 in
       let new = kept (free_vars next) W in
@@ -94,7 +99,8 @@ mutual
       let m₂ = (freshen_unless_lem right (bindings contextNext) (ids (bindings env)) m₁).1 in
       let k : length contextNext ≤ length Δ = le_trans (kept-fewer (free_vars next) W) h in
       let ihC = asked_grows_clauses cs Δ a.1 true env n m (le_trans (env_fewer (free_vars_clauses cs) (length contextNext) W) h) in
-      let ihN = asked-grows next (var.id ∷ Δ) a.3 (respelled_unless right contextNext T ++ (own n (bind var Cns ty) ∷ [])) (n + 1) m₂ (longer (respelled_unless right contextNext T) n (bind var Cns ty) Δ var.id (le_trans (unless-fewer right contextNext T) k)) in
+      let ihN = asked-grows next (var.id ∷ Δ) a.3 (respelled_unless right contextNext T ++ (own n (bind var Cns ty) ∷ [])) (n + 1) m₂
+      (longer (respelled_unless right contextNext T) n (bind var Cns ty) Δ var.id (le_trans (unless-fewer right contextNext T) k)) in
       omega (arith, unless-near right (bindings contextNext) (ids (bindings env)) m₁, length-map contextNext (λ (e : Entry). e.binding))
   asked-grows (Invoke var tag ty args) Δ a W n m h =
       let q = small-says Δ (Invoke var tag ty args) a in
@@ -119,7 +125,8 @@ mutual
       omega arith
   asked-grows (Exit var) Δ a W n m h = omega arith
 
-  asked_grows_clauses : (cs : Clauses) (Δ : List VarId) → AskedClauses cs small small_binders Δ → (before : Bool) (W : Work) (n m : ℕ) → length W ≤ length Δ → (work_clauses cs before W n m).1 ≤ m + 128 * records_clauses cs
+  asked_grows_clauses : (cs : Clauses) (Δ : List VarId) → AskedClauses cs small small_binders Δ → (before : Bool) (W : Work) (n m : ℕ) → length W ≤ length Δ
+      → (work_clauses cs before W n m).1 ≤ m + 128 * records_clauses cs
   asked_grows_clauses end Δ a before W n m h = omega arith
   asked_grows_clauses (clause xtor context body rest) Δ a before W n m h =
       let W' = cond before (owns n context ++ W) (W ++ owns n context) in
@@ -131,9 +138,6 @@ mutual
 -- of a statement with Δ in scope and a yes to question 7's counts and room, in a context at work that is no longer than the scope
 pub work_grows : (t : Stmt) (Δ : List VarId) → asked t small small_binders Δ ≡ true → (W : Work) (n m : ℕ) → length W ≤ length Δ → (work_stmt t W n m).1 ≤ m + 128 * records t
 work_grows t Δ a W n m h = asked-grows t Δ (answered t small small_binders Δ a) W n m h
-
-pub work_grows_clauses : (cs : Clauses) (Δ : List VarId) → asked_clauses cs small small_binders Δ ≡ true → (before : Bool) (W : Work) (n m : ℕ) → length W ≤ length Δ → (work_clauses cs before W n m).1 ≤ m + 128 * records_clauses cs
-work_grows_clauses cs Δ a before W n m h = asked_grows_clauses cs Δ (answered_clauses cs small small_binders Δ a) before W n m h
 
 -- of definitions
 pub work_grows_defs : (ds : List Def) → asked_defs ds small small_binders ≡ true → (m : ℕ) → (work_defs ds m).1 ≤ m + 128 * records_defs ds
@@ -151,4 +155,4 @@ work_grows_defs (d ∷ ds) a m =
 pub work_near : (P : Prog) → question7 P ≡ true → (work_defs P.defs P.max_id).1 ≤ P.max_id + 256000
 work_near P a =
     let q = three (leb (records_defs P.defs) 2000) (leb (depth_defs P.defs) 64) (asked_defs P.defs small small_binders) a in
-    omega (arith, work_grows_defs P.defs q.2 P.max_id, leb_says (records_defs P.defs) 2000 q.0)
+    omega (arith, work_grows_defs P.defs q.2 P.max_id, leb-true (records_defs P.defs) 2000 q.0)

@@ -25,7 +25,8 @@ use Rattle.model.specs.FreeVars.{optional_id}
 use Rattle.model.proofs.Invariant.{rename_ids_in}
 use Rattle.pass_work_spec.specs.declared.Entry.{Entry}
 use Rattle.pass_work_spec.specs.Work.{Work, bindings, own, owns, entry_of, spelling, used, used_option, used_all_lem, kept, moved_behind, respell, respelled}
-use Rattle.pass_work_spec.proofs.Lists.{In, in_case, filtered-of, of-filtered, take-map, drop-map, filtered-map}
+use Rattle.pass_work_spec.proofs.Lists.{In, in_case, filtered-of, of-filtered, filtered-map}
+use Rattle.std.proofs.lemmas.List.{take-map, drop-map}
 
 -- the entry stands for its source under a renaming: its binding has the ID that the source is renamed to; and what is spelled is what the
 -- renaming puts for the source
@@ -142,7 +143,7 @@ pub moved_behind-bindings : (j : ℕ) (W : Work) → bindings (moved_behind j W)
 unfolding moved_behind move_behind_lem
 moved_behind-bindings j W =
     let f : Entry → ContextBinding = λ e. e.binding in
-    map-append f (drop j W) (take j W) ∙ ap₂ (λ (r t : Context). r ++ t) (drop-map f j W) (take-map f j W)
+    map-append f (drop j W) (take j W) ∙ ap₂ (λ (r t : Context). r ++ t) (sym (drop-map f j W)) (sym (take-map f j W))
 
 pub moved_behind_perm : (j : ℕ) (W : Work) → Perm W (moved_behind j W)
 unfolding moved_behind

@@ -1,13 +1,13 @@
--- Laws of lists of any elements: members of a rearrangement and of what is filtered; `map` past `take`, `drop`, `reverse` and the filter's
--- rule. Assumes nothing.
+-- Laws of lists of any elements: members of a rearrangement and of what is filtered; `map` past `reverse` and the filter's rule.
+-- Assumes nothing.
 use mathlib.Core.Path.{◌≡◌, refl, sym, ap, ◌∙◌}
 use mathlib.Core.Logic.{◌⊎◌, inl, inr}
 use mathlib.Core.Bool.{Bool, true, false, cond, true≢false}
 use mathlib.Core.List.Memᴰ
 use mathlib.Core.List.{List, [], ◌∷◌, map, map-id, reverse, reverse_aux, Memᴰ}
-use Prim.Native.Nat.{ℕ, zero, suc, ◌<◌}
-use native.Mathlib.Omega.{arith}
-use lib.ListN.{length, get_or, take, drop, length-map, take-append-drop}
+use Prim.Native.Nat.{ℕ}
+use lib.ListN.{length, take, drop, length-map, take-append-drop}
+use Rattle.std.proofs.lemmas.List.{take-map, drop-map}
 use Rattle.syntax.specs.Filter.{retained, fill, filtered}
 use Rattle.syntax.proofs.Permutations.{Perm, nil, keep, swap, trans, perm_sym}
 use Rattle.syntax.proofs.Filters.{filtered_perm}
@@ -39,12 +39,6 @@ module _ {A : Type 0} where
       first (inl e) = Memᴰ.tail (Memᴰ.head e)
       first (inr k) = second (in_case k)
   in_perm (trans p q) h = in_perm q (in_perm p h)
-
-  -- what stands at a place
-  pub in_get_d : (l : List A) (i : ℕ) (d : A) → i < length l → In (get_or l i d) l
-  in_get_d [] i d h = absurd (omega arith)
-  in_get_d (x ∷ l) zero d h = Memᴰ.head refl
-  in_get_d (x ∷ l) (suc i) d h = Memᴰ.tail (in_get_d l i d (omega arith))
 
   pub in_take : (k : ℕ) (l : List A) (a : A) → In a (take k l) → In a l
   in_take k l a h = rw (take-append-drop k l) at (Memᴰ.append_left (drop k l) h)
@@ -90,16 +84,6 @@ module _ {A : Type 0} (p : A → Bool) where
 -- ── map ──
 
 module _ {A B : Type 0} (f : A → B) where
-  pub take-map : (k : ℕ) (l : List A) → map f (take k l) ≡ take k (map f l)
-  take-map zero l = refl
-  take-map (suc k) [] = refl
-  take-map (suc k) (x ∷ l) = ap (λ (r : List B). f x ∷ r) (take-map k l)
-
-  pub drop-map : (k : ℕ) (l : List A) → map f (drop k l) ≡ drop k (map f l)
-  drop-map zero l = refl
-  drop-map (suc k) [] = refl
-  drop-map (suc k) (x ∷ l) = drop-map k l
-
   reverse_aux_map : (l r : List A) → map f (reverse_aux l r) ≡ reverse_aux (map f l) (map f r)
   reverse_aux_map [] r = refl
   reverse_aux_map (x ∷ l) r = reverse_aux_map l (x ∷ r)
@@ -149,7 +133,7 @@ module _ {A B : Type 0} (f : A → B) (q : A → Bool) (p : B → Bool) where
       let k = length (retained q l) in
       let count : length (retained p (map f l)) ≡ k = ap length (sym (retained-map l h)) ∙ length-map (retained q l) f in
       fill-map (take k l) (reverse (retained q (drop k l))) (λ a i. h a (in_take k l a i))
-      ∙ rw (count, take-map f k l, reverse-map f (retained q (drop k l)), retained-map (drop k l) (λ a i. h a (in_drop k l a i)), drop-map f k l)
+      ∙ rw (count, ← take-map f k l, reverse-map f (retained q (drop k l)), retained-map (drop k l) (λ a i. h a (in_drop k l a i)), sym (drop-map f k l))
 
 -- tests that agree on the list filter it alike
 pub filtered-same : {A : Type 0} (q p : A → Bool) (l : List A) → ((a : A) → In a l → q a ≡ p a) → filtered q l ≡ filtered p l

@@ -18,16 +18,13 @@ use Rattle.syntax.proofs.Permutations.{perm_sym}
 use Rattle.pass_work_spec.specs.declared.Entry.{Entry}
 use Rattle.pass_work_spec.specs.Work.{Work, own, owns, kept, moved_behind, respelled_unless}
 use Rattle.pass_work_spec.specs.Placed.{PlacedAt, Placed}
-use Rattle.pass_work_spec.proofs.Lists.{In, in_case, in_perm, in_get_d, filtered-same}
+use Rattle.pass_work_spec.proofs.Lists.{In, in_case, in_perm, filtered-same}
 use Rattle.pass_work_spec.proofs.Entries.{kept_of, moved_behind_perm, From, respelled-from}
 use Rattle.pass_work_spec.proofs.Lengths.{kept-fewer, moved_length, respelled-fewer, owns-length, joined_length}
 
 -- ── the same scope ──
 
 module _ {Δ : List VarId} {W : Work} (p : Placed Δ W) where
-  pub placed_index : (i : ℕ) (d : Entry) → i < length W → PlacedAt Δ (get_or W i d)
-  placed_index i d h = p.each (get_or W i d) (in_get_d W i d h)
-
   pub placed-kept : (s : List VarId) → Placed Δ (kept s W)
   placed-kept s = record { fits = omega (arith, kept-fewer s W); each = λ e h. p.each e (kept_of s W e h) }
 
@@ -44,7 +41,10 @@ module _ {Δ : List VarId} {W : Work} (p : Placed Δ W) where
 
   -- a test of places that says which variables in scope are in the set keeps what the set keeps
   pub kept-by-place : (s : List VarId) (t : ℕ → Bool) → ((i : ℕ) → i < length Δ → (d : VarId) → t i ≡ elem (get_or Δ i d) s) → filtered (λ (e : Entry). t e.place) W ≡ kept s W
-  kept-by-place s t f = filtered-same (λ (e : Entry). t e.place) (λ (e : Entry). elem e.source s) W (λ e h. let a = p.each e h in f e.place a.below e.source ∙ ap (λ (x : VarId). elem x s) (a.source e.source))
+  kept-by-place s t f =
+      filtered-same (λ (e : Entry). t e.place) (λ (e : Entry). elem e.source s) W λ e h.
+      let a = p.each e h in
+      f e.place a.below e.source ∙ ap (λ (x : VarId). elem x s) (a.source e.source)
 
 -- ── binders in scope ──
 

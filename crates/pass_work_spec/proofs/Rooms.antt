@@ -83,7 +83,8 @@ mutual
   all_fit (Exit var) a c p = fits-here (Exit var) a c p
 
   -- the clauses of t
-  all_fit_clauses : (cs : Clauses) (before : Bool) (t : Stmt) {Δ E : List VarId} {W : Work} {n : ℕ} → small E t ≡ true → AskedClauses cs small small_binders E → Counted Δ E n → Placed Δ W → AllFitClauses cs before Δ W n
+  all_fit_clauses : (cs : Clauses) (before : Bool) (t : Stmt) {Δ E : List VarId} {W : Work} {n : ℕ} → small E t ≡ true → AskedClauses cs small small_binders E
+      → Counted Δ E n → Placed Δ W → AllFitClauses cs before Δ W n
   all_fit_clauses end before t r a c p = fits-here t r c p
   all_fit_clauses (clause xtor context body rest) before t {n = n} r a c p =
       (all_fit body a.1 (some_more context c) (placed-joined p n c.here before context), all_fit_clauses rest before t r a.2 c p)

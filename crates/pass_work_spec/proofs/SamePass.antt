@@ -36,7 +36,8 @@ use Rattle.pass_work_spec.proofs.SameRules.{same-Call, same-Let, same-Switch, sa
 mutual
   unfolding work_stmt linearize_stmt free_vars Scoped
 
-  pub work_scoped : (t : Stmt) {M : ℕ} {Δ : List VarId} {ρ : Renaming} {W : Work} {m : ℕ} → Scoped t M Δ → Standing M Δ ρ (free_vars t) W m → (n : ℕ) → work_stmt t W n m ≡ linearize_stmt t ρ (bindings W) m
+  pub work_scoped : (t : Stmt) {M : ℕ} {Δ : List VarId} {ρ : Renaming} {W : Work} {m : ℕ} → Scoped t M Δ → Standing M Δ ρ (free_vars t) W m → (n : ℕ)
+      → work_stmt t W n m ≡ linearize_stmt t ρ (bindings W) m
   work_scoped (Substitute ps next) sc s n = absurd sc
   work_scoped (Call label args) {ρ = ρ} {W} {m} sc s n = same-Call W n m label args (rename_context ρ args) (used_all-renamed s.stand args s.has)
   work_scoped (Let var ty tag args next) {M} {Δ} {ρ} {W} {m} sc s n =
@@ -135,14 +136,16 @@ mutual
       let fv = free_vars next in
       let z = var.id ∷ fv in
       let reads : Reads ρ W z = λ x h. inl (s.has x h) in
-      let e : bindings (kept z W) ≡ filter_by_set_lem ((rename ρ var).id ∷ rename_ids ρ fv) (bindings W) = kept_is s z reads ∙ ap (λ (x : VarId). filter_by_set_lem (x ∷ rename_ids ρ fv) (bindings W)) (sym (rename-id ρ var)) in
+      let e : bindings (kept z W) ≡ filter_by_set_lem ((rename ρ var).id ∷ rename_ids ρ fv) (bindings W) =
+      kept_is s z reads ∙ ap (λ (x : VarId). filter_by_set_lem (x ∷ rename_ids ρ fv) (bindings W)) (sym (rename-id ρ var)) in
       same-PrintI64 W n m newline var (rename ρ var) (work_stmt next) (linearize_stmt next ρ) fv (rename_ids ρ fv)
       (used-renamed s.stand var (s.has var.id (inl refl)))
       e
       (work_scoped next sc.1 (part s z reads (λ x h. inr h) (λ x h. inr h)) n ∙ ap (λ (Γ : Context). linearize_stmt next ρ Γ m) e)
   work_scoped (Exit var) {ρ = ρ} {W} {m} sc s n = same-Exit W n m var (rename ρ var) (used-renamed s.stand var (s.has var.id (inl refl)))
 
-  pub work_scoped_clauses : (cs : Clauses) (before : Bool) {M : ℕ} {Δ : List VarId} {ρ : Renaming} {W : Work} {m : ℕ} → ScopedClauses cs M Δ → Standing M Δ ρ (free_vars_clauses cs) W m → (n : ℕ) → work_clauses cs before W n m ≡ linearize_clauses cs before ρ (bindings W) m
+  pub work_scoped_clauses : (cs : Clauses) (before : Bool) {M : ℕ} {Δ : List VarId} {ρ : Renaming} {W : Work} {m : ℕ} → ScopedClauses cs M Δ
+      → Standing M Δ ρ (free_vars_clauses cs) W m → (n : ℕ) → work_clauses cs before W n m ≡ linearize_clauses cs before ρ (bindings W) m
   work_scoped_clauses end before sc s n = refl
   work_scoped_clauses (clause xtor context body rest) before {M} {Δ} {ρ} {W} {m} sc s n =
       let fv = free_vars body in
@@ -166,7 +169,9 @@ pub work_clauses_lem : (cs : Clauses) (before : Bool) {M : ℕ} {Δ : List VarId
     → asked_clauses cs plain any_binders Δ ≡ true → asked_clauses cs any_stmt new Δ ≡ true → asked_clauses cs in_scope_lem any_binders Δ ≡ true → asked_clauses cs any_stmt (up_to M) Δ ≡ true
     → Standing M Δ ρ (free_vars_clauses cs) W m → (n : ℕ) → work_clauses cs before W n m ≡ linearize_clauses cs before ρ (bindings W) m
 work_clauses_lem cs before {M} {Δ} six eight nine ten s n =
-    work_scoped_clauses cs before (scoped_clauses_says cs M Δ (answered_clauses cs plain any_binders Δ six) (answered_clauses cs any_stmt new Δ eight) (answered_clauses cs in_scope_lem any_binders Δ nine) (answered_clauses cs any_stmt (up_to M) Δ ten)) s n
+    let scoped = scoped_clauses_says cs M Δ (answered_clauses cs plain any_binders Δ six) (answered_clauses cs any_stmt new Δ eight)
+    (answered_clauses cs in_scope_lem any_binders Δ nine) (answered_clauses cs any_stmt (up_to M) Δ ten) in
+    work_scoped_clauses cs before scoped s n
 
 -- ── programs ──
 

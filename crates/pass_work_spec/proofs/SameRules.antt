@@ -18,15 +18,18 @@ use Rattle.syntax.specs.declared.op.BinOp.{BinOp}
 use Rattle.syntax.specs.declared.ifc.IfSort.{IfSort}
 use Rattle.model.specs.Syntax.{Stmt, Clauses}
 use Rattle.model.specs.Renaming.{Renaming, renaming}
-use Rattle.model.specs.Rules.{Linearize, bind, freshen_unless_lem, move_behind_lem, rule_call, rule_let, rule_switch, rule_create, rule_invoke, rule_literal, rule_op, rule_if_c, rule_print_i64, rule_exit, rule_clause}
-use Rattle.pass_work_spec.specs.Work.{Work, bindings, own, owns, used, used_option, used_all_lem, kept, moved_behind, respelled_unless, Working, work_call, work_let, work_switch, work_create, work_invoke, work_literal, work_op, work_if_c, work_print_i64, work_exit, work_clause}
+use Rattle.model.specs.Rules.{Linearize, bind, freshen_unless_lem, move_behind_lem, rule_call, rule_let, rule_switch, rule_create, rule_invoke, rule_literal}
+use Rattle.model.specs.Rules.{rule_op, rule_if_c, rule_print_i64, rule_exit, rule_clause}
+use Rattle.pass_work_spec.specs.Work.{Work, bindings, own, owns, used, used_option, used_all_lem, kept, moved_behind, respelled_unless, Working, work_call}
+use Rattle.pass_work_spec.specs.Work.{work_let, work_switch, work_create, work_invoke, work_literal, work_op, work_if_c, work_print_i64, work_exit, work_clause}
 
 module _ (W : Work) (n m : ℕ) where
   pub same-Call : (label : Identifier) (args args₀ : Context) → used_all_lem W args ≡ args₀ → work_call label args W n m ≡ rule_call label args₀ (bindings W) m
   unfolding work_call
   same-Call label args args₀ e = rw e
 
-  pub same-Invoke : (var var₀ tag : Identifier) (ty : Ty) (args args₀ : Context) → used W var ≡ var₀ → used_all_lem W args ≡ args₀ → work_invoke var tag ty args W n m ≡ rule_invoke var₀ tag ty args₀ (bindings W) m
+  pub same-Invoke : (var var₀ tag : Identifier) (ty : Ty) (args args₀ : Context) → used W var ≡ var₀ → used_all_lem W args ≡ args₀
+      → work_invoke var tag ty args W n m ≡ rule_invoke var₀ tag ty args₀ (bindings W) m
   unfolding work_invoke
   same-Invoke var var₀ tag ty args args₀ d e = rw (d, e)
 

@@ -25,7 +25,8 @@ use Rattle.model.proofs.Renames.{good-fresh}
 use Rattle.pass_work_spec.specs.declared.Entry.{Entry}
 use Rattle.pass_work_spec.specs.Work.{Work, bindings, own, owns, kept, moved_behind, respelled_unless}
 use Rattle.pass_work_spec.proofs.Lists.{In, in_perm, perm_map}
-use Rattle.pass_work_spec.proofs.Entries.{AllStand, Stands, HasEntry, Reads, kept_filters, kept_of, kept-has, moved_behind_perm, bindings-++, owns-bindings, owns-stand, owns-has, respelled-bindings, respelled-stand, respelled-has}
+use Rattle.pass_work_spec.proofs.Entries.{AllStand, Stands, HasEntry, Reads, kept_filters, kept_of, kept-has, moved_behind_perm, bindings-++, owns-bindings}
+use Rattle.pass_work_spec.proofs.Entries.{owns-stand, owns-has, respelled-bindings, respelled-stand, respelled-has}
 
 -- with Δ in scope and fv free: the context at work W, at max_id m, does what the model does by the renaming ρ
 pub record Standing (M : ℕ) (Δ : List VarId) (ρ : Renaming) (fv : List VarId) (W : Work) (m : ℕ) : Type 0 where
@@ -69,7 +70,8 @@ module _ {M : ℕ} {Δ : List VarId} {ρ : Renaming} {fv : List VarId} {W : Work
   respelled_is true C T d = sym (d.kept refl)
   respelled_is false C T d = respelled-bindings W T (sym (length-map W (λ (e : Entry). e.binding)) ∙ d.count)
 
-  pub fresh : (right : Bool) (C : List VarId) (T : Context) {m₁ : ℕ} → Drawn right (bindings W) C m T m₁ → Standing M Δ (rename_unless right ρ (renaming (bindings W) T)) fv (respelled_unless right W T) m₁
+  pub fresh : (right : Bool) (C : List VarId) (T : Context) {m₁ : ℕ} → Drawn right (bindings W) C m T m₁
+      → Standing M Δ (rename_unless right ρ (renaming (bindings W) T)) fv (respelled_unless right W T) m₁
   unfolding respelled_unless rename_unless
   fresh true C T d = later d.grows
   fresh false C T {m₁} d =
@@ -148,7 +150,8 @@ module _ {M : ℕ} (fv : List VarId) {Δ : List VarId} {ρ : Renaming} {W : Work
 
 -- ── the context for what follows a binder: what the set keeps, and the binder behind it ──
 
-module _ {M : ℕ} (fv : List VarId) {Δ : List VarId} {ρ : Renaming} {W : Work} {m : ℕ} (b : ContextBinding) (s : Standing M Δ ρ (without fv (id_of b ∷ [])) W m) (new : Binds M Δ (id_of b ∷ [])) (z : List VarId) (reads : Reads ρ W z) (n : ℕ) where
+module _ {M : ℕ} (fv : List VarId) {Δ : List VarId} {ρ : Renaming} {W : Work} {m : ℕ} (b : ContextBinding)
+    (s : Standing M Δ ρ (without fv (id_of b ∷ [])) W m) (new : Binds M Δ (id_of b ∷ [])) (z : List VarId) (reads : Reads ρ W z) (n : ℕ) where
   pub next-stands : fv ⊆ z → {m₁ : ℕ} → m ≤ m₁ → Standing M (id_of b ∷ Δ) ρ fv (kept z W ++ (own n b ∷ [])) m₁
   next-stands sub h = behind fv (b ∷ []) (later (part s z reads (λ x k. k) (λ x k. sub x (without-∈ x fv (id_of b ∷ []) k).0)) h) new n
 

@@ -1,7 +1,8 @@
 -- The questions 6 to 10 of a program, from what the code asks of its records. Assumes nothing.
 use Prim.Native.Nat.{ℕ, ◌≤◌}
 use mathlib.Core.Path.{◌≡◌, refl, sym, ap, ◌∙◌, subst}
-use mathlib.Core.Bool.{Bool, true, false, ◌&&◌, cond}
+use mathlib.Core.Bool.{Bool, true, false, ◌&&◌, cond, false≢true}
+use mathlib.Core.Option.{Option, none, some}
 use mathlib.Core.List.{List, [], append-nil}
 use native.Mathlib.Omega.{arith}
 use borrow.Author.Tests.{leb-true}
@@ -16,14 +17,15 @@ use Rattle.image_spec.specs.declared.Layout.{Layout}
 use Rattle.image_spec.specs.declared.Refusal.{Refusal}
 use Rattle.image_spec.specs.declared.Refusal.TheVariants.{Linearized, Limits, Binders, Scope, MaxId}
 use Rattle.std.specs.Prelude.{Ok, Err}
-use Rattle.image_spec.specs.Shape.{flatten_defs, DefOk}
+use Rattle.image_spec.specs.Image.{if_some, is_some}
+use Rattle.image_spec.specs.Shape.{flatten_defs, DefOk, definitions}
 use Rattle.image_spec.specs.Reading.{Reading, refuse, accept, if_yes, reading, answer_of}
-use Rattle.image_spec.proofs.ShapeLaws.{parse_flatten, shallow-all}
+use Rattle.image_spec.proofs.ShapeLaws.{parse_flatten, flatten_parse, shallow-all}
 use Rattle.image_spec.proofs.FlatLengths.{flatten_defs-length}
 use Rattle.image_spec.proofs.DirectoryLaws.{and_right}
 use Rattle.image_directory.specs.Slots.{records_in}
 use Rattle.image_directory.specs.declared.Frame.{Frame}
-use Rattle.image_open.specs.Opening.{opened_by, opened_of}
+use Rattle.image_open.specs.Opening.{Shaped, opened_by, opened_of}
 use Rattle.image_open.proofs.OpenedLaws.{IsOpened}
 use Rattle.scope_spec.specs.declared.Verdict.{Verdict}
 use Rattle.scope_spec.specs.Flat.{all_records_lem, plain_record_lem, small_record_lem}
@@ -92,6 +94,22 @@ module _ (P : Prog) where
 
 -- ── the program of an opened image ──
 
+-- what passed question 5 is its definitions
+pub shaped-defined : {d : ℕ} {rs : List Record} → Shaped d rs → Defined d rs
+unfolding defs_in
+shaped-defined {d} {rs} h = go (definitions d rs) refl h
+  where
+    go : (o : Option (List Def)) → definitions d rs ≡ o → is_some o ≡ true → Defined d rs
+    go none q t = absurd (false≢true t)
+    go (some ds) q t =
+        let p = flatten_parse d rs ds q in
+        let b : defs_in d rs ≡ ds = ap (λ x. if_some x [] (λ y. y)) q in
+        record {
+          is = p.1 ∙ ap flatten_defs (sym b);
+          shallow = subst (All DefOk) (sym b) p.0.1;
+          count = ap length b ∙ p.0.0;
+        }
+
 pub stands-flat : {d n : ℕ} {rs : List Record} {ds : List Def} → rs ≡ flatten_defs ds → All (λ (e : Def). depth e.body ≤ d) ds → length ds ≡ n → DefsStand d n rs 0 ds
 stands-flat {ds = ds} e h c = record { begins = record { rest = []; split = e ∙ sym (append-nil (flatten_defs ds)) }; shallow = h; count = c }
 
@@ -124,7 +142,8 @@ module _ {d : ℕ} {rs : List Record} (h : Defined d rs) where
     pub answer_6 : all_records_lem plain_record_lem rs ≡ false → answer_of (checking P) ≡ Err Linearized
     answer_6 e = not_plain P (plain-records false e)
 
-    pub answer_7 : (n : ℕ) → length rs ≡ n → all_records_lem plain_record_lem rs ≡ true → (leb n 2000 && (all_records_lem small_record_lem rs && leb (depth_defs (defs_in d rs)) 64)) ≡ false → answer_of (checking P) ≡ Err Limits
+    pub answer_7 : (n : ℕ) → length rs ≡ n → all_records_lem plain_record_lem rs ≡ true
+        → (leb n 2000 && (all_records_lem small_record_lem rs && leb (depth_defs (defs_in d rs)) 64)) ≡ false → answer_of (checking P) ≡ Err Limits
     answer_7 n k e f = not_within P (plain-records true e) (limits n k ∙ f)
 
     pub answer_walk : (n : ℕ) → length rs ≡ n → all_records_lem plain_record_lem rs ≡ true → (leb n 2000 && (all_records_lem small_record_lem rs && leb (depth_defs (defs_in d rs)) 64)) ≡ true

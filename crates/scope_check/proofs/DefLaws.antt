@@ -2,7 +2,7 @@
 -- (The walk over them: DefWalks.antt.) Assumes nothing.
 use Prim.Native.Nat.{ℕ, ◌+◌, ◌-◌, ◌≤◌, ◌<◌, max}
 use mathlib.Core.Path.{◌≡◌, refl, sym, ap, ◌∙◌, subst}
-use mathlib.Core.Bool.{Bool, true, false}
+use mathlib.Core.Bool.{Bool, true, false, ◌&&◌}
 use mathlib.Core.List.{List, [], ◌∷◌, ◌++◌}
 use native.Mathlib.Omega.{arith}
 use borrow.Author.Tests.{le-leb, lt-leb, leb-true, leb-false}
@@ -24,6 +24,7 @@ use Rattle.image_read_parts.specs.Standing.{head_of}
 use Rattle.image_places_spec.specs.Places.{stmt_at, Begins, StmtStands}
 use Rattle.image_places_spec.proofs.ViewLaws.{flatten-view}
 use Rattle.image_places_spec.proofs.PlaceLaws.{stmt_is, begins-left, begins-right, begins-head, head-within}
+use Rattle.scope_spec.proofs.FlatLaws.{leb_max}
 use Rattle.scope_check.specs.Definitions.{DefsStand}
 
 -- ── the first definition, and the others ──
@@ -143,11 +144,7 @@ pub record Shallow (whole : Bool) (es : List Def) : Type 0 where
 
 -- a depth within the limit does not decide
 deeper : (a b : ℕ) → a ≤ 64 → leb (max a b) 64 ≡ leb b 64
-deeper a b h = go (leb b 64) refl
-  where
-    go : (t : Bool) → leb b 64 ≡ t → leb (max a b) 64 ≡ t
-    go true e = le-leb (max a b) 64 (omega (arith, leb-true b 64 e))
-    go false e = lt-leb (max a b) 64 (omega (arith, leb-false b 64 e))
+deeper a b h = leb_max a b 64 ∙ ap (λ (t : Bool). t && leb b 64) (le-leb a 64 h)
 
 module _ {rs : List Record} {whole : Bool} {left at : ℕ} (n : DefNext 128 rs left at (Shallow whole)) where
   -- the walk that goes 64 deep came through the first definition
@@ -174,6 +171,3 @@ module _ {rs : List Record} {whole : Bool} {left at : ℕ} (n : DefNext 128 rs l
       go : (t : Bool) → leb (depth body) 64 ≡ t → whole ≡ false
       go true f = let z : ◌≡◌ {A = ℕ} 0 1 = cc (stop-shallow 64 rs (at + 1) body n.body.begins (leb-true (depth body) 64 f), q) in absurd (omega arith)
       go false f = n.holds.same ∙ lt-leb (max (depth body) (depth_defs n.rest)) 64 (omega (arith, leb-false (depth body) 64 f))
-
-pub depth-end : {rs : List Record} {whole : Bool} {left at : ℕ} → DefsLeft 128 rs left at (Shallow whole) → left ≡ 0 → whole ≡ true
-depth-end l h = (defs-end l h).same

@@ -11,9 +11,9 @@ use Rattle.std.proofs.lemmas.Bool.Decides.{nat_tests}
 use lib.Dec.{leb, eqb}
 use lib.ListN.{length, take, drop, set, get_or, length-append, length-map, length-take, length-set}
 use lib.Seq.{take-set-le, take-take}
+use Rattle.std.proofs.lemmas.List.{take_more_set}
 use Rattle.syntax.specs.Sets.{elem}
 use Rattle.syntax.specs.declared.names.VarId.{VarId}
-use Rattle.syntax.proofs.Lists.{take-stored}
 use Rattle.scope_spec.specs.declared.Verdict.{Verdict}
 use Rattle.scope_spec.specs.Walk.{Scoped, judged, full, enter_one_lem, enter_all}
 use Rattle.scope_places.specs.Places.{id_of, scope_in, ScopeAt, Kept}
@@ -24,10 +24,7 @@ use Rattle.scope_places.specs.declared.scope.InScope.{InScope}
 
 pub in_scope : (x : VarId) (xs : List ℕ) → list_any (λ (y : ℕ). eqb y x.0) xs ≡ elem x (map id_of xs)
 in_scope x [] = refl
-in_scope x (y ∷ xs) = ap₂ ◌||◌ (swapped y x.0) (in_scope x xs)
-  where
-    swapped : (a b : ℕ) → eqb a b ≡ eqb b a
-    swapped a b = grind (arith, nat_tests)
+in_scope x (y ∷ xs) = let turned : eqb y x.0 ≡ eqb x.0 y = grind (arith, nat_tests) in ap₂ ◌||◌ turned (in_scope x xs)
 
 pub scope-count : {xs : List ℕ} {n : ℕ} → ScopeAt xs n → length (scope_in n xs) ≡ n
 scope-count {xs} {n} s = length-map (take n xs) id_of ∙ (length-take n xs ∙ omega (arith, s.small, s.room))
@@ -67,7 +64,7 @@ entered-room M x s s' v {b} {l} h j o g p q =
     let xs = s.ids.now in
     let k : length (scope_of s) < 64 = omega (arith, scope-count s.fits) in
     let z : scope_of s' ≡ scope_of s ++ (x ∷ []) =
-    ap₂ scope_in j o ∙ (ap (map id_of) (take-stored xs s.n x.0 (omega (arith, s.fits.room))) ∙ map-append id_of (take s.n xs) (x.0 ∷ [])) in
+    ap₂ scope_in j o ∙ (ap (map id_of) (take_more_set xs s.n x.0 (omega (arith, s.fits.room))) ∙ map-append id_of (take s.n xs) (x.0 ∷ [])) in
     record {
       is = rw (lt-ltb _ _ k) (λ i. record { scope = z i; verdict = record { room = v.room; binders = p i; uses = v.uses; ids = q i } });
       kept = rw o (record { long = length-set xs s.n x.0; first = take-set-le s.n xs s.n x.0 (omega arith) });

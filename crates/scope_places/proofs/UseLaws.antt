@@ -37,9 +37,6 @@ or_assoc =
     (ap (λ (z : ℕ). max z (c % 2)) (or_odd n b) ∙ (max_assoc (n % 2) (b % 2) (c % 2) ∙ ap (max (n % 2)) (sym (or_odd b c))))
     ∙ sym (or_step n (bit_or b c)))
 
-eqb_swap : (a b : ℕ) → eqb a b ≡ eqb b a
-eqb_swap a b = grind (arith, nat_tests)
-
 -- a mask is not 0 if its first bit is 1, or the others are not 0
 not_zero : (b : Bool) (m : ℕ) → not (eqb (bit b + 2 * m) 0) ≡ (b || not (eqb m 0))
 not_zero true m = ap not (ne_eqb (1 + 2 * m) 0 (λ q. omega (arith, q)))
@@ -51,8 +48,9 @@ mask_in : (x : VarId) (Δ : List VarId) → not (eqb (mask_of (x ∷ []) Δ) 0) 
 unfolding mask_of
 mask_in x [] = refl
 mask_in x (y ∷ Δ) =
+    let turned : eqb y.0 x.0 ≡ eqb x.0 y.0 = grind (arith, nat_tests) in
     not_zero (elem y (x ∷ [])) (mask_of (x ∷ []) Δ)
-    ∙ ap₂ ◌||◌ (or-false (eqb y.0 x.0) ∙ eqb_swap y.0 x.0) (mask_in x Δ)
+    ∙ ap₂ ◌||◌ (or-false (eqb y.0 x.0) ∙ turned) (mask_in x Δ)
 
 -- ── uses ──
 

@@ -11,7 +11,8 @@ use Rattle.scope_places.specs.Places.{scope_in, Kept}
 use Rattle.scope_places.specs.declared.scope.InScope.{InScope}
 use Rattle.scope_places.specs.declared.scoping.Using.{Using}
 
--- a scope of at most 64 IDs. (No field of `IdSet`, which holds up to 128: of a set that is the scope of a list.)
+-- a scope of at most 64 IDs. (No field of `IdSet`, which holds up to 128: of a set that is the scope of a list. `count`
+-- follows from the set's `size` and `fits`, and is here under the name by which proofs go.)
 pub record Scope (x : IdSet) : Type 0 where
   pub count : x.len ≡ length (set_of x)
   pub small : x.len ≤ max_scope

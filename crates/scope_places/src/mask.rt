@@ -1,15 +1,19 @@
-// Masks over the places of a scope, and rows of two masks for each record.
-ghost use Rattle.std.specs.Prelude.{◌≡◌, ◌∷◌, [], ◌+◌, ◌*◌, ◌%◌, ◌^◌, ◌≤◌, ◌<◌, set};
+// Masks over the places of a scope, and a row of two for each record.
+ghost use Rattle.std.specs.Prelude.{◌≡◌, ◌∷◌, [], ◌+◌, ◌*◌, ◌%◌, ◌^◌, ◌≤◌};
 ghost use Rattle.std.specs.Int.Bits.{bit_or};
 ghost use Rattle.std.proofs.lemmas.List.Edits.{sets};
 ghost use Rattle.scope_spec.specs.FreeRows.{mask_of};
+ghost use Rattle.scope_spec.specs.Pairs.{masks_of};
 ghost use Rattle.scope_places.specs.Scoping.{scope_of};
 
 use crate::scope::InScope;
+use scope_spec::FreeVars;
 use syntax::context::TypingContext;
 use syntax::names::VarId;
 
 // The places in scope at which an ID stands.
+// (A loop: the mask so far, and its bound, would be a `fold`'s invariant, as they are the loop's. By index: of IDs that are taken from the last one down a
+// proof knows how many came, and would find the place from that again.)
 pub fn mask_one(scope: &InScope<'_>, id: VarId) -> u64
     ensures { result ≡ mask_of (id ∷ []) (scope_of scope.now) }
 {
@@ -31,21 +35,12 @@ pub fn join(mask: u64, below: u64, n: usize) -> u64
     mask | below
 }
 
-// Stores a mask, if its place is within the rows.
-fn put_mask(rows: &mut [u64], at: usize, mask: u64)
-    ensures { rows.new ≡ set rows.old at mask }
+// Stores the row of the record at index i, if the rows have a place for it.
+// (No `get_mut`: once its borrow is over, a proof knows the rows' length, and no row.)
+pub fn put_row(rows: &mut [FreeVars], i: usize, row: FreeVars)
+    ensures { masks_of rows.new ≡ sets (masks_of rows.old) (2 * i) (row.clauses ∷ row.next ∷ []) }
 {
-    if at < rows.len() {
-        rows[at] = mask;
+    if i < rows.len() {
+        rows[i] = row;
     }
-}
-
-// Stores the row of the record at index i: the mask of its clauses, then that of its bodies.
-pub fn put_row(rows: &mut [u64], i: usize, clauses: u64, bodies: u64)
-    requires { 2 * i + 1 < 2 ^ 64 }
-    ensures { rows.new ≡ sets rows.old (2 * i) (clauses ∷ bodies ∷ []) }
-{
-    let at = 2 * i;
-    put_mask(rows, at, clauses);
-    put_mask(rows, at + 1, bodies);
 }

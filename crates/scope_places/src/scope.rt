@@ -1,4 +1,6 @@
 // The IDs in scope: the first n of a lent array.
+// (Lent, and not a set by value: one array of 64 serves every depth, and the walk sets `n` back behind a body. Numbers, as at
+// the start: a slice of `VarId` would ask more of who lends one.)
 // (`scope` and `id`: one scope is asked about many IDs. `scope` and `verdict`: the scope is set back behind a body, the verdict goes on.)
 ghost use Rattle.scope_places.specs.Places.{ScopeAt};
 

@@ -1,6 +1,6 @@
 -- The questions of a record by its kind and the bytes of its tail, and over all records. Assumes nothing.
 use Prim.Native.Nat.{ℕ, zero, suc, ◌+◌, ◌≤◌, ◌<◌}
-use mathlib.Core.Path.{◌≡◌, refl, sym, ◌∙◌}
+use mathlib.Core.Path.{◌≡◌, refl, sym, ap, ◌∙◌}
 use mathlib.Core.Bool.{Bool, true, false, ◌&&◌, cond}
 use mathlib.Core.List.{List, [], ◌∷◌}
 use mathlib.Core.Option.{none, some}
@@ -9,6 +9,7 @@ use native.Mathlib.Numerals.{add-one}
 use lib.Dec.{leb, eqb}
 use lib.ListN.{length, drop, get_or, length-drop}
 use lib.Seq.{drop-cons}
+use Rattle.std.specs.List.{list_all, range_with_len}
 use Rattle.syntax.proofs.Bools.{both_true}
 use Rattle.image_spec.specs.Records.{Record, definition, substitute, call, let', switch, create, invoke, literal, op, ifc, clause', print, exit}
 use Rattle.image_spec.specs.Kinds.{kind_of, clauses_of, tail_bytes}
@@ -77,17 +78,22 @@ not_kind r other h n e = n (same_code _ other (sym h ∙ e))
 
 -- ── over all records ──
 
-pub all-step : (f : Record → Bool) (rs : List Record) (i : ℕ) → i < length rs → all_records_lem f (drop i rs) ≡ f (head_of (drop i rs)) && all_records_lem f (drop (i + 1) rs)
+all-step : (f : Record → Bool) (rs : List Record) (i : ℕ) → i < length rs → all_records_lem f (drop i rs) ≡ f (head_of (drop i rs)) && all_records_lem f (drop (i + 1) rs)
 all-step f rs i h =
     let d : Record = head_of [] in
     rw (add-one, drop-cons rs i d h) refl
 
-pub all_end : (f : Record → Bool) (rs : List Record) (i : ℕ) → length rs ≤ i → all_records_lem f (drop i rs) ≡ true
+all_end : (f : Record → Bool) (rs : List Record) (i : ℕ) → length rs ≤ i → all_records_lem f (drop i rs) ≡ true
 all_end f rs i h = go (drop i rs) (omega (arith, length-drop i rs))
   where
     go : (l : List Record) → length l ≡ 0 → all_records_lem f l ≡ true
     go [] e = refl
     go (r ∷ l) e = absurd (omega arith)
+
+-- all records from i on, asked one index after the other
+pub all-listed : (f : Record → Bool) (rs : List Record) (i n : ℕ) → i + n ≡ length rs → list_all (λ j. f (head_of (drop j rs))) (range_with_len i n) ≡ all_records_lem f (drop i rs)
+all-listed f rs i zero e = sym (all_end f rs i (omega arith))
+all-listed f rs i (suc n) e = ap (λ b. f (head_of (drop i rs)) && b) (all-listed f rs (i + 1) n (omega arith)) ∙ sym (all-step f rs i (omega arith))
 
 -- what every record passes, the record at a place passes
 pub record_at_lem : (f : Record → Bool) (rs : List Record) (i : ℕ) → all_records_lem f rs ≡ true → i < length rs → f (head_of (drop i rs)) ≡ true

@@ -1,5 +1,6 @@
 // The questions that are asked of each record alone: question 6, and the counts of question 7.
-ghost use Rattle.std.specs.Prelude.{◌≡◌, ◌&&◌, leb};
+ghost use Rattle.std.specs.Prelude.{◌≡◌, ◌<◌, ◌&&◌, leb, drop};
+ghost use Rattle.image_read_parts.specs.Standing.{head_of};
 ghost use Rattle.image_spec.specs.Kinds.{clauses_of};
 ghost use Rattle.scope_spec.specs.Flat.{all_records_lem, plain_record_lem, small_record_lem};
 ghost use Rattle.scope_records.specs.Environments.{small_environment_lem};
@@ -15,7 +16,8 @@ use image_read_parts::byte;
 use image_read_parts::record::RecordAt;
 use image_shape::look;
 
-// What is asked of each record alone.
+// What is asked of each record alone. (A parameter of `all_records`, which walks for both: two walks would differ in one call, and a closure
+// in its place would need a contract that ties it to the question's definition.)
 #[derive(Clone, Copy)]
 pub enum Alone {
     // Question 6: that it is no Substitute, and has no environment.
@@ -35,6 +37,7 @@ fn plain_record(node: &RecordAt<'_>) -> bool
             node.index,
             Kind::Create.fixed(node.image.frame.id),
         ) == 0,
+        // `_`: the kinds that question 6 does not speak of, of which eleven names would say no more.
         _ => true,
     }
 }
@@ -65,36 +68,32 @@ fn small_record(node: &RecordAt<'_>) -> bool
     match node.kind {
         Kind::Literal | Kind::Op | Kind::IfC | Kind::Print | Kind::Exit => true,
         Kind::Create => small_create(node),
+        // `kind`: the kinds with one count, which stands right behind their fixed part.
         kind => byte(&node.image, node.index, kind.fixed(node.image.frame.id))
             <= Frame::MAX_SOURCE_COUNT,
     }
 }
 
-// Does a record pass?
-fn passes(node: &RecordAt<'_>, question: Alone) -> bool
-    ensures { result ≡ test_of question (record_in node.now) }
+// Does the record at index i pass?
+fn passes(image: &Image<'_>, i: usize, question: Alone) -> bool
+    requires { i < image.now.frame.count }
+    ensures { result ≡ test_of question (head_of (drop i (records_of image.now))) }
 {
+    let kind = look(image, i).unwrap().kind;
+    let node = RecordAt {
+        image: *image,
+        index: i,
+        kind,
+    };
     match question {
-        Alone::Plain => plain_record(node),
-        Alone::Small => small_record(node),
+        Alone::Plain => plain_record(&node),
+        Alone::Small => small_record(&node),
     }
 }
 
 // Does every record of the image pass?
-// (A `for` that returns, and no chain with `all`: its closure would need a contract that each index is below the bound.)
 pub fn all_records(image: &Image<'_>, question: Alone) -> bool
     ensures { result ≡ all_records_lem (test_of question) (records_of image.now) }
 {
-    for i in 0..image.frame.count {
-        let kind = look(image, i).unwrap().kind;
-        let node = RecordAt {
-            image: *image,
-            index: i,
-            kind,
-        };
-        if !passes(&node, question) {
-            return false;
-        }
-    }
-    true
+    (0..image.frame.count).all(|i| passes(image, i, question))
 }

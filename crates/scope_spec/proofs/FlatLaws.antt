@@ -72,7 +72,7 @@ two a b R S e h =
     ∙ ap (λ (p : Bool). p && (R && S)) (sym (all_records-++ small_record_lem a b))
 
 -- the larger of two counts
-leb_max : (a b n : ℕ) → leb (max a b) n ≡ leb a n && leb b n
+pub leb_max : (a b n : ℕ) → leb (max a b) n ≡ leb a n && leb b n
 leb_max a b n = go (leb a n) refl (leb b n) refl
   where
     go : (s : Bool) → leb a n ≡ s → (t : Bool) → leb b n ≡ t → leb (max a b) n ≡ s && t
@@ -100,10 +100,12 @@ mutual
   small-stmt (Let var ty tag args next) Δ = below (leb (length args) 32) (leb (length Δ) 64) (all_records_lem small_record_lem (flatten next)) (asked next in_room any_binders (var.id ∷ Δ)) (small-stmt next (var.id ∷ Δ))
   small-stmt (Switch var ty cs) Δ = below (leb (count_clauses cs) 32) (leb (length Δ) 64) (all_records_lem small_record_lem (flatten_clauses cs)) (asked_clauses cs in_room any_binders Δ) (small-clauses cs Δ)
   small-stmt (Create var ty env cs next) Δ =
-      below (leb (max (count_environment env) (count_clauses cs)) 32) (leb (length Δ) 64) (all_records_lem small_record_lem (flatten_clauses cs ++ flatten next)) (asked_clauses cs in_room any_binders Δ && asked next in_room any_binders (var.id ∷ Δ))
+      let here = leb (length Δ) 64 in
+      let flat = all_records_lem small_record_lem (flatten_clauses cs ++ flatten next) in
+      let room = asked_clauses cs in_room any_binders Δ && asked next in_room any_binders (var.id ∷ Δ) in
+      below (leb (max (count_environment env) (count_clauses cs)) 32) here flat room
       (two (flatten_clauses cs) (flatten next) (asked_clauses cs in_room any_binders Δ) (asked next in_room any_binders (var.id ∷ Δ)) (small-clauses cs Δ) (small-stmt next (var.id ∷ Δ)))
-      ∙ ap (λ (c : Bool). (c && all_records_lem small_record_lem (flatten_clauses cs ++ flatten next)) && (leb (length Δ) 64 && (asked_clauses cs in_room any_binders Δ && asked next in_room any_binders (var.id ∷ Δ))))
-      (leb_max (count_environment env) (count_clauses cs) 32)
+      ∙ ap (λ (c : Bool). (c && flat) && (here && room)) (leb_max (count_environment env) (count_clauses cs) 32)
   small-stmt (Invoke var tag ty args) Δ = leaf (leb (length args) 32) (leb (length Δ) 64)
   small-stmt (Literal lit var next) Δ = below true (leb (length Δ) 64) (all_records_lem small_record_lem (flatten next)) (asked next in_room any_binders (var.id ∷ Δ)) (small-stmt next (var.id ∷ Δ))
   small-stmt (Op fst op snd var next) Δ = below true (leb (length Δ) 64) (all_records_lem small_record_lem (flatten next)) (asked next in_room any_binders (var.id ∷ Δ)) (small-stmt next (var.id ∷ Δ))

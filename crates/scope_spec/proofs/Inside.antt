@@ -20,6 +20,7 @@ use Rattle.image_spec.specs.Kinds.{kind_of, clauses_of, bodies}
 use Rattle.image_spec.specs.Shape.{flatten, flatten_clauses, flatten_def, flatten_defs, max_depth}
 use Rattle.image_places_spec.specs.Views.{record_of, clauses_in, bodies_of, binders}
 use Rattle.image_places_spec.specs.Places.{Begins, StmtStands, ClausesStand, BodiesStand}
+use Rattle.image_places_spec.proofs.Runs.{at_place, in_two, no_place}
 use Rattle.image_places_spec.proofs.PlaceLaws.{stmt-parts, clause-parts, body-parts, begins-left, begins-right, begins-head}
 use Rattle.scope_spec.specs.Calls.{has_annotation_lem, first_has, question13}
 
@@ -58,15 +59,6 @@ weaker e h f i = record {
   keeps = λ q b x. i.keeps q b (f q b x);
 }
 
--- a place in a run of records: the first, in the a after it, or in the b after those
-at_place : {R : Type 0} (i a b j : ℕ) → i ≤ j → j < i + (1 + a + b) → (i ≡ j → R) → (i + 1 ≤ j → j < i + 1 + a → R) → (i + 1 + a ≤ j → j < i + 1 + a + b → R) → R
-at_place {R} i a b j l h here first then = go (ltb i j) refl (ltb j (i + 1 + a)) refl
-  where
-    go : (t : Bool) → ltb i j ≡ t → (u : Bool) → ltb j (i + 1 + a) ≡ u → R
-    go false e u k = here (omega (arith, ltb-false i j e))
-    go true e true k = first (omega (arith, ltb-true i j e)) (ltb-true j (i + 1 + a) k)
-    go true e false k = then (ltb-false j (i + 1 + a) k) (omega arith)
-
 abbrev Of : Stmt → List VarId → OfStmt → OfBinders → Type 0
 Of t Δ q b = asked t q b Δ ≡ true
 
@@ -75,18 +67,6 @@ OfClauses cs Δ q b = asked_clauses cs q b Δ ≡ true
 
 abbrev OfBodies : List Stmt → List VarId → OfStmt → OfBinders → Type 0
 OfBodies ts Δ q b = All (λ (t : Stmt). asked t q b Δ ≡ true) ts
-
--- .. or in one of two runs
-in_two : {R : Type 0} (i a b j : ℕ) → i ≤ j → j < i + (a + b) → (j < i + a → R) → (i + a ≤ j → j < i + a + b → R) → R
-in_two {R} i a b j l h first then = go (ltb j (i + a)) refl
-  where
-    go : (u : Bool) → ltb j (i + a) ≡ u → R
-    go true k = first (ltb-true j (i + a) k)
-    go false k = then (ltb-false j (i + a) k) (omega arith)
-
-no_place : {i j : ℕ} → i ≤ j → j < i + length (flatten_clauses end) → ⊥
-unfolding flatten
-no_place l h = omega arith
 
 -- what is asked of a clause is asked of its body, and of the clauses after it
 pub asked-clause : (x : Identifier) (Γ : Context) (body : Stmt) (rest : Clauses) (q : OfStmt) (b : OfBinders) (Δ : List VarId) → asked_clauses (clause x Γ body rest) q b Δ ≡ true

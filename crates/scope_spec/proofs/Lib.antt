@@ -8,3 +8,4 @@ pub mod Inside
 pub mod IdsFit
 pub mod MarkViews
 pub mod RoomLaws
+pub mod PairLaws

@@ -1,7 +1,7 @@
 -- What is marked are the free variables that are not bound; the marked IDs in order are their ascending list. Assumes nothing.
 use Prim.Native.Nat.{ℕ, zero, suc, ◌-◌, ◌≤◌, ◌<◌}
 use mathlib.Core.Path.{◌≡◌, refl, sym, ap, ap₂, ◌∙◌, subst}
-use mathlib.Core.Logic.{◌⊎◌, inl, inr}
+use mathlib.Core.Logic.{◌⊎◌, inl, inr, ⊎_elim}
 use mathlib.Core.Bool.{Bool, true, false, ◌&&◌, false≢true}
 use mathlib.Core.List.{List, [], ◌∷◌, ◌++◌}
 use native.Mathlib.Omega.{arith}
@@ -152,11 +152,7 @@ fit-right s t n h x k = h x (∈_right x s t k)
 
 -- members in the other order
 turned : (s t : List VarId) (x : VarId) → x ∈ (s ++ t) → x ∈ (t ++ s)
-turned s t x h = go (∈_split x s t h)
-  where
-    go : (x ∈ s) ⊎ (x ∈ t) → x ∈ (t ++ s)
-    go (inl k) = ∈_right x t s k
-    go (inr k) = ∈_left x t s k
+turned s t x h = ⊎_elim (∈_right x t s) (∈_left x t s) (∈_split x s t h)
 
 mutual
   unfolding mark_stmt free_vars asked all_uses

@@ -2,33 +2,23 @@
 -- room for the bindings. Assumes nothing.
 use Prim.Native.Nat.{ℕ, suc, ◌+◌, ◌≤◌, ◌<◌}
 use mathlib.Core.Path.{◌≡◌, refl, sym, ap, ap₂, ◌∙◌, subst}
-use mathlib.Core.Logic.{inl, inr}
-use mathlib.Core.Bool.{Bool, true, false, not, ◌&&◌, ◌||◌, cond, true≢false, and-true, and-false, and_assoc, or-false}
+use mathlib.Core.Bool.{Bool, true, false, not, ◌&&◌, ◌||◌, cond, true≢false, and-true, and-false, and_assoc, or_comm, or-false}
 use mathlib.Core.List.{List, [], ◌∷◌, ◌++◌, append-nil}
 use native.Mathlib.Omega.{arith}
 use borrow.Author.Tests.{le-leb, lt-leb, lt-ltb, le-ltb, leb-true, leb-false, ltb-true, ltb-false}
+use Rattle.std.proofs.lemmas.Bool.Decides.{nat_tests}
 use lib.Dec.{leb, ltb}
 use lib.ListN.{length, length-append}
 use Rattle.syntax.specs.Names.{same_var_id}
 use Rattle.syntax.specs.Sets.{elem, distinct}
 use Rattle.syntax.specs.Context.{ids}
 use Rattle.syntax.specs.declared.names.VarId.{VarId}
-use Rattle.syntax.proofs.Bools.{Answers}
-use Rattle.syntax.proofs.Members.{same?}
 use Rattle.model.specs.Syntax.{Stmt, Substitute, Call, Let, Switch, Create, Invoke, Literal, Op, IfC, PrintI64, Exit, Clauses, end, clause, Def}
 use Rattle.model.specs.Lists.{every}
 use Rattle.model.specs.Questions.{asked, asked_clauses, asked_defs, any_stmt, any_binders, new, uses, in_scope_lem, up_to}
 use Rattle.scope_spec.specs.Rooms.{in_room}
 use Rattle.scope_spec.specs.Walk.{max_scope, clean, use_one_lem, use_all, Scoped, judged, full, enter_one_lem, enter_all, Walking, under, walk_stmt, walk_clauses, walk_defs}
 use Rattle.scope_spec.specs.declared.Verdict.{Verdict}
-
--- ── booleans ──
-
-or_swap : (a b : Bool) → a || b ≡ b || a
-or_swap true true = refl
-or_swap true false = refl
-or_swap false true = refl
-or_swap false false = refl
 
 -- ── what a stretch of the walk finds: from the verdict v to r, with these answers ──
 
@@ -127,7 +117,7 @@ elem-++ x (y ∷ s) t = go (same_var_id x y) (elem-++ x s t)
 
 same_more : {Δ Δ' : List VarId} (x : VarId) → SameScope Δ Δ' → SameScope (x ∷ Δ) (Δ' ++ (x ∷ []))
 same_more {Δ} {Δ'} x s = record {
-  members = λ y. ap₂ (λ (a b : Bool). a || b) (one y) (s.members y) ∙ or_swap (elem y (x ∷ [])) (elem y Δ') ∙ sym (elem-++ y Δ' (x ∷ []));
+  members = λ y. ap₂ (λ (a b : Bool). a || b) (one y) (s.members y) ∙ or_comm (elem y (x ∷ [])) (elem y Δ') ∙ sym (elem-++ y Δ' (x ∷ []));
   count = ap suc s.count ∙ omega (arith, length-append Δ' (x ∷ []));
 }
   where
@@ -167,20 +157,12 @@ same-front {Δ'} x xs Δ s = record {
     front : (y : VarId) → elem y (x ∷ xs ++ Δ) ≡ elem y (xs ++ x ∷ Δ)
     front y = ap (λ (b : Bool). same_var_id y x || b) (elem-++ y xs Δ) ∙ or_front (same_var_id y x) (elem y xs) (elem y Δ) ∙ sym (elem-++ y xs (x ∷ Δ))
 
-same-turned : (x y : VarId) → same_var_id x y ≡ same_var_id y x
-same-turned x y = go (same? x y) (same? y x)
-  where
-    go : Answers (same_var_id x y) (x ≡ y) → Answers (same_var_id y x) (y ≡ x) → same_var_id x y ≡ same_var_id y x
-    go (inl p) (inl q) = p.0 ∙ sym q.0
-    go (inl p) (inr q) = absurd (q.1 (sym p.1))
-    go (inr p) (inl q) = absurd (p.1 (sym q.1))
-    go (inr p) (inr q) = p.0 ∙ sym q.0
-
 -- none is x, and none is in the scope
 every-new : (x : VarId) (Δ xs : List VarId) → every (λ (y : VarId). not (elem y (x ∷ Δ))) xs ≡ every (λ (y : VarId). not (elem y Δ)) xs && not (elem x xs)
 every-new x Δ [] = refl
 every-new x Δ (y ∷ xs) =
-    ap₂ (λ (a c : Bool). not (a || elem y Δ) && c) (same-turned y x) (every-new x Δ xs)
+    let turned : same_var_id y x ≡ same_var_id x y = grind (arith, nat_tests) in
+    ap₂ (λ (a c : Bool). not (a || elem y Δ) && c) turned (every-new x Δ xs)
     ∙ shuffle (same_var_id x y) (elem y Δ) (every (λ (z : VarId). not (elem z Δ)) xs) (elem x xs)
   where
     shuffle : (a b c e : Bool) → not (a || b) && (c && not e) ≡ (not b && c) && not (a || e)
@@ -345,8 +327,10 @@ finds-defs [] M v = finds_none v
 finds-defs (d ∷ ds) M v =
     let Δ = ids d.context in
     let body = d.body in
-    let below = subst (λ (z : List VarId). Finds v (under M Δ (walk_stmt body M) [] v) (asked body in_room any_binders z) (new [] Δ && asked body any_stmt new z) (asked body in_scope_lem any_binders z) (up_to M [] Δ && asked body any_stmt (up_to M) z))
-    (append-nil Δ)
+    let Found : List VarId → Type 0 =
+    λ z. Finds v (under M Δ (walk_stmt body M) [] v) (asked body in_room any_binders z) (new [] Δ && asked body any_stmt new z)
+    (asked body in_scope_lem any_binders z) (up_to M [] Δ && asked body any_stmt (up_to M) z) in
+    let below = subst Found (append-nil Δ)
     (finds-under M Δ no-scope (omega arith) (walk_stmt body M) (λ Δ₁ w q l. finds-stmt body M (Δ ++ []) Δ₁ w q l) (λ Δ₁ w q. walk_stmt-stays body M Δ₁ w q) (λ l. asked-over body (Δ ++ []) l) v) in
     finds_assoc (new [] Δ) (asked body any_stmt new Δ) (asked_defs ds any_stmt new) (up_to M [] Δ) (asked body any_stmt (up_to M) Δ) (asked_defs ds any_stmt (up_to M))
     (finds_then below (λ e. finds-defs ds M _) (λ e. walk_defs-stays ds M _ e))

@@ -5,3 +5,4 @@ pub mod Rooms
 pub mod Walk
 pub mod Marking
 pub mod FreeRows
+pub mod Pairs

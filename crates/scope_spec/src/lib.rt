@@ -12,3 +12,10 @@ pub struct Verdict {
     pub uses: bool,
     pub ids: bool,
 }
+
+// What a record's clauses and what stands behind them have free, as masks over the places in scope. (That is its next, or its branches.)
+#[derive(Clone, Copy)]
+pub struct FreeVars {
+    pub clauses: u64,
+    pub next: u64,
+}

@@ -1,12 +1,12 @@
 -- The masks and the rows that the walk finds: of a statement by its record, its clauses and its bodies (`masked_stmt`); and what the walk of
 -- the clauses and of the bodies that are left will find and store. Assumes nothing.
-use Prim.Native.Nat.{ℕ, suc, ◌+◌, ◌*◌, ◌%◌, ◌^◌, ◌≤◌, ◌<◌}
+use Prim.Native.Nat.{ℕ, ◌+◌, ◌*◌, ◌%◌, ◌^◌, ◌≤◌}
 use mathlib.Core.Path.{◌≡◌, refl, sym, ap, ap₂, ◌∙◌, subst}
 use mathlib.Core.List.{List, [], ◌∷◌, ◌++◌, append-nil, append_assoc}
 use native.Mathlib.Omega.{arith}
 use lib.Bits.{bit_or}
-use lib.ListN.{length, set}
-use lib.Seq.{sets, set_comm}
+use lib.ListN.{length}
+use lib.Seq.{sets}
 use Rattle.syntax.specs.Context.{Context, ids}
 use Rattle.syntax.specs.Sets.{without}
 use Rattle.syntax.specs.declared.names.Identifier.{Identifier}
@@ -16,7 +16,7 @@ use Rattle.model.specs.FreeVars.{free_vars, free_vars_clauses}
 use Rattle.image_spec.specs.Parse.{All}
 use Rattle.image_spec.specs.Records.{Record}
 use Rattle.image_spec.specs.Shape.{flatten, flatten_clauses}
-use Rattle.image_write_parts.proofs.Putting.{sets_append}
+use Rattle.image_write_parts.proofs.Putting.{sets_append, sets_reserved}
 use Rattle.image_places_spec.specs.Views.{record_of, clauses_in, bodies_of, binders, uses_of}
 use Rattle.image_places_spec.proofs.Steps.{Above, Below, by-view}
 use Rattle.scope_spec.specs.FreeRows.{mask_of, free_bodies, row_of, row_under, rows_stmt, rows_clauses, rows_bodies}
@@ -29,18 +29,11 @@ use Rattle.scope_walk.proofs.SourceLaws.{sourced-plain, sourced-apart, sourced-c
 
 -- ── stores ──
 
--- a store before others may come after them
-set_sets : (ys l : List ℕ) (j i a : ℕ) → i < j → set (sets l j ys) i a ≡ sets (set l i a) j ys
-set_sets [] l j i a h = refl
-set_sets (y ∷ ys) l j i a h = set_sets ys (set l j y) (suc j) i a (omega arith) ∙ ap (λ (z : List ℕ). sets z (suc j) ys) (set_comm l j i y a (λ e. omega (arith, e)))
-
 -- the row of a record, stored after those of the records behind it
 pub row-stored : (rows ys : List ℕ) (i a b : ℕ) → sets (sets rows (2 * (i + 1)) ys) (2 * i) (a ∷ b ∷ []) ≡ sets rows (2 * i) (a ∷ b ∷ ys)
 row-stored rows ys i a b =
-    let j : 2 * (i + 1) ≡ suc (suc (2 * i)) = omega arith in
-    ap (λ (z : ℕ). set (set (sets rows z ys) (2 * i) a) (suc (2 * i)) b) j
-    ∙ ap (λ (z : List ℕ). set z (suc (2 * i)) b) (set_sets ys rows (suc (suc (2 * i))) (2 * i) a (omega arith))
-    ∙ set_sets ys (set rows (2 * i) a) (suc (suc (2 * i))) (suc (2 * i)) b (omega arith)
+    let j : 2 * (i + 1) ≡ 2 * i + 2 = omega arith in
+    rw j (sets_reserved (a ∷ b ∷ []) rows (2 * i) 2 ys refl)
 
 -- the rows of some records, and then those of others
 pub rows_then : (rows xs ys : List ℕ) (i n next : ℕ) → length xs ≡ 2 * n → next ≡ i + n → sets rows (2 * i) (xs ++ ys) ≡ sets (sets rows (2 * i) xs) (2 * next) ys
@@ -163,6 +156,3 @@ module _ {Δ : List VarId} {free : ℕ} {whole rows : List ℕ} {here : Walked} 
         ∙ rows_then rows (rows_stmt t Δ) (rows_bodies ts Δ) here.next (length (flatten t)) after.next (rows-length t Δ) (a ∙ k)
         ∙ ap (λ (l : List ℕ). sets l (2 * after.next) (rows_bodies ts Δ)) (sym (y.rows_are ∙ ap (λ (z : List VarId). sets rows (2 * here.next) (rows_stmt t z)) e));
   }
-
-  pub bodies_masked : MasksBodies Δ free whole rows here [] → MaskedTo here rows free whole
-  bodies_masked e = record { free_is = e.seen_is ∙ (ap (λ (u : List VarId). mask_of u Δ) (sym (append-nil e.seen)) ∙ sym e.free_is); rows_are = sym e.rows_are }

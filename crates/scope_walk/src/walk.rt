@@ -1,6 +1,6 @@
 // The walk of the questions 8, 9 and 10: the statements of a body, with the scope at each. On the way it finds the free variables of every
 // record, from the last one up: the mask of a statement comes from what its record uses and the masks of its clauses and of its bodies.
-// (`opened`, `depth`, `i`, `scope`, `v` and `rows`: opened and rows are one for the walk, depth falls, i and v go on, scope is set back.)
+// (`walkable`, `depth`, `i`, `scope`, `v` and `rows`: walkable and rows are one for the walk, depth falls, i and v go on, scope is set back.)
 ghost use Rattle.std.specs.Prelude.{◌+◌, ◌*◌, length};
 ghost use Rattle.std.proofs.lemmas.List.Edits.{sets};
 ghost use Rattle.model.specs.FreeVars.{free_vars, free_vars_clauses};
@@ -10,19 +10,27 @@ ghost use Rattle.image_directory.specs.Images.{records_of};
 ghost use Rattle.image_places_spec.specs.Places.{stmt_at, clauses_at, bodies_at, StmtStands, ClausesStand, BodiesStand};
 ghost use Rattle.scope_spec.specs.Walk.{walk_stmt, walk_clauses, walk_bodies};
 ghost use Rattle.scope_spec.specs.FreeRows.{mask_of, free_bodies, rows_stmt, rows_clauses, rows_bodies};
+ghost use Rattle.scope_spec.specs.Pairs.{masks_of};
 ghost use Rattle.scope_places.specs.Scoping.{scope_of};
 ghost use Rattle.scope_walk.specs.Walks.{WalkedTo, Restored};
 ghost use Rattle.scope_walk.specs.Masks.{Sourced, SourcedClauses, MaskedTo};
 
+use image_directory::image::Image;
 use image_kinds::kinds::Kind;
-use image_open::opened::Opened;
-use image_read_nodes::parts_of;
+use image_read_nodes::{list_at, parts_of};
 use image_read_parts::record::RecordAt;
 use scope_nodes::nodes::{enter_list, enter_node, use_node};
 use scope_places::mask::{join, put_row};
 use scope_places::scope::InScope;
 use scope_places::scoping::Using;
-use scope_spec::Verdict;
+use scope_spec::{FreeVars, Verdict};
+
+// What is walked: an image, and the max_id of its header. (No opened image: a statement may be walked where nobody asked question 5.)
+#[derive(Clone, Copy)]
+pub struct Walkable<'a> {
+    pub image: Image<'a>,
+    pub max_id: u32,
+}
 
 // Where the walk has come to, its verdict so far, and the free variables of what it came through, as a mask over the places in scope.
 #[derive(Clone, Copy)]
@@ -32,22 +40,27 @@ pub struct Walked {
     pub free: u64,
 }
 
-// The statement at index i, of depth at most `depth`. The scope is afterwards as it was. Stores two masks for each record.
+// The statement at index i, of depth at most `depth`. The scope is afterwards as it was. Stores a row for each record.
 #[cycle(bodies_clauses_statement)]
 pub fn statement(
-    opened: &Opened<'_>,
+    walkable: &Walkable<'_>,
     depth: usize,
     i: usize,
     scope: &mut InScope<'_>,
     v: Verdict,
-    rows: &mut [u64],
+    rows: &mut [FreeVars],
 ) -> Walked
-    requires { StmtStands depth (records_of opened.now.image) i (stmt_at depth (records_of opened.now.image) i) }
-    ensures { WalkedTo result (i + length (flatten (stmt_at depth (records_of opened.now.image) i))) (walk_stmt (stmt_at depth (records_of opened.now.image) i) opened.now.max_id (scope_of scope.old) v) × (Restored scope.old scope.new × (Sourced (scope_of scope.old) (stmt_at depth (records_of opened.now.image) i) → MaskedTo result rows.new (mask_of (free_vars (stmt_at depth (records_of opened.now.image) i)) (scope_of scope.old)) (sets rows.old (2 * i) (rows_stmt (stmt_at depth (records_of opened.now.image) i) (scope_of scope.old))))) }
+    requires { StmtStands depth (records_of walkable.now.image) i (stmt_at depth (records_of walkable.now.image) i) }
+    ensures { let here = stmt_at depth (records_of walkable.now.image) i in
+        let bound = scope_of scope.old in
+        WalkedTo result (i + length (flatten here)) (walk_stmt here walkable.now.max_id bound v)
+        × (Restored scope.old scope.new
+        × (Sourced bound here → MaskedTo result (masks_of rows.new) (mask_of (free_vars here) bound)
+        (sets (masks_of rows.old) (2 * i) (rows_stmt here bound)))) }
 {
-    let f = parts_of(&opened.image, i);
+    let f = parts_of(&walkable.image, i);
     let node = RecordAt {
-        image: opened.image,
+        image: walkable.image,
         index: i,
         kind: f.kind,
     };
@@ -58,7 +71,7 @@ pub fn statement(
     let n = scope.n;
     let own = use_node(&node, scope, start);
     let c = clauses(
-        opened,
+        walkable,
         depth - 1,
         f.clauses,
         i + 1,
@@ -66,10 +79,14 @@ pub fn statement(
         own.verdict,
         rows,
     );
-    let bound = enter_node(&node, scope, c.verdict, opened.max_id);
-    let b = bodies(opened, depth - 1, f.bodies, c.next, scope, bound, rows);
+    let bound = enter_node(&node, scope, c.verdict, walkable.max_id);
+    let b = bodies(walkable, depth - 1, f.bodies, c.next, scope, bound, rows);
     scope.n = n;
-    put_row(rows, i, c.free, b.free);
+    let row = FreeVars {
+        clauses: c.free,
+        next: b.free,
+    };
+    put_row(rows, i, row);
     let free = join(own.mask | c.free, b.free, n);
     Walked { free, ..b }
 }
@@ -77,16 +94,21 @@ pub fn statement(
 // The `count` clauses from index i on, with bodies of depth at most `depth`.
 #[cycle(bodies_clauses_statement)]
 fn clauses(
-    opened: &Opened<'_>,
+    walkable: &Walkable<'_>,
     depth: usize,
     count: usize,
     i: usize,
     scope: &mut InScope<'_>,
     v: Verdict,
-    rows: &mut [u64],
+    rows: &mut [FreeVars],
 ) -> Walked
-    requires { ClausesStand depth count (records_of opened.now.image) i (clauses_at depth count (records_of opened.now.image) i) }
-    ensures { WalkedTo result (i + length (flatten_clauses (clauses_at depth count (records_of opened.now.image) i))) (walk_clauses (clauses_at depth count (records_of opened.now.image) i) opened.now.max_id (scope_of scope.old) v) × (Restored scope.old scope.new × (SourcedClauses (scope_of scope.old) (clauses_at depth count (records_of opened.now.image) i) → MaskedTo result rows.new (mask_of (free_vars_clauses (clauses_at depth count (records_of opened.now.image) i)) (scope_of scope.old)) (sets rows.old (2 * i) (rows_clauses (clauses_at depth count (records_of opened.now.image) i) (scope_of scope.old))))) }
+    requires { ClausesStand depth count (records_of walkable.now.image) i (clauses_at depth count (records_of walkable.now.image) i) }
+    ensures { let here = clauses_at depth count (records_of walkable.now.image) i in
+        let bound = scope_of scope.old in
+        WalkedTo result (i + length (flatten_clauses here)) (walk_clauses here walkable.now.max_id bound v)
+        × (Restored scope.old scope.new
+        × (SourcedClauses bound here → MaskedTo result (masks_of rows.new) (mask_of (free_vars_clauses here) bound)
+        (sets (masks_of rows.old) (2 * i) (rows_clauses here bound)))) }
 {
     let mut here = Walked {
         next: i,
@@ -96,14 +118,18 @@ fn clauses(
     let n = scope.n;
     for _ in 0..count {
         let node = RecordAt {
-            image: opened.image,
+            image: walkable.image,
             index: here.next,
             kind: Kind::Clause,
         };
-        let bound = enter_list(&node, scope, here.verdict, opened.max_id);
-        let b = statement(opened, depth, here.next + 1, scope, bound, rows);
+        let bound = enter_list(&list_at(&node), scope, here.verdict, walkable.max_id);
+        let b = statement(walkable, depth, here.next + 1, scope, bound, rows);
         scope.n = n;
-        put_row(rows, here.next, 0, b.free);
+        let row = FreeVars {
+            clauses: 0,
+            next: b.free,
+        };
+        put_row(rows, here.next, row);
         let free = join(here.free, b.free, n);
         here = Walked { free, ..b };
     }
@@ -111,18 +137,24 @@ fn clauses(
 }
 
 // The `count` statements from index i on, each of depth at most `depth`.
+// (Beside `clauses`: a clause has a record of its own before its body.)
 #[cycle(bodies_clauses_statement)]
 fn bodies(
-    opened: &Opened<'_>,
+    walkable: &Walkable<'_>,
     depth: usize,
     count: usize,
     i: usize,
     scope: &mut InScope<'_>,
     v: Verdict,
-    rows: &mut [u64],
+    rows: &mut [FreeVars],
 ) -> Walked
-    requires { BodiesStand depth count (records_of opened.now.image) i (bodies_at depth count (records_of opened.now.image) i) }
-    ensures { WalkedTo result (i + length (each flatten (bodies_at depth count (records_of opened.now.image) i))) (walk_bodies (bodies_at depth count (records_of opened.now.image) i) opened.now.max_id (scope_of scope.old) v) × (Restored scope.old scope.new × (All (Sourced (scope_of scope.old)) (bodies_at depth count (records_of opened.now.image) i) → MaskedTo result rows.new (mask_of (free_bodies (bodies_at depth count (records_of opened.now.image) i)) (scope_of scope.old)) (sets rows.old (2 * i) (rows_bodies (bodies_at depth count (records_of opened.now.image) i) (scope_of scope.old))))) }
+    requires { BodiesStand depth count (records_of walkable.now.image) i (bodies_at depth count (records_of walkable.now.image) i) }
+    ensures { let here = bodies_at depth count (records_of walkable.now.image) i in
+        let bound = scope_of scope.old in
+        WalkedTo result (i + length (each flatten here)) (walk_bodies here walkable.now.max_id bound v)
+        × (Restored scope.old scope.new
+        × (All (Sourced bound) here → MaskedTo result (masks_of rows.new) (mask_of (free_bodies here) bound)
+        (sets (masks_of rows.old) (2 * i) (rows_bodies here bound)))) }
 {
     let mut here = Walked {
         next: i,
@@ -130,7 +162,7 @@ fn bodies(
         free: 0,
     };
     for _ in 0..count {
-        let b = statement(opened, depth, here.next, scope, here.verdict, rows);
+        let b = statement(walkable, depth, here.next, scope, here.verdict, rows);
         here = Walked {
             free: here.free | b.free,
             ..b

@@ -34,9 +34,11 @@ module _ {L : Layout} (known : Known L) where
 
   module _ (answer : Machine → Reading → Result) where
     pub answers-accepted : {kind : MachineKind} {bytes : List ℕ} {o : Opened} → Asks L kind bytes (Ok o) → {x : Result}
-        → ((P : Prog) → ImageOf P o.image.frame o.definitions o.image.bytes.now → Readable P → x ≡ answer (machine_for kind) (accept P)) → x ≡ answer (stepper_of kind L).machine ((stepper_of kind L).asks bytes)
+        → ((P : Prog) → ImageOf P o.image.frame o.definitions o.image.bytes.now → Readable P → x ≡ answer (machine_for kind) (accept P))
+        → x ≡ answer (stepper_of kind L).machine ((stepper_of kind L).asks bytes)
     answers-accepted {kind} {bytes} {o} (opened P e p q) {x} f =
         f P (subst (ImageOf P o.image.frame o.definitions) (sym q) p) (readable_of kind bytes P e) ∙ ap₂ {C = Result} answer (machine-of kind) (sym e)
 
-    pub answers-refused : {kind : MachineKind} {bytes : List ℕ} {q : Refusal} → Asks L kind bytes (Err q) → answer (stepper_of kind L).machine (refuse q) ≡ answer (stepper_of kind L).machine ((stepper_of kind L).asks bytes)
+    pub answers-refused : {kind : MachineKind} {bytes : List ℕ} {q : Refusal} → Asks L kind bytes (Err q)
+        → answer (stepper_of kind L).machine (refuse q) ≡ answer (stepper_of kind L).machine ((stepper_of kind L).asks bytes)
     answers-refused {kind} (closed e) = ap (answer (stepper_of kind L).machine) (sym e)

@@ -7,6 +7,7 @@ ghost use Rattle.step_answer_spec.specs.declared.Failure.TheVariants.{Refused};
 use image_spec::Refusal;
 
 // The steps that were made, and the bytes of their events.
+// (No `Default`: zeros are written out where nothing was made, so that clauses compute from the fields.)
 #[derive(Clone, Copy, PartialEq, Eq, Debug)]
 pub struct Shown {
     pub steps: u64,

@@ -1,9 +1,9 @@
 -- Two integers of 64 bits compared by their bits. Assumes nothing.
-use Rattle.std.proofs.Common.{◌≡◌, ℕ, Bool, true, false, not, ◌&&◌, eqb, leb, ℤ, pos, negsuc, sym, refl, ap, ◌∙◌, arith, w64, SFits, to_z, of_z, eq-eqb, ne_eqb, eqb-true, le-leb, leb-true}
+use Rattle.std.proofs.Common.{◌≡◌, ℕ, Bool, true, false, ◌&&◌, eqb, leb, ℤ, pos, negsuc, sym, refl, ap, ◌∙◌, arith, w64, SFits, to_z, of_z, eq-eqb, ne_eqb, eqb-true, le-leb, leb-true}
 use mathlib.Core.Bool.{and_comm, false≢true}
 use borrow.Author.Tests.{eqb-false, lt-leb}
 use Rattle.model.specs.Integers.{same_int}
-use Rattle.image_integers.proofs.Signs.{back}
+use Rattle.std.proofs.lemmas.Int.{to_z-of_z}
 
 -- ── equality ──
 
@@ -39,15 +39,9 @@ pub eq_z_refl : (a : ℤ) → eq_z a a ≡ true
 eq_z_refl (pos a) = eq-eqb a a refl
 eq_z_refl (negsuc a) = eq-eqb a a refl
 
-pub eq_z_not : (a b : ℤ) → (a ≡ b → ⊥) → eq_z a b ≡ false
-eq_z_not (pos a) (pos b) n = ne_eqb a b (λ e. n (ap pos e))
-eq_z_not (pos a) (negsuc b) n = refl
-eq_z_not (negsuc a) (pos b) n = refl
-eq_z_not (negsuc a) (negsuc b) n = ne_eqb a b (λ e. n (ap negsuc e))
-
 -- numbers with the same bits are the same
 pub same_bits : (a b : ℤ) → SFits w64 a → SFits w64 b → of_z w64 a ≡ of_z w64 b → a ≡ b
-same_bits a b f g e = sym (back a f) ∙ ap (to_z w64) e ∙ back b g
+same_bits a b f g e = sym (to_z-of_z w64 a f) ∙ ap (to_z w64) e ∙ to_z-of_z w64 b g
 
 -- as the machine compares: the bits
 module _ (a b : ℤ) (f : SFits w64 a) (g : SFits w64 b) where

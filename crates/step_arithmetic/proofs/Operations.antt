@@ -6,7 +6,7 @@ use mir.ValLaws.{sfits_le}
 use Rattle.syntax.specs.declared.op.BinOp.{BinOp}
 use Rattle.syntax.specs.declared.op.BinOp.TheVariants.{Div, Prod, Rem, Sum, Sub}
 use Rattle.model.specs.Integers.{residue, wrap, divisible, given, eval_op}
-use Rattle.image_integers.proofs.Signs.{back}
+use Rattle.std.proofs.lemmas.Int.{to_z-of_z}
 use Rattle.step_arithmetic.proofs.Quotients.{divisible_facts, quot_fits}
 
 -- ── values fit ──
@@ -35,4 +35,4 @@ eval_op-fits Sub a b z e h k = let q : wrap (a -ℤ b) ≡ z = cc in subst (SFit
 
 module _ (a b : ℤ) (f : SFits w64 a) (g : SFits w64 b) where
   pub asked : {A : Type 0} (F : ℤ → ℤ → A) → F (to_z w64 (of_z w64 a)) (to_z w64 (of_z w64 b)) ≡ F a b
-  asked F = ap₂ F (back a f) (back b g)
+  asked F = ap₂ F (to_z-of_z w64 a f) (to_z-of_z w64 b g)

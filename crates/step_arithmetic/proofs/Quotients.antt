@@ -1,20 +1,22 @@
 -- Where a quotient is defined, and that it fits there. Assumes nothing.
-use Rattle.std.proofs.Common.{◌≡◌, ℕ, zero, suc, ◌-◌, ◌/◌, ◌^◌, ◌<◌, ◌≤◌, Bool, true, false, not, ◌&&◌, eqb, ℤ, pos, negsuc, neg_ℤ, sym, refl, ap, ◌∙◌, div-le_self, div-one, arith, w64, SFits, to_z, of_z}
-use mathlib.Core.Bool.{and-true, false≢true}
+use Rattle.std.proofs.Common.{◌≡◌, ℕ, zero, suc, ◌-◌, ◌/◌, ◌^◌, ◌<◌, ◌≤◌, Bool, true, false, not, ◌&&◌, ◌||◌, ℤ, pos, negsuc, neg_ℤ}
+use Rattle.std.proofs.Common.{sym, refl, subst, ap, ◌∙◌, div-le_self, div-one, arith, w64, SFits, of_z}
+use Rattle.std.specs.Prelude.{Option, Some, None, int_div}
+use Rattle.std.specs.Option.{SomeIff}
+use Rattle.std.specs.Int.{CanDivide}
+use Rattle.std.proofs.Math.Option.{none}
+use Rattle.syntax.specs.Options.{option_of}
+use mathlib.Core.Bool.{false≢true}
 use native.Mathlib.Nat.{div-lt_self}
-use lib.Signed.{mag, quot_z, rem_z, mag_rem}
+use lib.Signed.{mag, quot_z}
 use mir.ValLaws.{sfits_le}
-use Rattle.model.specs.Integers.{same_int, divisible}
-use Rattle.image_integers.proofs.Signs.{back}
-use Rattle.step_arithmetic.proofs.Compares.{eq_z-same, eq_z_true, eq_z_not, same_bits, eqb_eq_z}
+use Rattle.model.specs.Integers.{same_int, divisible, given}
+use Rattle.step_arithmetic.proofs.Compares.{eq_z-same, eq_z_true, same_bits}
 
 -- ── the two edges ──
 
 abbrev least : ℤ
 least = negsuc (2 ^ 63 - 1)
-
-same_not : (a b : ℤ) → (a ≡ b → ⊥) → same_int a b ≡ false
-same_not a b n = sym (eq_z-same a b) ∙ eq_z_not a b n
 
 same_true : (a b : ℤ) → same_int a b ≡ true → a ≡ b
 same_true a b e = eq_z_true a b (eq_z-same a b ∙ e)
@@ -29,14 +31,6 @@ divisible_facts a b d = record {
   not_zero = λ e. false≢true (ap (λ (z : ℤ). divisible a z) (sym e) ∙ d);
   not_edge = λ e f. false≢true (ap (λ (z : ℤ). divisible z (negsuc 0)) (sym e) ∙ ap (λ (z : ℤ). divisible a z) (sym f) ∙ d);
 }
-
-pub facts_divisible : (a b : ℤ) → Divisible a b → divisible a b ≡ true
-facts_divisible a b d = rw (same_not b (pos 0) d.not_zero) (go (same_int a least) (same_int b (negsuc 0)) refl refl)
-  where
-    go : (t u : Bool) → same_int a least ≡ t → same_int b (negsuc 0) ≡ u → not (t && u) ≡ true
-    go true true e f = absurd (d.not_edge (same_true a least e) (same_true b (negsuc 0) f))
-    go true false e f = refl
-    go false u e f = refl
 
 -- ── a quotient fits ──
 neg_le : (r a : ℕ) → r ≤ suc a → mag (neg_ℤ (pos r)) ≤ a
@@ -53,40 +47,36 @@ quot_fits (negsuc a) (negsuc zero) d f = record { sfits = omega (arith, div-one 
     below a h n = omega arith
 quot_fits (negsuc a) (negsuc (suc b)) d f = record { sfits = omega (arith, div-lt_self {n = suc a} {k = suc (suc b)} (omega arith) (omega arith), f.sfits) }
 
--- ── as the machine divides ──
+-- ── what is asked where the machine divides ──
 module _ (a b : ℤ) (f : SFits w64 a) (g : SFits w64 b) where
-  pub b_zero : of_z w64 b ≡ 0 → b ≡ pos 0
+  b_zero : of_z w64 b ≡ 0 → b ≡ pos 0
   b_zero e = same_bits b (pos 0) g (record { sfits = omega arith }) e
 
-  pub b-minus : of_z w64 b ≡ 0xffff_ffff_ffff_ffff → b ≡ negsuc 0
-  b-minus e = same_bits b (negsuc 0) g (record { sfits = omega arith }) e
+  pub can_divide : divisible a b ≡ true → CanDivide w64 a b
+  can_divide d = (positive (λ e. (divisible_facts a b d).not_zero (b_zero e)), quot_fits a b (divisible_facts a b d) f)
+    where
+      positive : {k : ℕ} → (k ≡ 0 → ⊥) → 0 < k
+      positive h = omega arith
 
-  -- `has_quotient` is asked of the numbers that the bits are
-  pub answered : (r t : Bool) → r ≡ divisible (to_z w64 (of_z w64 a)) (to_z w64 (of_z w64 b)) → r ≡ t → divisible a b ≡ t
-  answered r t e h = rw (back a f, back b g) at (sym e ∙ h)
+  pub is_divisible : CanDivide w64 a b → divisible a b ≡ true
+  is_divisible q = go (same_int b (pos 0)) (same_int a least) (same_int b (negsuc 0)) refl refl refl
+    where
+      go : (z e m : Bool) → same_int b (pos 0) ≡ z → same_int a least ≡ e → same_int b (negsuc 0) ≡ m → not (z || (e && m)) ≡ true
+      go true e m zero_is e_is m_is = let none_there : of_z w64 b ≡ 0 = ap (of_z w64) (same_true b (pos 0) zero_is) in absurd (omega (arith, none_there, q.0))
+      go false true true z_is least_is minus_is =
+          let by_minus_one : SFits w64 (int_div a (negsuc 0)) = subst (λ (y : ℤ). SFits w64 (int_div a y)) (same_true b (negsuc 0) minus_is) q.1 in
+          absurd (no_quotient (subst (λ (x : ℤ). SFits w64 (int_div x (negsuc 0))) (same_true a least least_is) by_minus_one))
+        where
+          no_quotient : SFits w64 (int_div least (negsuc 0)) → ⊥
+          no_quotient fits = omega (arith, fits.sfits)
+      go false true false z_is e_is m_is = refl
+      go false false m z_is e_is m_is = refl
 
-  pub zero_undefined : of_z w64 b ≡ 0 → divisible a b ≡ false
-  zero_undefined e = rw (b_zero e) refl
-
-  pub minus-divisible : of_z w64 b ≡ 0xffff_ffff_ffff_ffff → not (eqb (of_z w64 a) 0x8000_0000_0000_0000) ≡ divisible a b
-  minus-divisible e =
-      rw (b-minus e) (ap not (eqb_eq_z a least f (record { sfits = omega arith }) ∙ eq_z-same a least ∙ sym (and-true (same_int a least))))
-
-  pub others-divisible : (of_z w64 b ≡ 0 → ⊥) → (of_z w64 b ≡ 0xffff_ffff_ffff_ffff → ⊥) → divisible a b ≡ true
-  others-divisible n m = facts_divisible a b (record { not_zero = λ e. n (ap (of_z w64) e); not_edge = λ d e. m (ap (of_z w64) e) })
-
-  module _ (d : divisible a b ≡ true) where
-    fits : SFits w64 (quot_z a b)
-    fits = quot_fits a b (divisible_facts a b d) f
-
-    pub passes : (0 < of_z w64 b) × SFits w64 (quot_z (to_z w64 (of_z w64 a)) (to_z w64 (of_z w64 b)))
-    passes = (positive (λ e. (divisible_facts a b d).not_zero (b_zero e)), rw (back a f, back b g) fits)
-      where
-        positive : {k : ℕ} → (k ≡ 0 → ⊥) → 0 < k
-        positive h = omega arith
-
-    pub quot_is : to_z w64 (of_z w64 (quot_z (to_z w64 (of_z w64 a)) (to_z w64 (of_z w64 b)))) ≡ quot_z a b
-    quot_is = rw (back a f, back b g) (back (quot_z a b) fits)
-
-    pub rem_is : to_z w64 (of_z w64 (rem_z (to_z w64 (of_z w64 a)) (to_z w64 (of_z w64 b)))) ≡ rem_z a b
-    rem_is = rw (back a f, back b g) (back (rem_z a b) (sfits_le (mag_rem a b) f))
+  -- what `checked_div` and `checked_rem` give is what the model gives
+  pub checked : (found : Option ℤ) (z : ℤ) → SomeIff found (CanDivide w64 a b) z → option_of found ≡ given (divisible a b) z
+  checked None z undefined = go (divisible a b) refl
+    where
+      go : (t : Bool) → divisible a b ≡ t → none ≡ given t z
+      go true d = absurd (undefined (can_divide d))
+      go false d = refl
+  checked (Some x) z defined = rw (is_divisible defined.0, defined.1) refl

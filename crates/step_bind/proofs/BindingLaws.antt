@@ -7,6 +7,7 @@ use mathlib.Core.Option.{some}
 use native.Mathlib.Omega.{arith}
 use lib.IntN.{ℤ}
 use lib.ListN.{length, take, drop, length-append}
+use lib.Seq.{take-length}
 use mir.Syntax.{w64}
 use mir.Val.{of_z}
 use Rattle.syntax.specs.declared.names.VarId.{VarId}
@@ -71,12 +72,8 @@ module _ (b : MachineKind) {P : Prog} {store : List ℕ} {h : Header} {l : Locat
   parts Linear t =
       let E = entries_in store h in
       let n : h.entries - 0 ≡ length E = omega (arith, slots-count store (64 + 16 * h.heap) h.entries) in
-      let q : take (h.entries - 0) E ≡ E = ap (λ (n : ℕ). take n E) n ∙ take_all E in
+      let q : take (h.entries - 0) E ≡ E = ap (λ (n : ℕ). take n E) n ∙ take-length E in
       each-++ slot_bytes E (t ∷ []) ∙ ap₂ {C = List ℕ} (λ (x : List Slot) (y : List ℕ). each slot_bytes x ++ (slot_bytes t ++ y)) (sym q) refl
-    where
-      take_all : (xs : List Slot) → take (length xs) xs ≡ xs
-      take_all [] = refl
-      take_all (x ∷ xs) = ap (λ (z : List Slot). x ∷ z) (take_all xs)
   parts Source t =
       let E = entries_in store h in
       let d : 0 ≡ h.entries - h.entries = omega arith in

@@ -14,6 +14,7 @@ use step_spec::MachineKind;
 use step_write::{EventHead, Step, Stop, Work, finish};
 
 // The source machine's variables come in front of those that are there, the linear machine's behind them: how many move.
+// (By the machine, though the paper has two: nothing else differs between them in what Literal and Op do, so each is one rule, and so is what both end with.)
 fn moving(machine: MachineKind, entries: usize) -> usize
     ensures { result ≡ moving_lem machine entries }
 {
@@ -24,9 +25,10 @@ fn moving(machine: MachineKind, entries: usize) -> usize
 }
 
 // `scratch` and `kind`: bytes that rules are lent, and the kind that the event shows.
+// (That there is a next place is asked here, in Let and in Substitute: `Given` has it of the record at hand, and a `Work` has no record.)
 pub fn bind(
     machine: MachineKind,
-    work: &mut Work<'_, '_>,
+    work: &mut Work<'_>,
     scratch: &mut [u8],
     kind: Kind,
     id: u32,
@@ -44,13 +46,8 @@ pub fn bind(
         payload,
     };
     put_slot(scratch, 0, var);
-    let event = EventHead {
-        kind,
-        detail: 0,
-        name: 0,
-        count: 0,
-        payload,
-    };
+    let event = EventHead::of_payload(kind, Sort::Integer as u8, payload);
+    // (A literal: this header is made here alone. One that two functions end in has a function: `after` of step_enter, and of step_last.)
     let next = Header {
         position: work.header.position + 1,
         ended: false,
@@ -59,5 +56,5 @@ pub fn bind(
         ..work.header
     };
     let from = 64 + 16 * (heap + (entries - kept));
-    finish(work, scratch, event, next, from, kept, 1)
+    finish(work, &scratch[..16], event, next, from, kept)
 }

@@ -26,6 +26,7 @@ use step_spec::MachineKind;
 use step_write::Work;
 
 // Does the machine stop at the state, though its flag is clear? No call leaves such a store.
+// (`stops` comes after the test: it is asked of a `SureState` that is made here.)
 fn is_forged(stepper: &Stepper<'_>, state: &State<'_>) -> bool
     requires { state.now.header.position < stepper.now.image.frame.count }
     ensures { Forged stepper.now stepper.now.image.bytes.now state.now.store.now state.now.header result }
@@ -41,7 +42,7 @@ fn is_forged(stepper: &Stepper<'_>, state: &State<'_>) -> bool
     stops(stepper, &known)
 }
 
-// Are the IDs of the linear machine's list distinct? It is asked once a call: steps keep them so.
+// Are the IDs of the linear machine's list distinct? It is asked once a call: steps keep them so. (A `match`: its two arms are the two cases of the proof.)
 fn is_sure(stepper: &Stepper<'_>, state: &State<'_>) -> bool
     ensures { SureIn stepper.now result state.now.store.now state.now.header }
 {
@@ -77,7 +78,9 @@ fn step_on(
     ensures { StepsOn machine opened.now steps store.old events.old store.new events.new result }
 {
     let header = open_store(&opened.image, store).ok_or(Failure::NoState)?;
-    let mut ends = [0u32; 4000];
+    // (These lines stand in step_start too: a function could not hand out the table that it fills, and of a stepper that it made in a lent one, four equations would be
+    // rewritten by below, where now the literal's parts compute.)
+    let mut ends = [0u32; Layout::MAX_RECORDS];
     fill_ends(&opened.image, &mut ends);
     let stepper = Stepper {
         image: opened.image,
@@ -93,7 +96,7 @@ fn step_on(
         });
     }
     let sure = is_sure(&stepper, &state);
-    let mut scratch = [0u8; 2080];
+    let mut scratch = [0u8; Work::SCRATCH];
     let mut work = Work {
         store,
         events,

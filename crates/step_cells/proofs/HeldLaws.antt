@@ -1,9 +1,12 @@
--- How many slots a cell holds, as the loop counts them; and the cell that a slot refers to, as it is read. Assumes nothing.
+-- How many slots a cell holds, as the code finds them; and the cell that a slot refers to, as it is read. Assumes nothing.
 use Prim.Native.Nat.{ℕ, zero, suc, ◌+◌, ◌-◌, ◌*◌, ◌≤◌, ◌<◌}
-use mathlib.Core.Path.{◌≡◌, refl, sym, ap, ◌∙◌}
+use mathlib.Core.Path.{◌≡◌, refl, sym, ap, ◌∙◌, subst}
 use mathlib.Core.Bool.{Bool, true, false, ◌&&◌, cond}
 use mathlib.Core.List.{List, [], ◌∷◌}
 use native.Mathlib.Omega.{arith}
+use Rattle.std.specs.Prelude.{MatchOption, unwrap_or}
+use Rattle.std.specs.Prelude as code
+use Rattle.std.specs.Prelude.{Some, None}
 use native.Mathlib.Nat.{add-zero}
 use borrow.Author.Tests.{le-leb, lt-leb, eq-eqb, ne_eqb}
 use lib.Dec.{eqb}
@@ -84,10 +87,28 @@ module _ (store : List ℕ) (heap place : ℕ) where
           slots = and_right (is_slot (slot_at store (64 + 16 * j))) (all_slots (behind (j + 1))) here;
         }
 
+  -- slots of values from the first on, one after the other
+  pub counted-to : Counted (place + 1) → (j : ℕ) → place + 1 ≤ j → j ≤ heap → ((k : ℕ) → place + 1 ≤ k → k < j → get_or store (64 + 16 * k) 0 < 3) → Counted j
+  counted-to c j low high f = let e : place + 1 + (j - (place + 1)) ≡ j = omega arith in subst Counted e (go (j - (place + 1)) (omega arith) (λ k l h. f k l (omega arith)))
+    where
+      go : (n : ℕ) → place + 1 + n ≤ heap → ((k : ℕ) → place + 1 ≤ k → k < place + 1 + n → get_or store (64 + 16 * k) 0 < 3) → Counted (place + 1 + n)
+      go zero h g = let e : place + 1 ≡ place + 1 + 0 = omega arith in subst Counted e c
+      go (suc n) h g =
+          let e : place + 1 + n + 1 ≡ place + 1 + suc n = omega arith in
+          subst Counted e (counted_next (place + 1 + n) (omega arith) (go n (omega arith) (λ k l m. g k l (omega arith))) (g (place + 1 + n) (omega arith) (omega arith)))
+
   -- the end
   pub counted-all : (j : ℕ) → heap ≤ j → Counted j → j - (place + 1) ≡ held
   unfolding leading
   counted-all j h c = let z : length (leading (behind j)) ≡ 0 = ap (λ (ts : List Slot). length (leading ts)) (slots-past store 64 heap j h) in omega (arith, c.left, z)
+
+  -- where the count ends, and how many it counts
+  pub counted_found : Counted (place + 1) → place < heap → (o : code.Option ℕ)
+      → MatchOption o ((k : ℕ) → place + 1 ≤ k → k < heap → get_or store (64 + 16 * k) 0 < 3)
+      (λ i. (place + 1 ≤ i) × (i < heap) × (3 ≤ get_or store (64 + 16 * i) 0) × ((k : ℕ) → place + 1 ≤ k → k < i → get_or store (64 + 16 * k) 0 < 3))
+      → (place + 1 ≤ unwrap_or o heap) × (unwrap_or o heap - (place + 1) ≡ held)
+  counted_found c p None f = (omega arith, counted-all heap (omega arith) (counted-to c heap (omega arith) (omega arith) f))
+  counted_found c p (Some i) f = (f.0, counted-cell i f.1 (counted-to c i f.0 (omega (arith, f.1)) f.3) f.2)
 
 -- ── the cell that a slot refers to ──
 

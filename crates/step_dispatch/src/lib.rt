@@ -2,7 +2,7 @@
 #![tactic(auto)]
 
 ghost use Rattle.step_write.specs.Working.{Keeps};
-ghost use Rattle.std.specs.Prelude.{◌<◌, ◌≤◌, length};
+ghost use Rattle.std.specs.Prelude.{◌<◌};
 ghost use Rattle.step_spec.specs.Located.{source_machine, linear_machine};
 ghost use Rattle.step_rule.specs.Rules.{Given, machine_in, MakesAs};
 ghost use Rattle.image_kinds.specs.Codes.{code_of};
@@ -21,17 +21,17 @@ use step_statement_op::op::op;
 use step_statement_print::print::print;
 use step_statement_substitute::substitute;
 use step_statement_switch::switch;
-use step_write::{Step, Stop, Work};
+use step_write::{Scratch, Step, Stop, Work};
 
 // `scratch` and `kind`, here and below: bytes that rules are lent, and what chooses the rule.
 // The statements whose rules are the source machine's alone. (It has none for a Substitute. Under `_`, here and below, is what has no rule or another function's.)
 fn source(
     stepper: &Stepper<'_>,
-    work: &mut Work<'_, '_>,
-    scratch: &mut [u8],
+    work: &mut Work<'_>,
+    scratch: &mut Scratch,
     kind: Kind,
 ) -> Result<Step, Stop>
-    requires { Given stepper.now work.old (code_of kind) × ((2080 ≤ length scratch.old) × (code_of kind < 8)) }
+    requires { Given stepper.now work.old (code_of kind) × (code_of kind < 8) }
     ensures { MakesAs source_machine stepper.now work.old work.new result × Keeps work.old work.new }
 {
     match kind {
@@ -47,11 +47,11 @@ fn source(
 // The statements whose rules are the linear machine's alone.
 fn linear(
     stepper: &Stepper<'_>,
-    work: &mut Work<'_, '_>,
-    scratch: &mut [u8],
+    work: &mut Work<'_>,
+    scratch: &mut Scratch,
     kind: Kind,
 ) -> Result<Step, Stop>
-    requires { Given stepper.now work.old (code_of kind) × ((2080 ≤ length scratch.old) × (code_of kind < 8)) }
+    requires { Given stepper.now work.old (code_of kind) × (code_of kind < 8) }
     ensures { MakesAs linear_machine stepper.now work.old work.new result × Keeps work.old work.new }
 {
     match kind {
@@ -68,11 +68,11 @@ fn linear(
 // The step of the statement at the header's position, of this kind.
 pub fn statement(
     stepper: &Stepper<'_>,
-    work: &mut Work<'_, '_>,
-    scratch: &mut [u8],
+    work: &mut Work<'_>,
+    scratch: &mut Scratch,
     kind: Kind,
 ) -> Result<Step, Stop>
-    requires { Given stepper.now work.old (code_of kind) × (2080 ≤ length scratch.old) }
+    requires { Given stepper.now work.old (code_of kind) }
     ensures { MakesAs (machine_in stepper.now) stepper.now work.old work.new result × Keeps work.old work.new }
 {
     match kind {

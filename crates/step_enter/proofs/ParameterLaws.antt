@@ -2,19 +2,15 @@
 -- Assumes nothing.
 use Prim.Native.Nat.{ℕ, ◌+◌, ◌≤◌}
 use mathlib.Core.Path.{◌≡◌, refl, sym, ap, ◌∙◌, subst}
-use mathlib.Core.Bool.{Bool, true, false, cond}
 use mathlib.Core.List.{List, map}
 use mathlib.Core.Option.{Option, none, some}
 use native.Mathlib.Omega.{arith}
-use lib.Dec.{eqb}
 use lib.ListN.{length}
 use Rattle.std.specs.Prelude.{Option as Maybe, Some, None}
 use Rattle.syntax.specs.Context.{Context, ids}
-use Rattle.syntax.specs.declared.names.Identifier.{Identifier}
 use Rattle.syntax.specs.declared.names.VarId.{VarId}
 use Rattle.model.specs.Syntax.{Stmt}
 use Rattle.model.specs.Machine.{Value, Entries, Outcome, halts, or_halt, pair_up}
-use Rattle.image_spec.specs.Records.{definition, clause'}
 use Rattle.image_directory.specs.declared.Frame.{Frame}
 use Rattle.image_directory.specs.Slots as image
 use Rattle.image_read_parts.specs.Parts.{list_of}
@@ -23,12 +19,12 @@ use Rattle.image_read_nodes.specs.Nodes.{Followed}
 use Rattle.image_read_parts.specs.Indexed.{record_at}
 use Rattle.step_slots.specs.Slots.{Slot, value_slot}
 use Rattle.step_spec.specs.Store.{entry_slot}
-use Rattle.step_places.specs.Heads.{head_record}
 use Rattle.step_places.specs.Searches.{Finds, FindsClause}
 use Rattle.step_places.proofs.NextPlaces.{found_at, none_found}
 use Rattle.step_rows.specs.declared.row.Row.{Row}
 use Rattle.step_rows.specs.Rows.{ids_of}
 use Rattle.step_rows.proofs.RowLaws.{row-length}
+use Rattle.step_rule.proofs.Heads.{head-list}
 use Rattle.step_gather.specs.Gathering.{renamed}
 use Rattle.step_gather.proofs.GatheringLaws.{paired, unpaired}
 use Rattle.step_enter.specs.declared.Parameters.{Parameters}
@@ -40,14 +36,6 @@ pub clause-of : {frame : Frame} {bytes : List ℕ} {i place tag : ℕ} {f : Foll
 clause-of {frame} {bytes} {i} {place} {tag} {f} {found} {r} e g w q =
     subst (λ (k : ℕ). ClauseOf frame bytes k tag r) e
     record { found = found; finds = subst (λ (n : ℕ). FindsClause frame bytes n (i + 1) tag found) g.clauses w; reads = q }
-
--- the parameters of a definition or clause are its record's list
-head-list : (kind : ℕ) (x : Identifier) (Γ : Context) → list_of (head_record kind x Γ) ≡ Γ
-head-list k x Γ = go (eqb k 1)
-  where
-    go : (b : Bool) → list_of (cond b (definition x Γ) (clause' x Γ)) ≡ Γ
-    go true = refl
-    go false = refl
 
 -- what was found, by what was read of it
 module _ (frame : Frame) (bytes : List ℕ) where

@@ -13,6 +13,8 @@ use Rattle.step_places.specs.Searches.{FindsClause}
 use Rattle.step_rows.specs.Rows.{ids_of}
 use Rattle.step_write.specs.declared.Step.{Step}
 use Rattle.step_write.specs.declared.Stop.{Stop}
+use Rattle.step_write.specs.declared.Work.{Work}
+use Rattle.step_write.specs.Working.{Keeps}
 use Rattle.step_write.specs.Writing.{Finishes}
 use Rattle.step_enter.specs.declared.Parameters.{Parameters}
 
@@ -39,3 +41,7 @@ behind_entries h j = 64 + 16 * (h.heap + j)
 pub record Enters (store events : List ℕ) (h : Header) (at body : ℕ) (shown : List ℕ) (j n : ℕ) (slots : List Slot) (store' events' : List ℕ) (m : Result Step Stop) : Type 0 where
   pub finishes : Finishes store events at (entered h body (j + length slots + n)) shown (behind_entries h j)
       (each slot_bytes slots ++ take (16 * n) (drop (behind_entries h j) store)) store' events' m
+
+-- .. of the state in the one `Work`, to the state in the other, with the same two buffers
+abbrev pub EntersIn : (w w' : Work) → (body : ℕ) → (shown : List ℕ) → (j n : ℕ) → (slots : List Slot) → Result Step Stop → Type 0
+EntersIn w w' body shown j n slots m = Enters w.store.now w.events.now w.header w.at body shown j n slots w'.store.now w'.events.now m × Keeps w w'

@@ -6,9 +6,9 @@ ghost use Rattle.image_read_nodes.specs.Nodes.{has_list};
 ghost use Rattle.step_slots.specs.Views.{slots_at, all_slots};
 ghost use Rattle.step_gather.specs.Gathering.{renamed};
 ghost use Rattle.step_write.specs.Writing.{head_bytes};
-ghost use Rattle.step_enter.specs.Entering.{ParametersOf, ClauseOf, Enters};
+ghost use Rattle.step_enter.specs.Entering.{ParametersOf, ClauseOf, entered, EntersIn};
 ghost use Rattle.image_kinds.specs.Codes.{code_of};
-ghost use Rattle.step_write.specs.Working.{Fit, Keeps};
+ghost use Rattle.step_write.specs.Working.{Fit};
 ghost use Rattle.step_rows.specs.Rows.{ids_of};
 
 use image_kinds::kinds::Kind;
@@ -58,7 +58,7 @@ pub fn clause_of<'a>(stepper: &Stepper<'a>, place: u32, tag: u32) -> Option<Para
 }
 
 // `from` and `n`: of the entries in one caller, of a part of them or of what a cell holds in others; the store is lent without a header.
-// The n slots of the store from `from`, at the beginning of scratch.
+// The n slots of the store from `from`, at the beginning of scratch. (n is of what is read; one caller lends a slice of just these, two the whole.)
 pub fn fetch(store: &[u8], from: usize, n: usize, scratch: &mut [u8])
     requires { (from + 16 * n ≤ length store.now) × ((all_slots (slots_at store.now from n) ≡ true) × (16 * n ≤ length scratch.old)) }
     ensures { slots_at scratch.new 0 n ≡ slots_at store.now from n }
@@ -66,31 +66,39 @@ pub fn fetch(store: &[u8], from: usize, n: usize, scratch: &mut [u8])
     copy(&store[from..from + 16 * n], scratch, 0);
 }
 
-// A step to the body: the slots at the beginning of scratch become entries under the row's IDs. Of the entries that there are the first `front` stay, and
-// the `back` that follow them come behind the new ones.
-// `row` and `work`, here and in the rules of Call and Invoke: IDs in an image, which are read, and what is written.
-pub fn enter(
-    row: &Row<'_>,
-    work: &mut Work<'_, '_>,
-    scratch: &mut [u8],
-    event: EventHead,
-    body: u32,
-    front: usize,
-    back: usize,
-) -> Result<Step, Stop>
-    requires { Fit work.old × ((16 * row.now.places.len ≤ length scratch.old) × ((all_slots (slots_at scratch.old 0 row.now.places.len) ≡ true) × (front + back ≤ work.old.header.entries))) }
-    ensures { Enters work.old.store.now work.old.events.now work.old.header work.old.at body (head_bytes event) front back (renamed (ids_of row.now) (slots_at scratch.old 0 row.now.places.len)) work.new.store.now work.new.events.now result × Keeps work.old work.new }
+// The header at the body of what is entered, with so many entries.
+pub fn after(header: Header, body: u32, entries: u64) -> Header
+    ensures { result ≡ entered header body entries }
 {
-    let heap = work.header.heap as usize;
-    let len = row.places.len;
-    rename(row, scratch, 0);
-    let next = Header {
+    Header {
         position: body,
         ended: false,
         stopped: false,
-        entries: (front + len + back) as u64,
-        ..work.header
-    };
+        entries,
+        ..header
+    }
+}
+
+// A step to the body of what is entered: the slots at the beginning of scratch become entries under its parameters' IDs. Of the entries that there are the
+// first `front` stay, and the `back` that follow them come behind the new ones.
+// `scratch` is lent whole: how many of its slots count is no parameter, the row has it, and what is written is a slice of so many.
+// `entered` and `work`, here and in the rules of Call and Invoke: what is read of an image, and what is written.
+// (How many entries stay, or are taken, is each rule's own; so that there are as many is asked.)
+pub fn enter(
+    entered: &Parameters<'_>,
+    work: &mut Work<'_>,
+    scratch: &mut [u8],
+    event: EventHead,
+    front: usize,
+    back: usize,
+) -> Result<Step, Stop>
+    requires { Fit work.old × ((16 * entered.now.row.places.len ≤ length scratch.old) × ((all_slots (slots_at scratch.old 0 entered.now.row.places.len) ≡ true) × (front + back ≤ work.old.header.entries))) }
+    ensures { EntersIn work.old work.new entered.now.body (head_bytes event) front back (renamed (ids_of entered.now.row) (slots_at scratch.old 0 entered.now.row.places.len)) result }
+{
+    let heap = work.header.heap as usize;
+    let len = entered.row.places.len;
+    rename(&entered.row, scratch, 0);
+    let next = after(work.header, entered.body, (front + len + back) as u64);
     let from = 64 + 16 * (heap + front);
-    finish(work, scratch, event, next, from, back, len)
+    finish(work, &scratch[..16 * len], event, next, from, back)
 }

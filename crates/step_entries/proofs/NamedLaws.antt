@@ -1,5 +1,5 @@
--- Looking an ID up in slots: the turn of the loop, and what it says of the model's environment. Assumes nothing.
-use Prim.Native.Nat.{ℕ, suc, ◌+◌, ◌-◌, ◌*◌, ◌≤◌, ◌<◌}
+-- Looking an ID up in slots: the slot that is found, and what it says of the model's environment. Assumes nothing.
+use Prim.Native.Nat.{ℕ, zero, suc, ◌+◌, ◌*◌, ◌≤◌, ◌<◌}
 use mathlib.Core.Path.{◌≡◌, refl, sym, ap, ◌∙◌}
 use mathlib.Core.Bool.{Bool, true, false, cond}
 use mathlib.Core.List.{List, [], ◌∷◌, map}
@@ -7,62 +7,59 @@ use mathlib.Core.Option.{some}
 use native.Mathlib.Omega.{arith}
 use borrow.Author.Tests.{eq-eqb, ne_eqb}
 use lib.Dec.{eqb}
-use lib.ListN.{drop}
 use Rattle.syntax.specs.declared.names.VarId.{VarId}
 use Rattle.model.specs.Machine.{Value, int, cell, outside, Entries}
 use Rattle.model.specs.Lists.{lookup}
-use Rattle.image_spec.specs.Parse.{got, number}
 use Rattle.step_slots.specs.Slots.{value_slot}
 use Rattle.step_slots.specs.Views.{no_slot, slot_at, slots_at, is_slot, all_slots}
 use Rattle.image_spec.proofs.DirectoryLaws.{and_left, and_right}
-use Rattle.step_slots.proofs.SlotBytes.{standing, id-read}
 use Rattle.step_spec.specs.Store.{entry_slot}
 use Rattle.step_entries.specs.Named.{named, slot_or_none}
 
--- ── what is left of a lookup ──
+-- ── the slot that a lookup finds ──
 
-module _ (store : List ℕ) (at n id : ℕ) where
-  pub record Searched (i : ℕ) : Type 0 where
-    pub within : i ≤ n
-    pub left : named id (slots_at store at n) ≡ named id (slots_at store (at + 16 * i) (n - i))
-    pub slots : all_slots (slots_at store (at + 16 * i) (n - i)) ≡ true
+-- slots that stand in bytes, place by place
+pub slot-stands : (s : List ℕ) (at n i : ℕ) → all_slots (slots_at s at n) ≡ true → i < n → is_slot (slot_at s (at + 16 * i)) ≡ true
+unfolding slots_at
+slot-stands s at zero i a h = absurd (omega arith)
+slot-stands s at (suc n) zero a h =
+    let k : at + 16 * 0 ≡ at = omega arith in
+    ap (λ (p : ℕ). is_slot (slot_at s p)) k ∙ and_left (is_slot (slot_at s at)) (all_slots (slots_at s (at + 16) n)) a
+slot-stands s at (suc n) (suc i) a h =
+    let k : at + 16 * suc i ≡ at + 16 + 16 * i = omega arith in
+    ap (λ (p : ℕ). is_slot (slot_at s p)) k ∙ slot-stands s (at + 16) n i (and_right (is_slot (slot_at s at)) (all_slots (slots_at s (at + 16) n)) a) (omega arith)
 
-  next-slots : (i : ℕ) → i < n → slots_at store (at + 16 * i) (n - i) ≡ slot_at store (at + 16 * i) ∷ slots_at store (at + 16 * (i + 1)) (n - (i + 1))
-  unfolding slots_at
-  next-slots i h =
-      let k : n - i ≡ suc (n - (i + 1)) = omega arith in
-      let m : at + 16 * i + 16 ≡ at + 16 * (i + 1) = omega arith in
-      rw (k, ← m) refl
+module _ (s : List ℕ) (id : ℕ) where
+  -- none of the n slots from byte `at` has the ID
+  abbrev pub Missed : (at n : ℕ) → Type 0
+  Missed at n = (k : ℕ) → 0 ≤ k → k < n → (slot_at s (at + 16 * k)).id ≡ id → ⊥
 
-  pub searched_none : all_slots (slots_at store at n) ≡ true → Searched 0
-  searched_none h =
-      let k : at + 16 * 0 ≡ at = omega arith in
-      let m : n - 0 ≡ n = omega arith in
-      record { within = omega arith; left = rw (k, m); slots = rw (k, m) h }
+  behind : (at n m : ℕ) → n < m → Missed at m → Missed (at + 16) n
+  behind at n m h f k low high e = let p : at + 16 * (k + 1) ≡ at + 16 + 16 * k = omega arith in f (k + 1) (omega arith) (omega arith) (ap (λ (a : ℕ). (slot_at s a).id) p ∙ e)
 
-  -- the ID that stands at the next slot
-  pub searched-id : (i q : ℕ) (m : List ℕ) → i < n → Searched i → number 4 (drop (at + 16 * i + 4) store) ≡ got q m → q ≡ (slot_at store (at + 16 * i)).id
-  searched-id i q m h l e =
-      let x = ap all_slots (sym (next-slots i h)) ∙ l.slots in
-      id-read store (at + 16 * i) q m (slot_at store (at + 16 * i)) (standing store (at + 16 * i) (and_left (is_slot (slot_at store (at + 16 * i))) (all_slots (slots_at store (at + 16 * (i + 1)) (n - (i + 1)))) x)) e
-
-  pub searched-here : (i q : ℕ) → i < n → Searched i → q ≡ (slot_at store (at + 16 * i)).id → q ≡ id → slot_at store (at + 16 * i) ≡ named id (slots_at store at n)
-  unfolding named
-  searched-here i q h l e f = sym (l.left ∙ (ap (named id) (next-slots i h) ∙ rw (eq-eqb id (slot_at store (at + 16 * i)).id (sym f ∙ e)) refl))
-
-  pub searched-next : (i q : ℕ) → i < n → Searched i → q ≡ (slot_at store (at + 16 * i)).id → (q ≡ id → ⊥) → Searched (i + 1)
-  unfolding named
-  searched-next i q h l e f =
-      let x = ap all_slots (sym (next-slots i h)) ∙ l.slots in
-      record {
-        within = omega arith;
-        left = l.left ∙ (ap (named id) (next-slots i h) ∙ rw (ne_eqb id (slot_at store (at + 16 * i)).id (λ z. f (e ∙ sym z))) refl);
-        slots = and_right (is_slot (slot_at store (at + 16 * i))) (all_slots (slots_at store (at + 16 * (i + 1)) (n - (i + 1)))) x;
-      }
-
-  pub searched-all : (i : ℕ) → n ≤ i → Searched i → no_slot ≡ named id (slots_at store at n)
+  passed : (at n m : ℕ) → 0 < m → Missed at m → named id (slots_at s at (suc n)) ≡ named id (slots_at s (at + 16) n)
   unfolding named slots_at
-  searched-all i h l = let k : n - i ≡ 0 = omega arith in sym (l.left ∙ rw k refl)
+  passed at n m h f =
+      let p : at + 16 * 0 ≡ at = omega arith in
+      let x : id ≡ (slot_at s at).id → ⊥ = λ e. f 0 (omega arith) h (ap (λ (a : ℕ). (slot_at s a).id) p ∙ sym e) in
+      ap (λ (b : Bool). cond b (slot_at s at) (named id (slots_at s (at + 16) n))) (ne_eqb id (slot_at s at).id x)
+
+  pub named_missed : (at n : ℕ) → Missed at n → no_slot ≡ named id (slots_at s at n)
+  unfolding named slots_at
+  named_missed at zero f = refl
+  named_missed at (suc n) f = named_missed (at + 16) n (behind at n (suc n) (omega arith) f) ∙ sym (passed at n (suc n) (omega arith) f)
+
+  pub named-found : (at n i : ℕ) → i < n → (slot_at s (at + 16 * i)).id ≡ id → Missed at i → slot_at s (at + 16 * i) ≡ named id (slots_at s at n)
+  unfolding named slots_at
+  named-found at zero i h e f = absurd (omega arith)
+  named-found at (suc n) zero h e f =
+      let p : at + 16 * 0 ≡ at = omega arith in
+      let x : id ≡ (slot_at s at).id = sym e ∙ ap (λ (a : ℕ). (slot_at s a).id) p in
+      ap (slot_at s) p ∙ sym (ap (λ (b : Bool). cond b (slot_at s at) (named id (slots_at s (at + 16) n))) (eq-eqb id (slot_at s at).id x))
+  named-found at (suc n) (suc i) h e f =
+      let p : at + 16 + 16 * i ≡ at + 16 * suc i = omega arith in
+      sym (ap (slot_at s) p)
+      ∙ (named-found (at + 16) n i (omega arith) (ap (λ (a : ℕ). (slot_at s a).id) p ∙ e) (behind at i (suc i) (omega arith) f) ∙ sym (passed at n (suc i) (omega arith) f))
 
 -- ── the model's lookup ──
 

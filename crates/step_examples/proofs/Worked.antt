@@ -102,5 +102,21 @@ pub record Worked : Type 0 where
   pub no_room : short.number ∷ short.steps ∷ short.length ∷ [] ≡ 15 ∷ 3 ∷ 48 ∷ []
 
 pub worked : Worked
-unfolding making located_step located_start project moved next_place_lem clause_place label_place definition_place stmt_at stmt step clauses flatten_defs flatten heap_of environment_of raw_of store_bytes state_from raw_parser slot_parser leading blocks cells_in formed statement_at create_at state_in event_bytes givens source_step_lem source_work source_enter_lem source_start eval_op wrap holds linear_step_lem in_order_lem linear_work linear_enter_lem linear_start fresh freshen retained fill filtered arrange freshen_unless_lem rename_unless fresh_var_unless move_behind_lem linearize_stmt free_vars linearize_defs linearize
-worked = record { eight_steps = refl; three_steps = refl; five_more = refl; same_events = refl; same_store = refl; linear_steps = refl; linear_events = refl; linear_ends = refl; source_stops = refl; no_steps = refl; no_room = refl }
+unfolding making located_step located_start project moved next_place_lem clause_place label_place definition_place stmt_at stmt step clauses
+    flatten_defs flatten heap_of environment_of raw_of store_bytes state_from raw_parser slot_parser leading blocks cells_in formed statement_at
+    create_at state_in event_bytes givens source_step_lem source_work source_enter_lem source_start eval_op wrap holds linear_step_lem in_order_lem
+    linear_work linear_enter_lem linear_start fresh freshen retained fill filtered arrange freshen_unless_lem rename_unless fresh_var_unless
+    move_behind_lem linearize_stmt free_vars linearize_defs linearize
+worked = record {
+  eight_steps = refl;
+  three_steps = refl;
+  five_more = refl;
+  same_events = refl;
+  same_store = refl;
+  linear_steps = refl;
+  linear_events = refl;
+  linear_ends = refl;
+  source_stops = refl;
+  no_steps = refl;
+  no_room = refl;
+}

@@ -4,16 +4,18 @@ use mathlib.Core.Path.{◌≡◌, refl, sym, ap, ◌∙◌, subst}
 use mathlib.Core.Bool.{true}
 use mathlib.Core.List.{List, [], ◌∷◌}
 use native.Mathlib.Omega.{arith}
-use lib.ListN.{length, take, drop, set, get_or}
-use lib.Seq.{sets, drop-set-lt, take-length}
+use lib.ListN.{length, take, drop, get_or}
+use lib.Seq.{take-length}
 use Rattle.image_spec.specs.Parse.{each}
 use Rattle.image_spec.proofs.DirectoryLaws.{and_left, and_right}
 use Rattle.image_write_parts.specs.Puts.{Puts}
 use Rattle.image_write_parts.proofs.Putting.{puts_as, puts-same}
 use Rattle.image_write_parts.proofs.Writing.{Written, written_none, written_next}
+use Rattle.image_write_bytes.proofs.Covering.{past-put}
 use Rattle.step_slots.specs.Slots.{Slot, slot_bytes}
 use Rattle.step_slots.specs.Views.{no_slot, slot_at, slots_at, is_slot, all_slots}
 use Rattle.step_slots.proofs.SlotBytes.{slot-length, slots-count}
+pub use Rattle.step_slots.proofs.SlotPlaces.{slot_of}
 
 -- the first j of these slots are put from `at` on
 pub record Filled (ts : List Slot) (before : List ℕ) (at : ℕ) (after : List ℕ) (j : ℕ) : Type 0 where
@@ -46,21 +48,9 @@ module _ {ts : List Slot} {before : List ℕ} {at : ℕ} {after : List ℕ} {j :
 
   -- what is behind them stays
   pub filled_kept : (k : ℕ) → at + 16 * j ≤ k → drop k after ≡ drop k before
-  filled_kept k h = ap (drop k) f.written.puts.holds ∙ drop_sets (each slot_bytes (take j ts)) before at k (omega (arith, f.written.puts.ends))
-    where
-      drop_sets : (ys s : List ℕ) (i k : ℕ) → i + length ys ≤ k → drop k (sets s i ys) ≡ drop k s
-      drop_sets [] s i k h = refl
-      drop_sets (y ∷ ys) s i k h = drop_sets ys (set s i y) (suc i) k (omega arith) ∙ drop-set-lt k s i y (omega arith)
+  filled_kept k h = ap (drop k) f.written.puts.holds ∙ past-put (each slot_bytes (take j ts)) before at k (omega (arith, f.written.puts.ends))
 
 -- ---- slots by their places
-
-pub slot_of : (s : List ℕ) (at n j : ℕ) → j < n → get_or (slots_at s at n) j no_slot ≡ slot_at s (at + 16 * j)
-unfolding slots_at
-slot_of s at zero j h = absurd (omega arith)
-slot_of s at (suc n) zero h = let k : at ≡ at + 16 * 0 = omega arith in ap (slot_at s) k
-slot_of s at (suc n) (suc j) h =
-    let k : at + 16 + 16 * j ≡ at + 16 * suc j = omega arith in
-    slot_of s (at + 16) n j (omega arith) ∙ ap (slot_at s) k
 
 pub slot_among : (s : List ℕ) (at n j : ℕ) → j < n → all_slots (slots_at s at n) ≡ true → is_slot (slot_at s (at + 16 * j)) ≡ true
 slot_among s at n j h o = ap is_slot (sym (slot_of s at n j h)) ∙ go (slots_at s at n) j (omega (arith, slots-count s at n)) o

@@ -1,5 +1,5 @@
 -- Slots that were put stand there; so do those that were gathered. Assumes nothing.
-use Prim.Native.Nat.{ℕ, zero, suc, ◌+◌, ◌*◌, ◌≤◌}
+use Prim.Native.Nat.{ℕ, ◌+◌, ◌*◌, ◌≤◌}
 use mathlib.Core.Path.{◌≡◌, refl, sym, ap, ap₂, ◌∙◌}
 use mathlib.Core.Bool.{Bool, true, false, ◌&&◌, cond, false≢true}
 use mathlib.Core.List.{List, [], ◌∷◌, ◌++◌, append_assoc}
@@ -11,9 +11,10 @@ use Rattle.syntax.specs.declared.names.VarId.{VarId}
 use Rattle.image_spec.specs.Parse.{each, All}
 use Rattle.image_spec.proofs.DirectoryLaws.{and_left, and_right}
 use Rattle.step_slots.specs.Slots.{Slot, slot_bytes, SlotOk}
-use Rattle.step_slots.specs.Views.{slot_at, slots_at, is_slot, all_slots}
+use Rattle.step_slots.specs.Views.{slots_at, is_slot, all_slots}
 use Rattle.step_slots.proofs.SlotLaws.{slots-stand}
-use Rattle.step_slots.proofs.SlotBytes.{slots_length, standing}
+use Rattle.step_slots.proofs.SlotBytes.{slots_length}
+pub use Rattle.step_slots.proofs.SlotPlaces.{slots-ok}
 use Rattle.step_entries.specs.Named.{named, under}
 use Rattle.step_gather.specs.Gathering.{all_found_lem, found_slots, Gathers}
 
@@ -24,14 +25,6 @@ drop-put s xs at h =
 
 pub slots-put : (s : List ℕ) (at : ℕ) (ts : List Slot) → All SlotOk ts → at + 16 * length ts ≤ length s → slots_at (sets s at (each slot_bytes ts)) at (length ts) ≡ ts
 slots-put s at ts o h = slots-stand (sets s at (each slot_bytes ts)) at ts _ o (drop-put s (each slot_bytes ts) at (omega (arith, h, slots_length ts)))
-
--- slots that stand in bytes fit them
-pub slots-ok : (s : List ℕ) (at n : ℕ) → all_slots (slots_at s at n) ≡ true → All SlotOk (slots_at s at n)
-unfolding slots_at
-slots-ok s at zero h = tt
-slots-ok s at (suc n) h =
-    let t = slot_at s at in
-    ((standing s at (and_left (is_slot t) (all_slots (slots_at s (at + 16) n)) h)).ok, slots-ok s (at + 16) n (and_right (is_slot t) (all_slots (slots_at s (at + 16) n)) h))
 
 named_ok : (E : List Slot) (x : ℕ) → All SlotOk E → is_slot (named x E) ≡ true → SlotOk (named x E)
 unfolding named

@@ -13,6 +13,3 @@ module _ (H : List Slot) (t : Slot) where
   pub shown-cell : (n : ℕ) → t.sort ≡ 1 → n ≡ (get_or H t.payload no_slot).payload → slot t.sort 0 n ≡ shown_as H t
   shown-cell n e p =
       ap (slot t.sort 0) (p ∙ ap (λ (b : Bool). cond b (get_or H t.payload no_slot).payload t.payload) (sym (eq-eqb t.sort 1 e)))
-
-  pub shown-other : (t.sort ≡ 1 → ⊥) → slot t.sort 0 t.payload ≡ shown_as H t
-  shown-other e = ap (λ (b : Bool). slot t.sort 0 (cond b (get_or H t.payload no_slot).payload t.payload)) (sym (ne_eqb t.sort 1 e))

@@ -3,6 +3,7 @@ use Prim.Native.Nat.{ℕ, zero, suc, ◌+◌, ◌≤◌, ◌<◌}
 use mathlib.Core.Path.{◌≡◌, refl, sym, ap, ◌∙◌}
 use mathlib.Core.Bool.{Bool, true, false, ◌&&◌}
 use Rattle.std.specs.Prelude.{Option, Some, None}
+use Rattle.std.specs.Bool.{then_some}
 use Rattle.std.specs.Int.{from_bool}
 use mathlib.Core.List.{List, ◌∷◌}
 use native.Mathlib.Omega.{arith}
@@ -11,7 +12,8 @@ use lib.ListN.{length, drop, get_or}
 use Rattle.image_spec.specs.Parse.{Parsed, refused, got, Parser, only_if, both, code, number, zeros}
 use Rattle.step_slots.proofs.SlotReads.{drop_head}
 use Rattle.step_spec.specs.Store.{bit, header_parser}
-use Rattle.step_header.specs.Headers.{flag_of}
+use Rattle.step_header.specs.declared.Header.{Header}
+use Rattle.step_header.specs.Headers.{tuple_of, flag_of, read_as}
 
 -- p reads a from l, and m is left, if x
 record Gives {X A : Type 0} (p : Parser X A) (l : List X) (x : Bool) (a : A) (m : List X) : Type 0 where
@@ -44,6 +46,11 @@ flag_at s at h e = ap (code 1) (drop_head s at h) ∙ (code_is (get_or s at 0) (
 pub bit_is : {n : ℕ} (b : Bool) → n ≡ from_bool b → n ≡ bit b
 bit_is true e = e
 bit_is false e = e
+
+-- what is answered where a test says so
+pub chosen : (b : Bool) (h : Header) (m : List ℕ) → only_if b (got (tuple_of h) m) ≡ read_as (then_some b h) m
+chosen true h m = refl
+chosen false h m = refl
 
 -- the parts at their places
 module _ (s : List ℕ) (h : 64 ≤ length s) {position : ℕ} (n₁ : number 4 (drop 0 s) ≡ got position (drop 4 s)) where

@@ -33,7 +33,7 @@ heap_in s h = slots_at s 64 h.heap
 abbrev pub entries_in : List ℕ → Header → List Slot
 entries_in s h = slots_at s (64 + 16 * h.heap) h.entries
 
--- the store has the slots that the header says. (Asked only of a store that is written then; what is read is a `State`, which carries it.)
+-- the store has the slots that the header says. (Asked where a `State` is made, which carries it from then on, or of a store that is written then.)
 pub record Holds (s : List ℕ) (h : Header) : Type 0 where
   pub inside : 64 + 16 * (h.heap + h.entries) ≤ length s
   pub heap : all_slots (heap_in s h) ≡ true

@@ -1,4 +1,5 @@
 // The slots of cells that a store begins with, behind the 64 bytes of its header. What they are is not said: a `State` says that each is a slot.
+// (A literal where it is made, of a state, a `Work` or a store: the proofs go by computing.)
 ghost use Rattle.std.specs.Prelude.{◌+◌, ◌*◌, ◌≤◌, length};
 
 #[derive(Clone, Copy)]

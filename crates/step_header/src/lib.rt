@@ -25,7 +25,7 @@ pub struct Header {
     pub entries: u64,
 }
 
-// A byte that is 0 or 1, as a flag.
+// A byte that is 0 or 1, as a flag. (image_fields has this match for a mark, at a place that may be past the end: its clause answers of the place.)
 fn flag(byte: u8) -> Option<bool>
     ensures { result ≡ flag_of byte }
 {
@@ -49,29 +49,25 @@ pub fn read_header(s: &[u8]) -> Option<Header>
     let heap = long_at(s, 16);
     let entries = long_at(s, 24);
     let long_zeros = all_zero(s, 32, 32);
-    if short_zeros && long_zeros {
-        return Some(Header {
-            position,
-            ended,
-            stopped,
-            cells,
-            heap,
-            entries,
-        });
-    }
-    None
+    (short_zeros && long_zeros).then_some(Header {
+        position,
+        ended,
+        stopped,
+        cells,
+        heap,
+        entries,
+    })
 }
 
 fn put_zeros(out: &mut [u8], at: usize) -> usize
     requires { at + 32 ≤ length out.old }
     ensures { Puts out.old out.new at result (replicate 32 0) }
 {
-    let a = put_long(out, at, 0);
-    let b = put_long(out, a, 0);
-    let c = put_long(out, b, 0);
-    put_long(out, c, 0)
+    out[at..at + 32].fill(0);
+    at + 32
 }
 
+// (64 bytes are asked for here, where a header is read, and where a step ends: the store is lent whole, and no ghost field is over what is written.)
 pub fn put_header(out: &mut [u8], h: Header) -> usize
     requires { 64 ≤ length out.old }
     ensures { Puts out.old out.new 0 result (header_bytes (tuple_of h)) }

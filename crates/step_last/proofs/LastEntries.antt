@@ -1,11 +1,12 @@
 -- The last k entries of a linear list and those before them: how many there are, as slots, and as bytes of a store. Assumes nothing.
-use Prim.Native.Nat.{ℕ, zero, suc, ◌+◌, ◌-◌, ◌*◌, ◌≤◌}
+use Prim.Native.Nat.{ℕ, suc, ◌+◌, ◌-◌, ◌*◌, ◌≤◌}
 use mathlib.Core.Path.{◌≡◌, refl, sym, ap, ◌∙◌}
 use mathlib.Core.Bool.{true, false≢true}
 use mathlib.Core.List.{List, [], ◌∷◌, ◌++◌, map, append_assoc}
 use native.Mathlib.Omega.{arith}
 use lib.ListN.{length, take, drop, length-drop, length-map, take-append-drop}
 use lib.Seq.{length-take-le, take_at}
+use Rattle.std.proofs.lemmas.List.{take-map, drop-map}
 use Rattle.syntax.specs.Names.{same_var_id}
 use Rattle.syntax.specs.declared.names.VarId.{VarId}
 use Rattle.model.specs.Syntax.{Prog}
@@ -24,25 +25,16 @@ use Rattle.step_header.specs.declared.Header.{Header}
 use Rattle.step_header.specs.Headers.{entries_in}
 use Rattle.step_rule.specs.Rules.{Stored}
 use Rattle.step_rule.proofs.Views.{viewed}
+pub use Rattle.step_rule.proofs.Views.{environment-count}
 
 -- ── of any list ──
 
 module _ {A B : Type 0} (f : A → B) where
-  map-take : (n : ℕ) (l : List A) → map f (take n l) ≡ take n (map f l)
-  map-take zero l = refl
-  map-take (suc n) [] = refl
-  map-take (suc n) (a ∷ l) = ap (λ (z : List B). f a ∷ z) (map-take n l)
-
-  map-drop : (n : ℕ) (l : List A) → map f (drop n l) ≡ drop n (map f l)
-  map-drop zero l = refl
-  map-drop (suc n) [] = refl
-  map-drop (suc n) (a ∷ l) = map-drop n l
-
   pub map_last : (k : ℕ) (l : List A) → map f (last_of k l) ≡ last_of k (map f l)
-  map_last k l = map-drop (length l - k) l ∙ ap (λ (n : ℕ). drop (n - k) (map f l)) (sym (length-map l f))
+  map_last k l = sym (drop-map f (length l - k) l) ∙ ap (λ (n : ℕ). drop (n - k) (map f l)) (sym (length-map l f))
 
   pub map-before : (k : ℕ) (l : List A) → map f (before_last k l) ≡ before_last k (map f l)
-  map-before k l = map-take (length l - k) l ∙ ap (λ (n : ℕ). take (n - k) (map f l)) (sym (length-map l f))
+  map-before k l = sym (take-map f (length l - k) l) ∙ ap (λ (n : ℕ). take (n - k) (map f l)) (sym (length-map l f))
 
 -- ── IDs ──
 
@@ -94,14 +86,9 @@ module _ {M : Machine} {P : Prog} {store : List ℕ} {h : Header} {l : Located} 
   pub entries-count : length (entries_in store h) ≡ h.entries
   entries-count = slots-count store (64 + 16 * h.heap) h.entries
 
-  -- the model's list has as many
-  pub environment-count : length l.environment ≡ h.entries
-  unfolding environment_of
-  environment-count = sym ((viewed o).entries_size ∙ length-map l.environment (entry_slot (place_of l.cells)))
-
   -- IDs that it ends in are not more
   pub ends-entries : (xs : List VarId) → ends_in_lem xs (keys l.environment) ≡ true → length xs ≤ h.entries
-  ends-entries xs e = omega (arith, ends-within xs (keys l.environment) e, length-map l.environment (λ (x : VarId × Value). x.0), environment-count)
+  ends-entries xs e = omega (arith, ends-within xs (keys l.environment) e, length-map l.environment (λ (x : VarId × Value). x.0), environment-count o)
 
   module _ (k : ℕ) where
     -- their slots

@@ -7,7 +7,6 @@ ghost use Rattle.step_header.specs.States.{entries_of};
 ghost use Rattle.step_entries.specs.Named.{named};
 ghost use Rattle.step_lookup.specs.Integer.{integer_in};
 
-use image_integers::from_bits;
 use step_entries::slot_of;
 use step_header::state::State;
 use step_slots::sort::Sort;
@@ -18,7 +17,8 @@ pub fn integer_of(state: &State<'_>, id: u32) -> Option<i64>
 {
     let slot = slot_of(state, id)?;
     match slot.sort {
-        Sort::Integer => Some(from_bits(slot.payload)),
+        Sort::Integer => Some(slot.payload.cast_signed()),
+        // Every other sort has none: the definition has these two cases too.
         _ => None,
     }
 }

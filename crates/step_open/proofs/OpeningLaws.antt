@@ -1,26 +1,27 @@
 -- Question 14 as code asks it: header, counts, position, cells, environment. Assumes nothing.
 use Prim.Native.Nat.{ℕ, zero, suc, ◌+◌, ◌-◌, ◌*◌, ◌/◌, ◌≤◌, ◌<◌}
-use mathlib.Core.Path.{◌≡◌, refl, sym, ap, ap₂, ◌∙◌, subst}
-use mathlib.Core.Bool.{Bool, true, false, ◌&&◌, cond, false≢true}
-use mathlib.Core.List.{List, [], ◌∷◌, ◌++◌}
+use mathlib.Core.Path.{◌≡◌, refl, sym, ap, ap₂, ◌∙◌}
+use mathlib.Core.Bool.{Bool, true, false, ◌&&◌, cond, false≢true, and-false}
+use Rattle.std.proofs.lemmas.Bool.Decides.{nat_tests}
+use mathlib.Core.List.{List, [], ◌∷◌}
 use mathlib.Core.Option.{Option, none, some}
+use Rattle.std.specs.Bool.{then_some}
 use native.Mathlib.Omega.{arith}
-use native.Mathlib.Nat.{add-suc, add-zero, suc-add}
-use borrow.Author.Tests.{le-leb, lt-leb, leb-true, leb-false, eq-eqb, ne_eqb}
+use native.Mathlib.Nat.{add-zero}
+use borrow.Author.Tests.{le-leb, lt-leb, leb-true, leb-false}
 use lib.Dec.{leb, eqb}
 use lib.ListN.{length, drop, length-drop, length-append}
 use Rattle.model.specs.Syntax.{Prog}
-use Rattle.image_spec.specs.Parse.{Parsed, refused, got, and_then, only_if, times, each, All}
+use Rattle.image_spec.specs.Parse.{Parsed, refused, got, and_then, only_if, times}
 use Rattle.image_spec.specs.Image.{if_got}
-use Rattle.image_spec.proofs.ParseLaws.{Exact, Sound, none_read, one-read}
+use Rattle.image_spec.proofs.ParseLaws.{Sound, one-read}
 use Rattle.image_spec.proofs.DirectoryLaws.{and_left, and_right}
 use Rattle.step_slots.specs.Slots.{Slot, slot_bytes, SlotOk, slot_parser, is_cell_lem}
 use Rattle.step_slots.specs.Views.{slot_from, slot_at, slots_at, is_slot, all_slots}
 use Rattle.step_slots.proofs.SlotLaws.{slot_exact, slots_parse}
-use Rattle.step_spec.specs.Located.{Located}
 use Rattle.step_spec.specs.Store as store
 use Rattle.std.specs.Prelude as code
-use Rattle.std.specs.Prelude.{Some, None}
+use Rattle.std.specs.Prelude.{None}
 use Rattle.image_directory.specs.declared.Frame.{Frame}
 use Rattle.step_open.specs.Opening.{slots_formed, seen_in, Opens}
 use Rattle.step_spec.specs.Store.{header_bytes, header_parser, raw_from, raw_parser, every_slot, statement_at, entry_ok, value_ok, cells_in, leading, blocks, cells_ok, formed, state_in, if_formed, state_from}
@@ -33,20 +34,8 @@ use Rattle.step_scan.specs.Pass.{Of, pass, seen}
 
 -- ── tests in another order ──
 
-and-false : (b : Bool) → b && false ≡ false
-and-false true = refl
-and-false false = refl
-
-and_assoc : (a b c : Bool) → (a && b) && c ≡ a && (b && c)
-and_assoc true b c = refl
-and_assoc false b c = refl
-
 eqb_sym : (a b : ℕ) → eqb a b ≡ eqb b a
-eqb_sym a b = go (eqb b a) refl
-  where
-    go : (t : Bool) → eqb b a ≡ t → eqb a b ≡ t
-    go true e = eq-eqb a b (sym (borrow.Author.Tests.eqb-true b a e))
-    go false e = ne_eqb a b (λ q. absurd (borrow.Author.Tests.eqb-false b a e (sym q)))
+eqb_sym a b = grind (arith, nat_tests)
 
 regroup : (aH aE st ce le ck eE : Bool) → (aH && aE) && (st && (ce && (le && (ck && eE)))) ≡ st && ((aH && ((le && ck) && ce)) && (aE && eE))
 regroup aH aE false ce le ck eE = and-false (aH && aE)
@@ -60,9 +49,6 @@ regroup true true true true true true eE = refl
 -- ── the pass is the test of the slots, of the cells' numbers and of what they hold ──
 
 module _ (P : Prog) (heap : List Slot) (cells : ℕ) where
-  swap_in : (a h r x : Bool) → a && (h && (r && x)) ≡ a && ((h && r) && x)
-  swap_in a h r x = ap (λ (z : Bool). a && z) (sym (and_assoc h r x))
-
   turn : (s a p h x y : Bool) → s && (p && (h && (a && (x && y)))) ≡ (s && a) && ((p && (h && x)) && y)
   turn false a p h x y = refl
   turn true false false h x y = refl
@@ -200,7 +186,10 @@ module _ (P : Prog) (s : List ℕ) (h : Header) (e : header_parser s ≡ got (tu
   not_entries e = rw (e, and-false (pass P (heap_in s h) h.cells 0 0 (heap_in s h))) (and-false (statement_at P h.position))
 
   heap-outside : 64 ≤ length s → length s < 64 + 16 * h.heap → slots_formed P s h ≡ false
-  heap-outside r o = not_cells (passed P (heap_in s h) h.cells ∙ ap (λ (z : Bool). z && ((eqb (length (leading (heap_in s h))) 0 && cells_ok P (heap_in s h) 0 (blocks (heap_in s h))) && eqb h.cells (cells_in (heap_in s h)))) (no_room s 64 h.heap r o))
+  heap-outside r o =
+      let H = heap_in s h in
+      let as_counted = (eqb (length (leading H)) 0 && cells_ok P H 0 (blocks H)) && eqb h.cells (cells_in H) in
+      not_cells (passed P H h.cells ∙ ap (λ (z : Bool). z && as_counted) (no_room s 64 h.heap r o))
 
   entries-outside : 64 + 16 * h.heap ≤ length s → length s < 64 + 16 * h.heap + 16 * h.entries → slots_formed P s h ≡ false
   entries-outside r o = not_entries (values-slots P (heap_in s h) h.cells (entries_in s h) ∙ ap (λ (z : Bool). z && every_slot (entry_ok P (heap_in s h)) (entries_in s h)) (no_room s (64 + 16 * h.heap) h.entries r o))
@@ -215,3 +204,13 @@ module _ (P : Prog) (s : List ℕ) (h : Header) (e : header_parser s ≡ got (tu
 -- nothing is opened
 pub opens_none : (frame : Frame) (bytes s : List ℕ) {r : code.Option Header} → r ≡ None → ((P : Prog) → Of P frame bytes → state_from P s ≡ none) → Opens frame bytes s r
 opens_none frame bytes s {r} e n = record { state = λ P o. n P o ∙ ap (seen_in s) (sym e); header = λ h q. cc }
+
+-- .. or this header, as a test says
+pub opens_as : (frame : Frame) (bytes s : List ℕ) (h : Header) (v : Bool) {r : code.Option Header} → header_parser s ≡ got (tuple_of h) (drop 64 s) → r ≡ then_some v h
+    → (v ≡ true → (P : Prog) → Of P frame bytes → state_from P s ≡ some (seen s h)) → (v ≡ false → (P : Prog) → Of P frame bytes → state_from P s ≡ none)
+    → Opens frame bytes s r
+opens_as frame bytes s h true {r} e q y n = record {
+  state = λ P o. y refl P o ∙ ap (seen_in s) (sym q);
+  header = λ k p. let i : h ≡ k = cc in e ∙ ap (λ (x : Header). got (tuple_of x) (drop 64 s)) i;
+}
+opens_as frame bytes s h false e q y n = opens_none frame bytes s q (n refl)

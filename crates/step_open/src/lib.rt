@@ -43,8 +43,5 @@ pub fn open_store(image: &Image<'_>, store: &[u8]) -> Option<Header>
         return None;
     }
     let header = read_header(store)?;
-    if counts_inside(store.len(), header) && is_formed(image, store, header) {
-        return Some(header);
-    }
-    None
+    (counts_inside(store.len(), header) && is_formed(image, store, header)).then_some(header)
 }

@@ -2,20 +2,17 @@
 -- Assumes nothing.
 use Prim.Native.Nat.{ℕ, suc}
 use mathlib.Core.Path.{◌≡◌, refl, sym, ap, ◌∙◌}
-use mathlib.Core.Bool.{Bool, true, false, not, cond}
+use mathlib.Core.Bool.{Bool, true, false, not}
 use mathlib.Core.List.{List, [], ◌∷◌}
 use mathlib.Core.Option.{Option, none, some}
 use native.Mathlib.Omega.{arith}
-use lib.Dec.{eqb}
 use lib.ListN.{length}
 use Rattle.syntax.specs.Sets.{distinct}
 use Rattle.syntax.specs.Context.{Context, ids}
 use Rattle.syntax.specs.declared.names.VarId.{VarId}
-use Rattle.syntax.specs.declared.names.Identifier.{Identifier}
 use Rattle.model.specs.Syntax.{Stmt}
 use Rattle.model.specs.Machine.{Value, Entries, keys, Cells, at, Event, Outcome, shows, or_halt, and_first, pair_up}
 use Rattle.model.specs.Linear.{stop_unless, shows_unless_twice}
-use Rattle.image_spec.specs.Records.{definition, clause'}
 use Rattle.std.specs.Prelude as code
 use Rattle.std.specs.Prelude.{Some, None}
 use Rattle.image_directory.specs.declared.Frame.{Frame}
@@ -23,12 +20,12 @@ use Rattle.image_directory.specs.Slots.{records_in}
 use Rattle.image_read_parts.specs.Parts.{list_of}
 use Rattle.image_read_parts.specs.Indexed.{record_at}
 use Rattle.step_spec.specs.Located.{is_stop}
-use Rattle.step_places.specs.Heads.{head_record}
 use Rattle.step_places.specs.Searches.{Finds}
 use Rattle.step_places.proofs.NextPlaces.{FoundAt, found_at, none_found}
 use Rattle.step_rows.specs.declared.row.Row.{Row}
 use Rattle.step_rows.specs.Rows.{ids_of}
 use Rattle.step_rows.proofs.RowLaws.{ids-length}
+use Rattle.step_rule.proofs.Heads.{head-list}
 
 -- ---- IDs and values side by side
 
@@ -79,13 +76,6 @@ module _ {A : Type 0} (context_of : A → Context) (body_of : A → Stmt) (o : O
         go (paired {l = l} m k) = unless-stops (distinct (keys (place l))) (shows e (at (body_of a) (place l) K)) refl ∙ ap (λ (z : List VarId). not (distinct z)) (p l k)
 
 -- ---- what code found, and the row of its parameters
-
-head-list : (kind : ℕ) (x : Identifier) (Γ : Context) → list_of (head_record kind x Γ) ≡ Γ
-head-list kind x Γ = go (eqb kind 1)
-  where
-    go : (b : Bool) → list_of (cond b (definition x Γ) (clause' x Γ)) ≡ Γ
-    go true = refl
-    go false = refl
 
 -- b is whether the machine stops, which enters what a search for f answers, with these values for the parameters and this place for the new entries
 pub record Enters (g : Frame) (bytes : List ℕ) (f : code.Option ℕ) (vs : List Value) (place : Entries → Entries) (b : Bool) : Type 1 where

@@ -1,5 +1,5 @@
 -- What is read to tell whether the machine stops: a clause, and the last value with its cell. Assumes nothing.
-use Prim.Native.Nat.{ℕ, zero, suc, ◌+◌, ◌-◌, ◌*◌, ◌<◌}
+use Prim.Native.Nat.{ℕ, zero, suc, ◌-◌, ◌<◌}
 use mathlib.Core.Path.{◌≡◌, refl, sym, ap, ◌∙◌}
 use mathlib.Core.List.{List, [], ◌∷◌, map}
 use mathlib.Core.Option.{Option, some}
@@ -11,16 +11,13 @@ use Rattle.model.specs.Syntax.{Prog}
 use Rattle.model.specs.Machine.{Value, outside, Entries, keys, values}
 use Rattle.model.specs.Linear.{first, last_value_lem}
 use Rattle.image_spec.specs.Parse.{All}
-use Rattle.std.specs.Prelude.{None}
-use Rattle.image_directory.specs.declared.Frame.{Frame}
+use Rattle.std.proofs.lemmas.List.{get_or-map}
 use Rattle.step_slots.specs.Slots.{Slot}
-use Rattle.step_slots.specs.Views.{no_slot, slot_at, slots_at}
-use Rattle.step_slots.proofs.SlotBytes.{slots-count}
+use Rattle.step_slots.specs.Views.{no_slot}
 use Rattle.step_spec.specs.Located.{Machine, Located}
 use Rattle.step_spec.specs.Store.{place_of, entry_slot, environment_of, EntryFits}
 use Rattle.step_header.specs.declared.Header.{Header}
 use Rattle.step_header.specs.Headers.{heap_in, entries_in, Holds}
-use Rattle.step_places.specs.Searches.{PlaceOf}
 use Rattle.step_rows.specs.declared.places.Places.{Places}
 use Rattle.step_rows.specs.Rows.{slot_id}
 use Rattle.step_rows.specs.Placing.{ids_in, Inside, slot_places_lem}
@@ -31,40 +28,16 @@ use Rattle.step_cells.specs.Cells.{Cell}
 use Rattle.step_cells.proofs.HeldLaws.{no-reference}
 use Rattle.step_cells.proofs.HeapLaws.{cell_holds}
 use Rattle.step_cells.proofs.CellLaws.{no_value, OfCreate, Meets, meets_none, meets}
-use Rattle.step_order.specs.Stopping.{last_slot, last_cell_lem}
+use Rattle.step_entries.specs.Named.{last_slot}
+use Rattle.step_order.specs.Stopping.{last_cell_lem}
 use Rattle.step_order.proofs.InOrderLaws.{entry-ids}
 
--- ---- nothing is no place
-
-pub no_place : {g : Frame} {s : List ℕ} (kind : ℕ) → PlaceOf g s kind None
-no_place kind j q = let w : ◌≡◌ {A = ℕ} 0 1 = cc (q) in absurd (omega arith)
-
 -- ---- the last of a list
-
-module _ {A B : Type 0} (f : A → B) (d : A) (e : B) where
-  map_at : (xs : List A) (n : ℕ) → n < length xs → get_or (map f xs) n e ≡ f (get_or xs n d)
-  map_at [] n h = absurd (omega arith)
-  map_at (x ∷ xs) zero h = refl
-  map_at (x ∷ xs) (suc n) h = map_at xs n (omega arith)
 
 all_in : {A : Type 0} (Q : A → Type 0) (d : A) (xs : List A) (n : ℕ) → All Q xs → n < length xs → Q (get_or xs n d)
 all_in Q d [] n a h = absurd (omega arith)
 all_in Q d (x ∷ xs) zero a h = a.0
 all_in Q d (x ∷ xs) (suc n) a h = all_in Q d xs n a.1 (omega arith)
-
-slot_in : (s : List ℕ) (at n j : ℕ) → j < n → get_or (slots_at s at n) j no_slot ≡ slot_at s (at + 16 * j)
-unfolding slots_at
-slot_in s at zero j h = absurd (omega arith)
-slot_in s at (suc n) zero h = let k : at ≡ at + 16 * 0 = omega arith in ap (slot_at s) k
-slot_in s at (suc n) (suc j) h = let k : at + 16 + 16 * j ≡ at + 16 * suc j = omega arith in slot_in s (at + 16) n j (omega arith) ∙ ap (slot_at s) k
-
--- the last of n slots, as it is read
-pub last_none : (s : List ℕ) (at n : ℕ) → n ≡ 0 → no_slot ≡ last_slot (slots_at s at n)
-unfolding slots_at
-last_none s at n e = ap (λ (k : ℕ). last_slot (slots_at s at k)) (sym e)
-
-pub last-read : (s : List ℕ) (at n : ℕ) → 0 < n → slot_at s (at + 16 * (n - 1)) ≡ last_slot (slots_at s at n)
-last-read s at n h = sym (ap (λ (k : ℕ). get_or (slots_at s at n) (k - 1) no_slot) (slots-count s at n) ∙ slot_in s at n (n - 1) (omega arith))
 
 -- ---- the value of the last entry
 
@@ -79,7 +52,7 @@ last_entry ε n h =
 last-slot : (of : ℕ → ℕ) (ε : Entries) (n : ℕ) → length ε ≡ suc n → last_slot (map (entry_slot of) ε) ≡ entry_slot of (get_or ε n some_entry)
 last-slot of ε n h =
     let k : length (map (entry_slot of) ε) - 1 ≡ n = omega (arith, length-map ε (entry_slot of)) in
-    ap (λ (i : ℕ). get_or (map (entry_slot of) ε) i no_slot) k ∙ map_at (entry_slot of) some_entry no_slot ε n (omega arith)
+    ap (λ (i : ℕ). get_or (map (entry_slot of) ε) i no_slot) k ∙ get_or-map (entry_slot of) ε n some_entry no_slot (omega arith)
 
 module _ {M : Machine} {P : Prog} {store : List ℕ} {h : Header} {l : Located} (o : Stored M P store h l) where
   -- what its slot and the cell that was looked up for it say

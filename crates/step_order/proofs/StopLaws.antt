@@ -4,7 +4,7 @@ use Prim.Native.Nat.{ℕ, ◌+◌, ◌-◌, ◌<◌}
 use mathlib.Core.Path.{◌≡◌, refl, sym, ap, ap₂, ◌∙◌, subst}
 use mathlib.Core.Bool.{Bool, true, false}
 use mathlib.Core.List.{List, [], ◌++◌, map, append-nil}
-use mathlib.Core.Option.{Option, none, some}
+use mathlib.Core.Option.{Option, some}
 use native.Mathlib.Omega.{arith}
 use borrow.Author.Tests.{eqb-true, eqb-false}
 use lib.Dec.{eqb}
@@ -41,8 +41,8 @@ use Rattle.image_read_parts.specs.Indexed.{record_at, At}
 use Rattle.pass_records.proofs.ListPlaces.{at-made}
 use Rattle.step_slots.specs.Slots.{Slot, value_slot}
 use Rattle.step_spec.specs.Located.{Machine, source_machine, Located, records_in, stmt_in, cell_in, state_of, project, is_stop, clause_place, label_place}
-use Rattle.step_spec.specs.Store.{place_of, entry_slot, environment_of}
-use Rattle.step_spec.proofs.NeverStops.{source-never-stops}
+use Rattle.step_spec.specs.Store.{place_of}
+use Rattle.step_spec.proofs.NeverStops.{source-never-stops, or_goes}
 use Rattle.step_spec.proofs.StaysDistinct.{take-keys}
 use Rattle.step_spec.proofs.Standing.{Stands}
 use Rattle.step_header.specs.declared.Header.{Header}
@@ -52,7 +52,7 @@ use Rattle.step_rows.specs.declared.row.Row.{Row}
 use Rattle.step_rows.specs.Rows.{ids_of, slot_id}
 use Rattle.step_rows.proofs.RowLaws.{ids-length}
 use Rattle.step_rule.specs.Rules.{ImageOf, Stored, Reads}
-use Rattle.step_rule.proofs.Views.{viewed}
+use Rattle.step_rule.proofs.Views.{viewed, environment-count}
 use Rattle.step_rule.proofs.Statements.{Is, is_substitute, is_call, is_let, is_switch, is_create_lem, is_invoke, is_literal, is_op, is_ifc, is_print, is_exit, here, placed}
 use Rattle.step_cells.specs.Cells.{Cell}
 use Rattle.step_cells.proofs.CellLaws as cells
@@ -60,7 +60,8 @@ use Rattle.step_cells.proofs.CellLaws.{OfLet, OfCreate, Meets, cells_of, lacks_h
 use Rattle.step_cells.proofs.CreateLaws.{created}
 use Rattle.step_order.specs.Orderly.{IsFront}
 use Rattle.step_tags.specs.Tags.{tag_in}
-use Rattle.step_order.specs.Stopping.{last_slot, last_cell_lem, ClauseOf, work_at, step_at}
+use Rattle.step_order.specs.Stopping.{last_cell_lem, ClauseOf, work_at, step_at}
+use Rattle.step_entries.specs.Named.{last_slot}
 use Rattle.step_order.proofs.InOrderLaws.{entries-keys}
 use Rattle.step_order.proofs.ListLaws.{front_ids}
 use Rattle.step_order.proofs.PartLaws.{last_meets}
@@ -89,10 +90,6 @@ module _ (P : Prog) (l : Located) (e : l.has_ended ≡ false) {a : Bool} (q : a 
   out-of_order_stops f = sym (step_is ∙ ap ordered f)
 
 -- ---- statements that bring no IDs of others
-
-or_goes : {A : Type 0} (o : Option A) (k : A → Outcome) → ((a : A) → is_stop (k a) ≡ false) → is_stop (or_halt o k) ≡ false
-or_goes none k h = refl
-or_goes (some a) k h = h a
 
 no_stop : (P : Prog) {t : Stmt} {r : Record} → Is t r → (kind_of r ≡ 3 → ⊥) → (kind_of r ≡ 5 → ⊥) → (kind_of r ≡ 7 → ⊥) → (ε : Entries) (K : Cells) → is_stop (linear_work P t ε K) ≡ false
 unfolding linear_work
@@ -137,17 +134,13 @@ module _ {P : Prog} {frame : Frame} {definitions : ℕ} {bytes : List ℕ} (p : 
 -- ---- the values: how many there are, the IDs of all but the last, and the last
 
 module _ {M : Machine} {P : Prog} {store : List ℕ} {h : Header} {l : Located} (o : Stored M P store h l) where
-  entries-count : length l.environment ≡ h.entries
-  unfolding environment_of
-  entries-count = sym (length-map l.environment (entry_slot (place_of l.cells))) ∙ sym (viewed o).entries_size
-
   pub values-count : length (values l.environment) ≡ h.entries
-  values-count = length-map l.environment (λ (e : VarId × Value). e.1) ∙ entries-count
+  values-count = length-map l.environment (λ (e : VarId × Value). e.1) ∙ environment-count o
 
   pub fewer-values : length (values (before_last 1 l.environment)) ≡ h.entries - 1
   fewer-values =
       let ε = l.environment in
-      length-map (before_last 1 ε) (λ (e : VarId × Value). e.1) ∙ (length-take-le (length ε - 1) ε (omega arith) ∙ ap (λ (n : ℕ). n - 1) entries-count)
+      length-map (before_last 1 ε) (λ (e : VarId × Value). e.1) ∙ (length-take-le (length ε - 1) ε (omega arith) ∙ ap (λ (n : ℕ). n - 1) (environment-count o))
 
   pub front-keys : {row others : Row} → ids_of row ≡ map slot_id (entries_in store h) → IsFront row 1 others → ids_of others ≡ keys (before_last 1 l.environment)
   front-keys {row} w e =

@@ -1,24 +1,19 @@
 -- Does the linear machine stop at the state that a store is read as? And what is read to tell it.
-use Rattle.std.specs.Prelude.{ℕ, ◌+◌, ◌-◌, ◌<◌, ◌≡◌, Bool, false, Option, List, map, length, get_or}
+use Rattle.std.specs.Prelude.{ℕ, ◌+◌, ◌<◌, ◌≡◌, Bool, false, Option, List, map}
 use Rattle.model.specs.Syntax.{Prog}
 use Rattle.model.specs.Machine.{Outcome}
 use Rattle.model.specs.Linear.{linear_work, linear_step_lem}
 use Rattle.image_spec.specs.Kinds.{clauses_of}
 use Rattle.image_directory.specs.declared.Frame.{Frame}
 use Rattle.image_read_parts.specs.Indexed.{record_at}
-use Rattle.step_slots.specs.Slots.{Slot}
-use Rattle.step_slots.specs.Views.{no_slot}
 use Rattle.step_spec.specs.Located.{Located, stmt_in, cell_in, project, is_stop}
+use Rattle.step_entries.specs.Named.{last_slot}
 use Rattle.step_header.specs.declared.Header.{Header}
 use Rattle.step_header.specs.Headers.{heap_in, entries_in}
 use Rattle.step_places.specs.Searches.{PlaceOf, FindsClause}
 use Rattle.step_places.specs.declared.stepper.Stepper.{Stepper}
 use Rattle.step_rule.specs.Rules.{ProgramOf, Reads}
 use Rattle.step_cells.specs.Cells.{Cell, cell_in'}
-
--- the last slot; one of sort 5 where there is none
-abbrev pub last_slot : List Slot → Slot
-last_slot ts = get_or ts (length ts - 1) no_slot
 
 -- the cell of the last entry's value; one of sort 5 where it is none
 abbrev pub last_cell_lem : (store : List ℕ) → Header → Cell

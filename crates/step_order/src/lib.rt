@@ -1,6 +1,7 @@
 // Whether the linear machine stops at the statement at hand: because of the IDs that the statement shows, or of those that it brings.
 #![tactic(auto)]
 
+pub mod at_hand;
 pub mod entering;
 pub mod list;
 pub mod listed;
@@ -12,11 +13,10 @@ ghost use Rattle.std.specs.Prelude.{◌≡◌, map, ◌<◌};
 ghost use Rattle.step_rows.specs.Rows.{slot_id, ids_of};
 ghost use Rattle.step_order.specs.Orderly.{orderly};
 ghost use Rattle.step_order.specs.Stopping.{work_at, step_at, StopsBy};
-ghost use Rattle.image_read_parts.specs.Indexed.{IsAt};
-ghost use Rattle.image_kinds.specs.Codes.{code_of};
 ghost use Rattle.step_header.specs.States.{entries_of};
 ghost use Rattle.image_read_parts.specs.Recorded.{record_in};
 
+use crate::at_hand::AtHand;
 use crate::entering::{call, invoke, switch};
 use crate::list::entries_row;
 use crate::listed::Listed;
@@ -28,7 +28,7 @@ use image_read_parts::record::RecordAt;
 use step_places::stepper::Stepper;
 
 // Are the IDs that a statement shows in order, where the list has those of the row?
-pub fn ordered(node: &RecordAt<'_>, list: &Listed<'_>) -> bool
+fn ordered(node: &RecordAt<'_>, list: &Listed<'_>) -> bool
     ensures { result ≡ orderly (record_in node.now) (ids_of list.now.row) }
 {
     match node.kind {
@@ -57,21 +57,23 @@ pub fn in_order(node: &RecordAt<'_>, known: &SureState<'_>) -> bool
 }
 
 // Does the machine stop because of the IDs that the statement at hand, whose own are in order, brings?
-fn stops_entering(stepper: &Stepper<'_>, known: &SureState<'_>, kind: Kind) -> bool
-    requires { IsAt stepper.now.image known.now.state.header.position (code_of kind) }
-    ensures { StopsBy work_at stepper.now stepper.now.image.bytes.now known.now.state.store.now known.now.state.header result }
+fn stops_entering(hand: &AtHand<'_>) -> bool
+    ensures { StopsBy work_at hand.now.stepper.now hand.now.stepper.now.image.bytes.now hand.now.known.now.state.store.now hand.now.known.now.state.header result }
 {
-    match kind {
-        Kind::Call => call(stepper, known.state.header),
-        Kind::Switch => switch(stepper, known),
-        Kind::Invoke => invoke(stepper, &known.state),
+    match hand.node.kind {
+        Kind::Call => call(hand.stepper, &hand.node, hand.known.state.header),
+        Kind::Switch => switch(hand),
+        Kind::Invoke => invoke(hand),
+        // The ten kinds that bring nothing: what is proved of them is only that they are none of the three above.
         _ => false,
     }
 }
 
 // Does the linear machine stop at the state? Where one is sure that its entries' IDs are distinct, that is not asked.
-// The stepper and the state, also in `entering` and in step_call: the program is one for a call, and each step makes another state of it.
-pub fn stops(stepper: &Stepper<'_>, known: &SureState<'_>) -> bool
+// The stepper and the state, also in step_call: the program is one for a call, and each step makes another state of it.
+// (That the position is a record's is asked here, in step_call, step_settle, step_start, step_enter and Switch: a header is of a store, which says nothing of
+// an image.)
+pub fn stops<'a>(stepper: &'a Stepper<'a>, known: &'a SureState<'a>) -> bool
     requires { known.now.state.header.position < stepper.now.image.frame.count }
     ensures { StopsBy step_at stepper.now stepper.now.image.bytes.now known.now.state.store.now known.now.state.header result }
 {
@@ -82,5 +84,10 @@ pub fn stops(stepper: &Stepper<'_>, known: &SureState<'_>) -> bool
         index,
         kind,
     };
-    !in_order(&node, known) || stops_entering(stepper, known, kind)
+    let hand = AtHand {
+        stepper,
+        known,
+        node,
+    };
+    !in_order(&node, known) || stops_entering(&hand)
 }

@@ -74,7 +74,7 @@ pub fn adds(list: &Listed<'_>, id: u32) -> bool
     is_distinct(list) && !has(&list.row, id)
 }
 
-// Are the listed IDs the last of the list, and can the ID come in their place?
+// Are the listed IDs the last of the list, and can the ID come in their place? (A test first, since `front` asks for what it says.)
 pub fn replaces(listed: &Row<'_>, list: &Listed<'_>, id: u32) -> bool
     ensures { result ≡ replaced (ids_of listed.now) (ids_of list.now.row) (identified id) }
 {

@@ -1,28 +1,14 @@
 // What is read to tell whether a Switch or an Invoke stops: the last value's cell, the clause with a tag.
 ghost use Rattle.std.specs.Prelude.{◌≡◌};
-ghost use Rattle.step_order.specs.Stopping.{last_slot, last_cell_lem, ClauseOf};
-ghost use Rattle.step_header.specs.States.{entries_of};
-ghost use Rattle.step_slots.specs.Views.{found_slot};
+ghost use Rattle.step_order.specs.Stopping.{last_cell_lem, ClauseOf};
 ghost use Rattle.step_cells.specs.Cells.{found_cell};
 
 use image_read_nodes::parts_of;
 use step_cells::{Cell, cell_of};
+use step_entries::last_value;
 use step_header::state::State;
 use step_places::search::find_clause;
 use step_places::stepper::Stepper;
-use step_slots::{Slot, read};
-
-// The slot of the last entry, if there is one.
-fn last_value(state: &State<'_>) -> Option<Slot>
-    ensures { found_slot result ≡ last_slot (entries_of state.now) }
-{
-    let heap = state.header.heap as usize;
-    let entries = state.header.entries as usize;
-    if entries == 0 {
-        return None;
-    }
-    read(state.store, 64 + 16 * heap + 16 * (entries - 1))
-}
 
 // The cell of the last entry's value, if it is one.
 pub fn last_cell(state: &State<'_>) -> Option<Cell>
@@ -32,6 +18,8 @@ pub fn last_cell(state: &State<'_>) -> Option<Cell>
 }
 
 // The first clause with this tag of the statement at index i.
+// (Here its index, and of any i: the place that a cell in a store has may be no record's. `step_enter::clause_of`, which a step takes, has the parameters too
+// and asks that there be a record; its crate also writes, and stands above this one, which only reads.)
 pub fn clause_of(stepper: &Stepper<'_>, i: usize, tag: u32) -> Option<usize>
     ensures { ClauseOf stepper.now.image.frame stepper.now.image.bytes.now i tag result }
 {

@@ -4,7 +4,6 @@ ghost use Rattle.syntax.specs.Sets.{elem};
 ghost use Rattle.model.specs.Linear.{ends_in_lem};
 ghost use Rattle.image_read_nodes.specs.Nodes.{first_of};
 ghost use Rattle.step_order.specs.Orderly.{orderly};
-ghost use Rattle.image_kinds.specs.Codes.{code_of};
 ghost use Rattle.step_rows.specs.Rows.{ids_of};
 ghost use Rattle.image_read_parts.specs.Recorded.{record_in};
 ghost use Rattle.image_kinds.specs.declared.kinds.Kind.TheVariants.{Substitute, Let, Create, Literal, Op, IfC};
@@ -39,6 +38,7 @@ pub fn let_(node: &RecordAt<'_>, list: &Listed<'_>) -> bool
 }
 
 // create.rs: the environment last, and var in its place. There must be one.
+// (A `match`, here and in `ifc`: with `is_some_and` and `is_none_or`, tried, it stood open what the closure answers; the two arms are the proof's cases.)
 pub fn create(node: &RecordAt<'_>, list: &Listed<'_>) -> bool
     requires { node.now.kind ≡ Create }
     ensures { result ≡ orderly (record_in node.now) (ids_of list.now.row) }
@@ -52,7 +52,7 @@ pub fn create(node: &RecordAt<'_>, list: &Listed<'_>) -> bool
 
 // switch.rs, invoke.rs: var last.
 pub fn is_last(node: &RecordAt<'_>, row: &Row<'_>) -> bool
-    requires { code_of node.now.kind ≡ 2 → ⊥ }
+    requires { node.now.kind ≡ Substitute → ⊥ }
     ensures { result ≡ ends_in_lem ((first_of (record_in node.now)).id ∷ []) (ids_of row.now) }
 {
     let var = first(node);
@@ -97,7 +97,7 @@ pub fn ifc(node: &RecordAt<'_>, row: &Row<'_>) -> bool
 
 // print.rs, exit.rs: var there.
 pub fn is_present(node: &RecordAt<'_>, row: &Row<'_>) -> bool
-    requires { code_of node.now.kind ≡ 2 → ⊥ }
+    requires { node.now.kind ≡ Substitute → ⊥ }
     ensures { result ≡ elem (first_of (record_in node.now)).id (ids_of row.now) }
 {
     let var = first(node);

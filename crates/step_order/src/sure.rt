@@ -1,4 +1,5 @@
 // A state, and whether one is sure that no ID stands twice in its entries.
+// `sure` is a bool, here and in a list: code asks `sure || ..` of it, and that of two other cases would be a match for a yes or no.
 ghost use Rattle.std.specs.Prelude.{map};
 ghost use Rattle.step_rows.specs.Rows.{slot_id};
 ghost use Rattle.step_header.specs.States.{entries_of};

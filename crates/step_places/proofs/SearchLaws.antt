@@ -157,7 +157,7 @@ unfolding flatten_defs
 defs-heads h = record { begins = h.begins; shallow = h.shallow; count = h.count }
 
 module _ {g : Frame} {s : List ℕ} where
-  place_none : (kind : ℕ) → PlaceOf g s kind None
+  pub place_none : (kind : ℕ) → PlaceOf g s kind None
   place_none kind j q = let w : ◌≡◌ {A = ℕ} 0 1 = cc in absurd (omega arith)
 
   place_at : (kind here : ℕ) → At g s here kind → PlaceOf g s kind (Some here)

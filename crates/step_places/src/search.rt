@@ -14,7 +14,8 @@ use image_read_nodes::parts_of;
 use image_read_parts::offset;
 
 // Is the record at index i a definition or clause, as `kind` says, with this name?
-// `image` and `i`: there may be no record at i, or one of another kind, so it is no `RecordAt`.
+// `image` and `i`: there may be no record at i, or one of another kind, so it is no `RecordAt`. (By its byte: the name is all else that is read.
+// The test comes first, since what is read asks for it.)
 fn is_named(image: &Image<'_>, i: usize, kind: Kind, name: u32) -> bool
     requires { IsHead (code_of kind) }
     ensures { result ≡ is_named_lem (code_of kind) (name_of name) (drop i (records_of image.now)) }
@@ -26,7 +27,9 @@ fn is_named(image: &Image<'_>, i: usize, kind: Kind, name: u32) -> bool
     image.bytes[start] == kind as u8 && name == number(image.bytes, start + 1, 2)
 }
 
-// The first with this name of the n definitions or clauses from `from` on.
+// The first with this name of the n definitions or clauses from `from` on. (A loop from one to the next by its end: no slice has them side by side.)
+// `kind` and `name`: which record is searched for. `name`, and IDs, tags and labels in the steppers: u32, the four bytes that a slot has for each (an
+// event has two for a name); `Name` and `VarId` are what records are read to.
 fn find(stepper: &Stepper<'_>, from: usize, n: usize, kind: Kind, name: u32) -> Option<usize>
     requires { IsHead (code_of kind) }
     ensures { FindsHead stepper.now.image.frame stepper.now.image.bytes.now (code_of kind) n from name result }
@@ -66,8 +69,5 @@ pub fn find_definition(stepper: &Stepper<'_>, n: usize) -> Option<usize>
     if stepper.image.frame.count <= here {
         return None;
     }
-    match parts_of(&stepper.image, here).kind {
-        Kind::Definition => Some(here),
-        _ => None,
-    }
+    (parts_of(&stepper.image, here).kind == Kind::Definition).then_some(here)
 }

@@ -1,8 +1,11 @@
 -- When no ID stands twice in two lists together: `distinct_append`, and in a list with one more at its end: `distinct-last`. Assumes nothing.
 use mathlib.Core.Path.{◌≡◌, refl, sym, ap, ap₂, ◌∙◌}
-use mathlib.Core.Bool.{Bool, true, false, not, ◌&&◌, ◌||◌, and-true, or_assoc, or-false}
+use mathlib.Core.Bool.{Bool, true, false, not, ◌&&◌, ◌||◌, and-true, or-false}
 use mathlib.Core.List.{List, [], ◌∷◌, ◌++◌}
-use borrow.Author.Tests.{eqb-true, eqb-false, eq-eqb, ne_eqb}
+use native.Mathlib.Omega.{arith}
+use Rattle.std.proofs.lemmas.Bool.Decides.{nat_tests}
+use Rattle.std.proofs.lemmas.List.Folds.{list_any-append}
+use Rattle.syntax.proofs.Members.{list_any-elem}
 use Rattle.syntax.specs.Names.{same_var_id}
 use Rattle.syntax.specs.Sets.{elem, distinct}
 use Rattle.syntax.specs.declared.names.VarId.{VarId}
@@ -10,8 +13,8 @@ use Rattle.step_rows.specs.Apart.{apart}
 use Rattle.step_rows.proofs.RowLoops.{not_or}
 
 elem-append : (x : VarId) (xs ys : List VarId) → elem x (xs ++ ys) ≡ (elem x xs || elem x ys)
-elem-append x [] ys = refl
-elem-append x (y ∷ xs) ys = ap (λ (b : Bool). same_var_id x y || b) (elem-append x xs ys) ∙ sym (or_assoc (same_var_id x y) (elem x xs) (elem x ys))
+elem-append x xs ys =
+    sym (list_any-elem x (xs ++ ys)) ∙ (list_any-append (λ (y : VarId). same_var_id y x) xs ys ∙ ap₂ {C = Bool} (λ (a b : Bool). a || b) (list_any-elem x xs) (list_any-elem x ys))
 
 -- in another order
 regroup : (a b c d e : Bool) → (not (a || b) && (c && (d && e))) ≡ (not a && c && (d && (not b && e)))
@@ -29,11 +32,7 @@ distinct_append (x ∷ xs) ys =
     ∙ regroup (elem x xs) (elem x ys) (distinct xs) (distinct ys) (apart xs ys)
 
 turned : (a b : VarId) → same_var_id a b ≡ same_var_id b a
-turned a b = go (same_var_id a b) refl
-  where
-    go : (t : Bool) → same_var_id a b ≡ t → same_var_id a b ≡ same_var_id b a
-    go true e = e ∙ sym (eq-eqb b.0 a.0 (sym (eqb-true a.0 b.0 e)))
-    go false e = e ∙ sym (ne_eqb b.0 a.0 (λ q. eqb-false a.0 b.0 e (sym q)))
+turned a b = grind (arith, nat_tests)
 
 apart-one : (xs : List VarId) (x : VarId) → apart xs (x ∷ []) ≡ not (elem x xs)
 apart-one [] x = refl

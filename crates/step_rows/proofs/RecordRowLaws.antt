@@ -15,7 +15,7 @@ use Rattle.image_spec.specs.Parse.{each, All, field, mark, Marked}
 use Rattle.image_spec.specs.Fields.{max_count, chirality_code_lem, identifier_bytes, type_bytes, binding_bytes, list_bytes, pair_bytes, BindingOk, ListOk, PairOk}
 use Rattle.image_spec.specs.Records.{Record, definition, substitute, call, let', switch, create, invoke, literal, op, ifc, clause', print, exit, record_bytes, RecordOk}
 use Rattle.image_spec.specs.Kinds.{kind_of, clauses_of, fixed, tail_bytes}
-use Rattle.image_spec.proofs.FieldLaws.{identifier-length, binding-length}
+use Rattle.image_spec.proofs.FieldLaws.{binding-length, pair-length}
 use Rattle.image_spec.proofs.KindLaws.{fixed_le, record_nonempty}
 use Rattle.image_directory.specs.Slots.{Ready}
 use Rattle.image_directory.specs.declared.Frame.{Frame}
@@ -79,12 +79,9 @@ module _ (w : ℕ) where
     below = λ b o. o.0.1;
   }
 
-  pair-length : (p : ContextBinding × Identifier) → length (pair_bytes w p) ≡ 8 + (w + (w + w))
-  pair-length p = length-append (binding_bytes w p.0) (identifier_bytes w p.1) ∙ omega (arith, binding-length w p.0, identifier-length w p.1)
-
   pub target_written : Written (pair_bytes w) (PairOk w) (λ p. p.0.var.id) (8 + (w + (w + w))) 2 w
   target_written = record {
-    size = pair-length;
+    size = pair-length w;
     front = λ p. field 2 p.0.var.name.0;
     back = λ p. (chirality_code_lem p.0.chi ∷ []) ++ type_bytes w p.0.ty ++ identifier_bytes w p.1;
     parts = λ p.
@@ -97,7 +94,7 @@ module _ (w : ℕ) where
 
   pub source-written : Written (pair_bytes w) (PairOk w) (λ p. p.1.id) (8 + (w + (w + w))) (8 + (w + w)) w
   source-written = record {
-    size = pair-length;
+    size = pair-length w;
     front = λ p. binding_bytes w p.0 ++ field 2 p.1.name.0;
     back = λ p. [];
     parts = λ p.

@@ -64,10 +64,6 @@ module _ (s : List ℕ) (row : Places) where
   pub ids-before : (k : ℕ) → k ≤ row.len → ids_in s (record { from = row.from; stride = row.stride; offset = row.offset; width = row.width; len = k }) ≡ take k (ids_in s row)
   ids-before k h = from-take s row.stride row.width (row.from + row.offset) row.len k h
 
-  -- there is room up to place k
-  pub inside_to : (k : ℕ) → Inside s row → k ≤ row.len → row.from + row.stride * k ≤ length s
-  inside_to k i h = omega (arith, i.room, mul-le-mul_left row.stride h)
-
   -- .. and for the element at place j
   pub inside-at : (j : ℕ) → Inside s row → j < row.len → row.from + row.stride * j + row.offset + row.width ≤ length s
   inside-at j i h = omega (arith, i.element, i.room, mul-le-mul_left row.stride h)

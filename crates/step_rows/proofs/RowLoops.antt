@@ -1,5 +1,5 @@
 -- A loop over n places with a test at each: what was passed, and what is left. And the tests of lists of IDs, place by place. Assumes nothing.
-use Prim.Native.Nat.{ℕ, suc, ◌+◌, ◌≤◌, ◌<◌}
+use Prim.Native.Nat.{ℕ, zero, suc, ◌+◌, ◌≤◌, ◌<◌}
 use mathlib.Core.Path.{◌≡◌, refl, sym, ap, ap₂, ◌∙◌}
 use mathlib.Core.Bool.{Bool, true, false, not, ◌&&◌, ◌||◌, beq}
 use mathlib.Core.List.{List, [], ◌∷◌}
@@ -7,6 +7,7 @@ use native.Mathlib.Omega.{arith}
 use native.Mathlib.Numerals.{add-one}
 use lib.ListN.{length, drop}
 use lib.Seq.{drop-cons, drop-length}
+use Rattle.std.specs.List.{list_all, list_any, range_with_len}
 use Rattle.syntax.specs.Names.{same_var_id}
 use Rattle.syntax.specs.Sets.{elem, distinct}
 use Rattle.syntax.specs.declared.names.VarId.{VarId}
@@ -22,6 +23,14 @@ use Rattle.step_rows.proofs.RowLaws.{ids-length}
 pub record Turns (n : ℕ) (left test : ℕ → Bool) : Type 0 where
   pub turn : (j : ℕ) → j < n → left j ≡ (test j && left (j + 1))
   pub end : left n ≡ true
+
+-- all places are asked, one after the other
+pub turned-all : {n : ℕ} {left test : ℕ → Bool} → Turns n left test → list_all test (range_with_len 0 n) ≡ left 0
+turned-all {n} {left} {test} t = go 0 n (omega arith)
+  where
+    go : (j m : ℕ) → j + m ≡ n → list_all test (range_with_len j m) ≡ left j
+    go j zero e = let k : n ≡ j = omega (arith, e) in sym (ap left (sym k) ∙ t.end)
+    go j (suc m) e = ap (λ (b : Bool). test j && b) (go (j + 1) m (omega (arith, e))) ∙ sym (t.turn j (omega (arith, e)))
 
 -- the places before j have passed
 pub record Passed (n : ℕ) (left : ℕ → Bool) (j : ℕ) : Type 0 where
@@ -48,7 +57,7 @@ not_or true b = refl
 not_or false b = refl
 
 -- two answers compared
-pub agrees_is : (wanted found : Bool) → agrees wanted found ≡ not (not (beq found wanted))
+pub agrees_is : (wanted found : Bool) → agrees wanted found ≡ beq found wanted
 agrees_is true true = refl
 agrees_is true false = refl
 agrees_is false true = refl
@@ -68,11 +77,12 @@ module _ (row : Row) where
   pub distinct_turns : Turns row.places.len (λ j. distinct (drop j (ids_of row))) (λ j. not (elem (id_at row j) (drop (j + 1) (ids_of row))))
   distinct_turns = record { turn = λ j h. ap distinct (from_place j h); end = ap distinct from_end }
 
-  pub elem_turns : (x : VarId) → Turns row.places.len (λ j. not (elem x (drop j (ids_of row)))) (λ j. not (same_var_id x (id_at row j)))
-  elem_turns x = record {
-    turn = λ j h. ap (λ (l : List VarId). not (elem x l)) (from_place j h) ∙ not_or (same_var_id x (id_at row j)) (elem x (drop (j + 1) (ids_of row)));
-    end = ap (λ (l : List VarId). not (elem x l)) from_end;
-  }
+  -- is x one of the IDs from place j on, asked one place after the other?
+  pub elem-listed : (x : VarId) (j n : ℕ) → j + n ≡ row.places.len → list_any (λ k. same_var_id x (id_at row k)) (range_with_len j n) ≡ elem x (drop j (ids_of row))
+  elem-listed x j zero e = let k : row.places.len ≡ j = omega (arith, e) in sym (ap (λ (i : ℕ). elem x (drop i (ids_of row))) (sym k) ∙ ap (elem x) from_end)
+  elem-listed x j (suc n) e =
+      ap (λ (b : Bool). same_var_id x (id_at row j) || b) (elem-listed x (j + 1) n (omega (arith, e)))
+      ∙ sym (ap (elem x) (from_place j (omega (arith, e))))
 
 pub same_turns : (row other : Row) → row.places.len ≡ other.places.len
     → Turns row.places.len (λ j. same_ids (drop j (ids_of row)) (drop j (ids_of other))) (λ j. same_var_id (id_at row j) (id_at other j))

@@ -5,7 +5,7 @@ pub mod places;
 pub mod records;
 pub mod row;
 
-ghost use Rattle.std.specs.Prelude.{◌≡◌, ◌+◌, ◌*◌, ◌^◌, ◌≤◌, ◌<◌};
+ghost use Rattle.std.specs.Prelude.{◌≡◌, ◌+◌, ◌*◌, ◌^◌, ◌≤◌, ◌<◌, not, drop};
 ghost use Rattle.syntax.specs.Sets.{elem, distinct};
 ghost use Rattle.model.specs.Linear.{same_ids, present};
 ghost use Rattle.step_rows.specs.Rows.{ids_of, id_at, IsBehind};
@@ -66,7 +66,7 @@ fn id_at(row: &Row<'_>, width: usize, j: usize) -> u32
     )
 }
 
-// The ID at place j.
+// The ID at place j. (No `Index`: an ID is put together from its bytes, and no reference to it could be given.)
 pub fn id_of(row: &Row<'_>, j: usize) -> u32
     requires { j < row.now.places.len }
     ensures { result ≡ (id_at row.now j).0 }
@@ -75,25 +75,18 @@ pub fn id_of(row: &Row<'_>, j: usize) -> u32
 }
 
 // Is the ID in the row? The width as in id_at.
-// (A `for` that returns, and no chain with `all`: its closure would need a contract that each index is below the bound.)
 fn search(row: &Row<'_>, width: usize, id: u32) -> bool
     requires { width ≡ row.now.places.width }
     ensures { result ≡ elem (identified id) (ids_of row.now) }
 {
-    for j in 0..row.places.len {
-        let other = id_at(row, width, j);
-        if id == other {
-            return true;
-        }
-    }
-    false
+    (0..row.places.len).any(|j| id_at(row, width, j) == id)
 }
 
 // Is the ID in the row?
 pub fn has(row: &Row<'_>, id: u32) -> bool
     ensures { result ≡ elem (identified id) (ids_of row.now) }
 {
-    // The IDs of slots: a loop with a constant for the width, for speed.
+    // The IDs of slots: a search with a constant for the width, for speed.
     if row.places.width == 4 {
         return search(row, 4, id);
     }
@@ -102,6 +95,7 @@ pub fn has(row: &Row<'_>, id: u32) -> bool
 
 // Have two rows the same IDs in the same order? No `==`: rows may differ in their bytes, and IDs alone count.
 // `row` and `other`, here and below: two rows that are compared; each comes from another place, and nothing is said of both as one.
+// (The counts first: places are compared where both rows have them.)
 pub fn same(row: &Row<'_>, other: &Row<'_>) -> bool
     ensures { result ≡ same_ids (ids_of row.now) (ids_of other.now) }
 {
@@ -109,25 +103,15 @@ pub fn same(row: &Row<'_>, other: &Row<'_>) -> bool
     if len != other.places.len {
         return false;
     }
-    for j in 0..len {
-        if id_of(row, j) != id_of(other, j) {
-            return false;
-        }
-    }
-    true
+    (0..len).all(|j| id_of(row, j) == id_of(other, j))
 }
 
 // Is every ID of the row in the other, or none, as is wanted?
+// (One function for both, which differ in the answer of one test: two would have one proof twice.)
 fn all_are(row: &Row<'_>, other: &Row<'_>, wanted: bool) -> bool
     ensures { result ≡ all_are_lem wanted (ids_of row.now) (ids_of other.now) }
 {
-    for j in 0..row.places.len {
-        let found = has(other, id_of(row, j));
-        if found != wanted {
-            return false;
-        }
-    }
-    true
+    (0..row.places.len).all(|j| has(other, id_of(row, j)) == wanted)
 }
 
 // Is every ID of the row in the other?
@@ -144,19 +128,21 @@ pub fn disjoint(row: &Row<'_>, other: &Row<'_>) -> bool
     all_are(row, other, false)
 }
 
+// Is the ID at place j not again behind it? The width as in id_at.
+fn not_again(row: &Row<'_>, width: usize, j: usize) -> bool
+    requires { (width ≡ row.now.places.width) × (j < row.now.places.len) × (j + 1 < 2 ^ 64) }
+    ensures { result ≡ not (elem (id_at row.now j) (drop (j + 1) (ids_of row.now))) }
+{
+    let rest = behind(row, j + 1);
+    !search(&rest, width, id_at(row, width, j))
+}
+
 // Is no ID in the row twice? The width as in id_at.
 fn differ(row: &Row<'_>, width: usize) -> bool
     requires { width ≡ row.now.places.width }
     ensures { result ≡ «distinct» (ids_of row.now) }
 {
-    for j in 0..row.places.len {
-        let id = id_at(row, width, j);
-        let rest = behind(row, j + 1);
-        if search(&rest, width, id) {
-            return false;
-        }
-    }
-    true
+    (0..row.places.len).all(|j| not_again(row, width, j))
 }
 
 // Is no ID in the row twice?

@@ -33,7 +33,8 @@ fn counted(bytes: &[u8], at: usize, stride: usize, offset: usize, width: usize) 
     }
 }
 
-// Where the tail of a record begins.
+// Where the tail of a record begins: a Substitute's pairs, and the byte that says whether a Create has an environment.
+// (No `list_at`: it promises a list, which neither record has there, and asks for a kind that has one.)
 fn tail_at(node: &RecordAt<'_>) -> usize
     ensures { Stands bytes_of AnyBytes node.now.image.bytes.now result (tail_bytes node.now.image.frame.id (record_in node.now)) }
 {
@@ -41,20 +42,23 @@ fn tail_at(node: &RecordAt<'_>) -> usize
     offset(image, node.index) + node.kind.fixed(image.frame.id)
 }
 
-// The IDs of the list of a record.
+// The IDs of the list of a record. (How many bytes a binding has, and below a pair, is written out: the proofs go by computing, and a function's answer
+// would be an equation to rewrite by.)
+// (`&*`: lent again, for this call: here, where a lifetime is named, the borrow checker passes no parameter on at a shorter one.)
 pub fn list_row<'a>(node: &RecordAt<'a>) -> Row<'a>
     requires { has_list (code_of node.now.kind) ≡ true }
     ensures { ids_of result ≡ (ids (list_of (record_in node.now))) }
 {
     let w = node.image.frame.id;
-    let at = list_at(node);
+    let list = list_at(&*node);
     Row {
         bytes: node.image.bytes,
-        places: counted(node.image.bytes, at, 6 + (w + w), 2, w),
+        places: counted(node.image.bytes, list.start, 6 + (w + w), 2, w),
     }
 }
 
-// The IDs that a Substitute gives.
+// The IDs that a Substitute gives. (Beside those that it takes: each function promises its own list of the pairs; one would take the offset, and say of
+// each which list it is.)
 pub fn target_row<'a>(node: &RecordAt<'a>) -> Row<'a>
     requires { node.now.kind ≡ Substitute }
     ensures { ids_of result ≡ (targets (pairs_of (record_in node.now))) }
@@ -80,7 +84,7 @@ pub fn source_row<'a>(node: &RecordAt<'a>) -> Row<'a>
     }
 }
 
-// The IDs of the environment of a Create, if it has one.
+// The IDs of the environment of a Create, if it has one. (An early return, as in `image_read_nodes::second`: the count is read only where the mark is.)
 pub fn environment_row<'a>(node: &RecordAt<'a>) -> Option<Row<'a>>
     requires { node.now.kind ≡ Create }
     ensures { EnvironmentRow result (environment_of (record_in node.now)) }

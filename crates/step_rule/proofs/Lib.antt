@@ -6,3 +6,4 @@ pub mod Ways
 pub mod Finds
 pub mod Statements
 pub mod Machines
+pub mod Heads

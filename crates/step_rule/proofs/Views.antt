@@ -1,12 +1,13 @@
 -- What code sees of a store that is read as a state: the slots of its cells and of its environment, where the header says. Assumes nothing.
 use Prim.Native.Nat.{ℕ, ◌+◌, ◌*◌, ◌≤◌}
 use mathlib.Core.Path.{◌≡◌, refl, sym, ap, ap₂, ◌∙◌, subst}
-use mathlib.Core.Bool.{Bool, true, false}
+use mathlib.Core.Bool.{Bool, true}
 use mathlib.Core.List.{List, [], ◌∷◌, ◌++◌, append_assoc}
 use mathlib.Core.Option.{some}
 use native.Mathlib.Omega.{arith}
 use borrow.Author.Tests.{le-leb}
-use lib.ListN.{length, drop, length-append}
+use lib.Dec.{eqb}
+use lib.ListN.{length, drop, length-append, length-map}
 use lib.Seq.{drop-append_seam}
 use Rattle.model.specs.Syntax.{Prog}
 use Rattle.image_spec.specs.Parse.{each, All}
@@ -15,7 +16,8 @@ use Rattle.step_slots.specs.Views.{slots_at, is_slot, all_slots}
 use Rattle.step_slots.proofs.SlotLaws.{past, slots-stand}
 use Rattle.step_slots.proofs.SlotBytes.{slots_length}
 use Rattle.step_spec.specs.Located.{Machine, Located}
-use Rattle.step_spec.specs.Store.{heap_of, environment_of, bit, header_of, header_bytes, raw_of, raw_bytes, store_bytes, Fits}
+use Rattle.step_spec.specs.Store.{place_of, entry_slot, heap_of, environment_of, bit, header_of, header_bytes, raw_of, raw_bytes, store_bytes, Fits}
+use Rattle.step_spec.proofs.Lists.{bit-back}
 use Rattle.step_spec.proofs.OneToOne.{Stores, only_its_bytes}
 use Rattle.step_header.specs.declared.Header.{Header}
 use Rattle.step_header.specs.Headers.{tuple_of, heap_in, entries_in, Holds}
@@ -28,10 +30,7 @@ fit-slots (t ∷ ts) o = rw (le-leb t.sort 4 o.0.0) (fit-slots ts o.1)
 
 -- a flag is known by its byte
 bit_same : (b c : Bool) → bit b ≡ bit c → b ≡ c
-bit_same true true e = refl
-bit_same false false e = refl
-bit_same true false e = absurd (omega (arith, e))
-bit_same false true e = absurd (omega (arith, e))
+bit_same b c e = sym (bit-back b) ∙ (ap (λ (k : ℕ). eqb k 1) e ∙ bit-back c)
 
 pub record Viewed (P : Prog) (store : List ℕ) (h : Header) (l : Located) : Type 0 where
   pub position : h.position ≡ l.position
@@ -42,7 +41,6 @@ pub record Viewed (P : Prog) (store : List ℕ) (h : Header) (l : Located) : Typ
   pub entries : entries_in store h ≡ environment_of l.cells l.environment
   pub heap_size : h.heap ≡ length (heap_of l.cells)
   pub entries_size : h.entries ≡ length (environment_of l.cells l.environment)
-  pub heap_fits : All SlotOk (heap_of l.cells)
   pub entries_fit : All SlotOk (environment_of l.cells l.environment)
   pub heap_slots : all_slots (heap_in store h) ≡ true
   pub entries_slots : all_slots (entries_in store h) ≡ true
@@ -76,7 +74,6 @@ module _ {P : Prog} {store : List ℕ} {h : Header} {l : Located} where
         entries = N;
         heap_size = k;
         entries_size = n;
-        heap_fits = s.slots.heap;
         entries_fit = s.slots.environment;
         heap_slots = ap all_slots H ∙ fit-slots (heap_of l.cells) s.slots.heap;
         entries_slots = ap all_slots N ∙ fit-slots (environment_of l.cells l.environment) s.slots.environment;
@@ -89,3 +86,8 @@ module _ {P : Prog} {store : List ℕ} {h : Header} {l : Located} where
 
   pub viewed : {M : Machine} → Stored M P store h l → Viewed P store h l
   viewed o = views (reads_of o)
+
+  -- the state has as many entries as the header counts
+  pub environment-count : {M : Machine} → Stored M P store h l → length l.environment ≡ h.entries
+  unfolding environment_of
+  environment-count o = sym ((viewed o).entries_size ∙ length-map l.environment (entry_slot (place_of l.cells)))

@@ -1,18 +1,21 @@
--- One pass over the slots of a store: kinds of records, a value, the turn of the loops. Assumes nothing.
-use Prim.Native.Nat.{ℕ, zero, suc, ◌+◌, ◌-◌, ◌*◌, ◌≤◌, ◌<◌}
-use mathlib.Core.Path.{◌≡◌, refl, sym, ap, ap₂, ◌∙◌}
+-- One pass over the slots of a store. In order: tests of the records of a program; slots by their places; a value; what is left of a pass over the
+-- slots of the cells, and of one over the entries. Assumes nothing.
+use Prim.Native.Nat.{ℕ, ◌+◌, ◌-◌, ◌*◌, ◌≤◌, ◌<◌}
+use mathlib.Core.Path.{◌≡◌, refl, sym, ap, ◌∙◌}
 use mathlib.Core.Bool.{Bool, true, false, ◌&&◌}
-use mathlib.Core.List.{List, [], ◌∷◌}
+use mathlib.Core.List.{List, ◌∷◌}
 use native.Mathlib.Omega.{arith}
 use native.Mathlib.Numerals.{add-one}
 use borrow.Author.Tests.{le-leb, lt-leb, eq-eqb, ne_eqb}
-use lib.Dec.{leb, ltb, eqb}
+use lib.Dec.{leb, eqb}
 use lib.ListN.{drop}
 use Rattle.model.specs.Syntax.{Prog}
 use Rattle.image_spec.specs.Records.{Record}
 use Rattle.step_slots.specs.Slots.{Slot, is_cell_lem}
 use Rattle.step_slots.specs.Views.{slot_at, slots_at}
-use Rattle.step_spec.specs.Store.{first_slot, every_slot, first_record, is_a_statement, is_a_create, statement_at, create_at, value_ok, entry_ok}
+pub use Rattle.step_slots.proofs.SlotPlaces.{slots-drop, slots_next, slots-past}
+use Rattle.step_slots.proofs.SlotPlaces.{slots-first}
+use Rattle.step_spec.specs.Store.{first_slot, every_slot, first_record, is_a_statement, is_a_create, statement_at, create_at, entry_ok}
 use Rattle.step_spec.specs.Scan.{held_ok, head_ok}
 use Rattle.image_directory.specs.declared.Frame.{Frame}
 use Rattle.image_directory.specs.Slots as image
@@ -30,30 +33,6 @@ statement-of i o = ap (λ (rs : List Record). first_record is_a_statement (drop 
 
 -- ── slots by their places ──
 
-pub slots-drop : (s : List ℕ) (at n i : ℕ) → drop i (slots_at s at n) ≡ slots_at s (at + 16 * i) (n - i)
-unfolding slots_at
-slots-drop s at n zero = let k : at ≡ at + 16 * 0 = omega arith in let m : n ≡ n - 0 = omega arith in ap₂ {C = List Slot} (λ (a b : ℕ). slots_at s a b) k m
-slots-drop s at zero (suc i) = let m : 0 ≡ 0 - suc i = omega arith in ap (λ (b : ℕ). slots_at s (at + 16 * suc i) b) m
-slots-drop s at (suc n) (suc i) =
-    let k : at + 16 + 16 * i ≡ at + 16 * suc i = omega arith in
-    let m : n - i ≡ suc n - suc i = omega arith in
-    slots-drop s (at + 16) n i ∙ ap₂ {C = List Slot} (λ (a b : ℕ). slots_at s a b) k m
-
--- the next of n slots from byte `at`
-pub slots_next : (s : List ℕ) (at n i : ℕ) → i < n → slots_at s (at + 16 * i) (n - i) ≡ slot_at s (at + 16 * i) ∷ slots_at s (at + 16 * (i + 1)) (n - (i + 1))
-unfolding slots_at
-slots_next s at n i h =
-    let k : n - i ≡ suc (n - (i + 1)) = omega arith in
-    let m : at + 16 * i + 16 ≡ at + 16 * (i + 1) = omega arith in
-    rw (k, ← m) refl
-
-pub slots-past : (s : List ℕ) (at n i : ℕ) → n ≤ i → slots_at s (at + 16 * i) (n - i) ≡ []
-unfolding slots_at
-slots-past s at n i h = let k : n - i ≡ 0 = omega arith in rw k refl
-
-pub slots-first : (s : List ℕ) (at n : ℕ) → slots_at s (at + 16 * 0) (n - 0) ≡ slots_at s at n
-slots-first s at n = let k : at + 16 * 0 ≡ at = omega arith in let m : n - 0 ≡ n = omega arith in ap₂ {C = List Slot} (λ (a b : ℕ). slots_at s a b) k m
-
 pub cell_at : (s : List ℕ) (at n i : ℕ) → i < n → first_slot is_cell_lem (drop i (slots_at s at n)) ≡ leb 3 (slot_at s (at + 16 * i)).sort
 cell_at s at n i h = ap (first_slot is_cell_lem) (slots-drop s at n i ∙ slots_next s at n i h)
 
@@ -63,37 +42,13 @@ cell-past s at n i h = ap (first_slot is_cell_lem) (slots-drop s at n i ∙ slot
 -- ── a value ──
 
 module _ (P : Prog) (heap : List Slot) where
-  pub value_0 : (k p : ℕ) → k ≡ 0 → value_ok P heap k p ≡ true
-  value_0 k p e = rw e refl
-
-  pub value_1 : (k p : ℕ) → k ≡ 1 → value_ok P heap k p ≡ first_slot is_cell_lem (drop p heap)
-  value_1 k p e = rw e refl
-
-  pub value_2 : (k p : ℕ) → k ≡ 2 → value_ok P heap k p ≡ ltb p 256
-  value_2 k p e = rw e refl
-
-  pub value_3 : (k p : ℕ) → (k ≡ 0 → ⊥) → (k ≡ 1 → ⊥) → (k ≡ 2 → ⊥) → value_ok P heap k p ≡ false
-  value_3 zero p a b c = absurd (a refl)
-  value_3 (suc zero) p a b c = absurd (b refl)
-  value_3 (suc (suc zero)) p a b c = absurd (c refl)
-  value_3 (suc (suc (suc k))) p a b c = refl
-
   -- ── what a cell holds ──
-
-  pub held_none : (k : ℕ) (t : Slot) → k ≡ 0 → held_ok P heap k t ≡ false
-  held_none k t e = rw (eq-eqb k 0 e) refl
 
   pub held-field : (k : ℕ) (t : Slot) → k ≡ 3 → t.id ≡ 0 → held_ok P heap k t ≡ entry_ok P heap t
   held-field k t e i = let z : k ≡ 0 → ⊥ = λ q. absurd (omega (arith, e, q)) in rw (ne_eqb k 0 z, eq-eqb k 3 e, eq-eqb t.id 0 i) refl
 
-  pub held-named : (k : ℕ) (t : Slot) → k ≡ 3 → (t.id ≡ 0 → ⊥) → held_ok P heap k t ≡ false
-  held-named k t e i = let z : k ≡ 0 → ⊥ = λ q. absurd (omega (arith, e, q)) in rw (ne_eqb k 0 z, eq-eqb k 3 e, ne_eqb t.id 0 i) refl
-
   pub held-entry : (k : ℕ) (t : Slot) → (k ≡ 0 → ⊥) → (k ≡ 3 → ⊥) → held_ok P heap k t ≡ entry_ok P heap t
   held-entry k t a b = rw (ne_eqb k 0 a, ne_eqb k 3 b) refl
-
-  pub head_let : (t : Slot) → t.sort ≡ 3 → head_ok P heap t ≡ ltb t.id 65536
-  head_let t e = rw (eq-eqb t.sort 3 e) refl
 
   pub head-create : (t : Slot) → (t.sort ≡ 3 → ⊥) → head_ok P heap t ≡ create_at P t.id
   head-create t e = rw (ne_eqb t.sort 3 e) refl

@@ -23,22 +23,19 @@ use step_slots::{Slot, read};
 pub fn is_statement(image: &Image<'_>, i: u32) -> bool
     ensures { result ≡ first_record is_a_statement (drop i (records_of image.now)) }
 {
-    match look(image, i as usize) {
-        Some(node) => node.kind != Kind::Definition && node.kind != Kind::Clause,
-        None => false,
-    }
+    look(image, i as usize).is_some_and(|node| node.kind != Kind::Definition
+        && node.kind != Kind::Clause)
 }
 
 fn is_create(image: &Image<'_>, i: u32) -> bool
     ensures { result ≡ first_record is_a_create (drop i (records_of image.now)) }
 {
-    match look(image, i as usize) {
-        Some(node) => node.kind == Kind::Create,
-        None => false,
-    }
+    look(image, i as usize).is_some_and(|node| node.kind == Kind::Create)
 }
 
 // Is it the place of a cell's slot? What is no slot counts as one here: it is refused where it stands.
+// (A `match`: with `is_none_or` it stood open that the answer is the definition's; the two arms are the two cases of the proof. The test
+// comes first, since what is read asks for it.)
 fn is_cell(heap: &Heap<'_>, p: u64) -> bool
     ensures { result ≡ first_slot «is_cell_lem» (drop p (slots_of heap.now)) }
 {
@@ -64,7 +61,7 @@ fn value_ok(heap: &Heap<'_>, t: Slot) -> bool
     }
 }
 
-// May a cell with an own slot of this sort hold it? Before the first cell there is none.
+// May a cell with an own slot of this sort hold it? Before the first cell there is none. (A `bool` is answered, so no `?`.)
 fn held_ok(heap: &Heap<'_>, own: Option<Sort>, t: Slot) -> bool
     ensures { (P : Prog) → result ≡ held_ok P (slots_of heap.now) (own_code own) (as_slot t) }
 {
@@ -75,11 +72,13 @@ fn held_ok(heap: &Heap<'_>, own: Option<Sort>, t: Slot) -> bool
         // No cell has such an own slot.
         Sort::Integer => false,
         Sort::LetCell => t.id == 0 && value_ok(heap, t),
+        // A Create's cell; the definition asks no more of the sorts that no own slot has.
         _ => value_ok(heap, t),
     }
 }
 
 // Has a cell's own slot a tag, or the place of a Create?
+// (`_` is a Create's cell: no other slot is asked. The definition has two cases too, so names for the rest would say no more.)
 fn head_ok(image: &Image<'_>, t: Slot) -> bool
     ensures { (P : Prog) (heap : List view.Slot) → Of P image.now.frame image.now.bytes.now → result ≡ head_ok P heap (as_slot t) }
 {
@@ -90,6 +89,8 @@ fn head_ok(image: &Image<'_>, t: Slot) -> bool
 }
 
 // The slots of the cells: numbered from 0, with what each may hold, and as many as the header says.
+// (A loop: what one slot may be hangs on the cells before it, so a `try_fold` would carry the same two variables; `k` counts cells, not slots, so it
+// is no `enumerate`.)
 pub fn cells_ok(image: &Image<'_>, heap: &Heap<'_>, cells: u64) -> bool
     ensures { (P : Prog) → Of P image.now.frame image.now.bytes.now → result ≡ pass P (slots_of heap.now) cells 0 0 (slots_of heap.now) }
 {
@@ -113,7 +114,7 @@ pub fn cells_ok(image: &Image<'_>, heap: &Heap<'_>, cells: u64) -> bool
 }
 
 // The entries of the environment.
-// (A `for` that returns, and no chain with `all`: its closure would need a contract that each index is below the bound.)
+// (A `for` that returns: with `all` it stood open that the closure's answer is the definition's, which speaks of every program.)
 pub fn entries_ok(heap: &Heap<'_>, entries: usize) -> bool
     requires { 64 + 16 * (heap.now.count + entries) ≤ length heap.now.store.now }
     ensures { (P : Prog) → result ≡ every_slot (entry_ok P (slots_of heap.now)) (slots_at heap.now.store.now (64 + 16 * heap.now.count) entries) }

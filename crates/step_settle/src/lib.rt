@@ -27,7 +27,8 @@ pub fn stop(store: &mut [u8], header: Header) -> Header
     }
 }
 
-// The source machine never stops, and a run that has ended does not.
+// The source machine never stops, and a run that has ended does not. `sure`, here, in step_turn and in step_run: a fact about the store that comes with
+// each call of it (`SureIn`); both values give the same answer, the one without looking at the IDs.
 pub fn settle(stepper: &Stepper<'_>, store: &mut [u8], header: Header, sure: bool) -> Header
     requires { (header.position < stepper.now.image.frame.count) × (Holds store.old header × SureIn stepper.now sure store.old header) }
     ensures { Settles (machine_in stepper.now) stepper.now stepper.now.image.bytes.now store.old header store.new result }

@@ -1,35 +1,34 @@
 // The step that ends a run with an outside number: its event is shown with argument values behind it, and of the state only the header is written.
 #![tactic(auto)]
 
-ghost use Rattle.std.specs.Prelude.{[], ◌+◌, ◌*◌, ◌≤◌, ◌<◌, ◌^◌, length};
+ghost use Rattle.std.specs.Prelude.{◌+◌, ◌*◌, ◌/◌, ◌≤◌, ◌<◌, ◌^◌, length};
 ghost use Rattle.step_slots.specs.Views.{slots_at};
-ghost use Rattle.step_header.specs.Headers.{heap_in};
-ghost use Rattle.step_write.specs.Working.{Keeps};
-ghost use Rattle.step_write.specs.Writing.{Ending, Finishes};
-ghost use Rattle.step_show.specs.Showing.{shown_with};
+ghost use Rattle.step_write.specs.Working.{EndingIn};
+ghost use Rattle.step_show.specs.Showing.{ShowsIn};
 
 use step_gather::show;
 use step_header::heap::Heap;
 use step_header::{Header, put_header};
 use step_write::{EventHead, Step, Stop, Work, fits, put_event, store_of};
 
-// The n values are the slots of the store from byte `from` on.
+// The n values are the slots of the store from byte `from` on. (A slice of the store would still be lent while `work` is written.)
 // `from` and `n`: here they are values that are shown, and not slots that stay. `event` and `header` as at `step_write::finish`.
 pub fn finish_showing(
-    work: &mut Work<'_, '_>,
+    work: &mut Work<'_>,
     event: EventHead,
     header: Header,
     from: usize,
     n: usize,
 ) -> Result<Step, Stop>
-    requires { Ending work.old.store.now work.old.events.now work.old.at header × ((64 + 16 * header.heap ≤ from) × (from + 16 * n ≤ length work.old.store.now)) }
-    ensures { Finishes work.old.store.now work.old.events.now work.old.at header (shown_with event (heap_in work.old.store.now header) (slots_at work.old.store.now from n)) 64 [] work.new.store.now work.new.events.now result × Keeps work.old work.new }
+    requires { EndingIn work.old header × ((64 + 16 * header.heap ≤ from) × (from + 16 * n ≤ length work.old.store.now)) }
+    ensures { ShowsIn work.old work.new event header (slots_at work.old.store.now from n) result }
 {
     if !fits(work, header, 16 + 16 * n) {
         return Err(Stop::NoRoom);
     }
     let at = work.at;
     let values = put_event(work.events, at, event);
+    // (Taken out, here and below, while the store is lent: two fields of one `&mut` are not lent at one time, as `Work` says.)
     let events = std::mem::take(&mut work.events);
     let store = store_of(work);
     let heap = Heap {
@@ -42,17 +41,19 @@ pub fn finish_showing(
     Ok(Step { header, at: next })
 }
 
-// The n values are the first slots of scratch.
+// The values are these slots.
+// (Beside `finish_showing`, and not in its place: a state may have more entries than scratch has room for, so they are shown from where they stand. One
+// function of the two would take the slots, which in the one are lent from `work`.)
 pub fn finish_showing_from(
-    work: &mut Work<'_, '_>,
-    scratch: &[u8],
+    work: &mut Work<'_>,
+    slots: &[u8],
     event: EventHead,
     header: Header,
-    n: usize,
 ) -> Result<Step, Stop>
-    requires { Ending work.old.store.now work.old.events.now work.old.at header × ((64 + 16 * header.heap ≤ length work.old.store.now) × ((16 * n ≤ length scratch.now) × (16 + 16 * n < 2 ^ 64))) }
-    ensures { Finishes work.old.store.now work.old.events.now work.old.at header (shown_with event (heap_in work.old.store.now header) (slots_at scratch.now 0 n)) 64 [] work.new.store.now work.new.events.now result × Keeps work.old work.new }
+    requires { EndingIn work.old header × ((64 + 16 * header.heap ≤ length work.old.store.now) × (16 + length slots.now < 2 ^ 64)) }
+    ensures { ShowsIn work.old work.new event header (slots_at slots.now 0 (length slots.now / 16)) result }
 {
+    let n = slots.len() / 16;
     if !fits(work, header, 16 + 16 * n) {
         return Err(Stop::NoRoom);
     }
@@ -63,7 +64,7 @@ pub fn finish_showing_from(
         store: store_of(work),
         count: header.heap as usize,
     };
-    let end = show(&heap, scratch, 0, n, events, values);
+    let end = show(&heap, slots, 0, n, events, values);
     work.events = events;
     put_header(work.store, header);
     Ok(Step { header, at: end })

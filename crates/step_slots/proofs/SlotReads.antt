@@ -1,15 +1,16 @@
 -- Reading and writing sixteen bytes, as code does it. Assumes nothing.
-use Prim.Native.Nat.{ℕ, suc, ◌+◌, ◌-◌, ◌*◌, ◌^◌, ◌≤◌, ◌<◌}
-use mathlib.Core.Path.{◌≡◌, refl, ap, sym, ◌∙◌, subst}
-use mathlib.Core.List.{List, ◌∷◌, ◌++◌, append_assoc}
+use Prim.Native.Nat.{ℕ, zero, suc, ◌+◌, ◌≤◌, ◌<◌}
+use mathlib.Core.Path.{◌≡◌, refl, ap, sym, ◌∙◌}
+use mathlib.Core.List.{List, [], ◌∷◌}
 use native.Mathlib.Omega.{arith}
-use borrow.Author.Tests.{le-leb, lt-leb}
-use lib.ListN.{length, drop, get_or}
+use mathlib.Core.Bool.{Bool, true, false, ◌&&◌}
+use borrow.Author.Tests.{le-leb, lt-leb, leb-true, leb-false, eq-eqb, ne_eqb}
+use lib.Dec.{eqb, leb}
+use Rattle.std.specs.List.{list_all}
+use lib.ListN.{length, take, drop, get_or}
 use lib.Seq.{drop-cons}
 use native.Mathlib.Numerals.{add-one}
-use Rattle.image_spec.specs.Parse.{refused, got, number, field, zeros}
-use Rattle.image_spec.proofs.ParseLaws.{Sound, one-read, number_exact}
-use Rattle.image_integers.proofs.Halves.{field_join}
+use Rattle.image_spec.specs.Parse.{refused, got, and_then, only_if, code, number, zeros}
 use Rattle.step_slots.specs.Slots.{slot, slot_parser}
 use Rattle.step_slots.specs.Views.{no_slot, slot_from, slot_at}
 
@@ -17,47 +18,18 @@ use Rattle.step_slots.specs.Views.{no_slot, slot_from, slot_at}
 pub drop_head : (s : List ℕ) (at : ℕ) → at < length s → drop at s ≡ get_or s at 0 ∷ drop (at + 1) s
 drop_head s at h = drop-cons s at 0 h ∙ ap (λ (k : ℕ). get_or s at 0 ∷ drop k s) (sym (add-one at))
 
--- what a number that was read is written as
-pub record Read (w : ℕ) (l : List ℕ) (n : ℕ) (m : List ℕ) : Type 0 where
-  pub bytes : l ≡ field w n ++ m
-  pub below : n < 256 ^ w
+-- ── zero bytes ──
 
-pub number_read : (w : ℕ) (l : List ℕ) (n : ℕ) (m : List ℕ) → number w l ≡ got n m → Read w l n m
-number_read w l n m e = back (subst (Sound (field w) (λ n. n < 256 ^ w) l) e ((number_exact w).right l))
+-- the first n bytes are tested one by one
+pub zeros-tested : (n : ℕ) (l : List ℕ) → n ≤ length l → zeros n l ≡ only_if (list_all (λ b. eqb b 0) (take n l)) (got tt (drop n l))
+zeros-tested zero l h = refl
+zeros-tested (suc n) [] h = absurd (omega arith)
+zeros-tested (suc n) (b ∷ l) h = go (leb b 0) refl (zeros-tested n l (omega arith))
   where
-    back : {a : ℕ} {m : List ℕ} → Sound (field w) (λ n. n < 256 ^ w) l (got a m) → Read w l a m
-    back (one-read p q) = record { bytes = q; below = p }
-
--- eight bytes are two numbers of four
-pub long-reads : (l m n : List ℕ) (low high : ℕ) → number 4 l ≡ got low m → number 4 m ≡ got high n → number 8 l ≡ got (low + 256 ^ 4 * high) n
-long-reads l m n low high a b =
-    let p = number_read 4 l low m a in
-    let q = number_read 4 m high n b in
-    let v = low + 256 ^ 4 * high in
-    let j : field 8 v ≡ field 4 low ++ field 4 high = field_join 4 4 low high p.below in
-    let e : l ≡ field 8 v ++ n = p.bytes ∙ (ap (λ z. field 4 low ++ z) q.bytes ∙ (sym (append_assoc (field 4 low) (field 4 high) n) ∙ ap (λ z. z ++ n) (sym j))) in
-    let t : v < 256 ^ 8 = omega (arith, p.below, q.below) in
-    ap (number 8) e ∙ (number_exact 8).left v t n
-
--- ── zero bytes, one after the other ──
-
-pub zero_first : (n b : ℕ) (l : List ℕ) → b ≡ 0 → zeros (suc n) (b ∷ l) ≡ zeros n l
-zero_first n b l e = rw e refl
-
-pub zero_not : (n b : ℕ) (l : List ℕ) → (b ≡ 0 → ⊥) → zeros (suc n) (b ∷ l) ≡ refused
-zero_not n b l e = let h : 0 < b = omega arith in rw (lt-leb b 0 h) refl
-
--- the turn of a loop over n bytes from `at`, at the i-th: one more is zero, or one is not
-pub zero_turn : (s : List ℕ) (at n i : ℕ) → i < n → at + n ≤ length s → get_or s (at + i) 0 ≡ 0 → zeros (n - i) (drop (at + i) s) ≡ zeros (n - (i + 1)) (drop (at + (i + 1)) s)
-zero_turn s at n i h r e =
-    let k : n - i ≡ suc (n - (i + 1)) = omega arith in
-    let q : at + i + 1 ≡ at + (i + 1) = omega arith in
-    rw (k, drop_head s (at + i) (omega arith)) (zero_first (n - (i + 1)) _ (drop (at + i + 1) s) e ∙ ap (λ (z : ℕ). zeros (n - (i + 1)) (drop z s)) q)
-
-pub zero_stop : (s : List ℕ) (at n i : ℕ) → i < n → at + n ≤ length s → (get_or s (at + i) 0 ≡ 0 → ⊥) → zeros (n - i) (drop (at + i) s) ≡ refused
-zero_stop s at n i h r e =
-    let k : n - i ≡ suc (n - (i + 1)) = omega arith in
-    rw (k, drop_head s (at + i) (omega arith)) (zero_not (n - (i + 1)) _ (drop (at + i + 1) s) e)
+    go : (t : Bool) → leb b 0 ≡ t → zeros n l ≡ only_if (list_all (λ b. eqb b 0) (take n l)) (got tt (drop n l))
+        → and_then (code 0 (b ∷ l)) (λ _ m. zeros n m) ≡ only_if (eqb b 0 && list_all (λ b. eqb b 0) (take n l)) (got tt (drop n l))
+    go true e rest = let is_zero : b ≡ 0 = omega (arith, leb-true b 0 e) in rw (e, eq-eqb b 0 is_zero) rest
+    go false e rest = let above : 0 < b = omega (arith, leb-false b 0 e) in rw (e, ne_eqb b 0 (λ q. absurd (omega (arith, q, above)))) refl
 
 -- ── a slot ──
 

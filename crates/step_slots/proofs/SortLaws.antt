@@ -1,6 +1,6 @@
--- The sorts by name and by byte, the test whether two are one, and slots with a sort by name. In order: a byte belongs to one sort; the test of two
--- sorts is that of their bytes, and what `!=` says of `==`; what is found where there is a slot, and where there is none. Assumes nothing.
-use Rattle.std.specs.Prelude.{Option, Some, None}
+-- The sorts by name and by byte, and slots with a sort by name. In order: a byte belongs to one sort; where two sorts test as one their bytes are
+-- one, and else not, and what `!=` says of `==`; what code has for a slot is one, and what it has for none is not. Assumes nothing.
+use Rattle.std.specs.Prelude.{Some, None}
 use Prim.Native.Nat.{ℕ, ◌≤◌}
 use mathlib.Core.List.{List, [], ◌∷◌}
 use mathlib.Core.Path.{◌≡◌, refl, ap, sym, ◌∙◌}
@@ -9,7 +9,6 @@ use native.Mathlib.Omega.{arith}
 use borrow.Author.Rules.{rules}
 use borrow.Author.Tests.{le-leb}
 use lib.ListN.{get_or}
-use lib.Dec.{eqb}
 use denote.Enum.Declared.{tag_of}
 use denote.Enum.Bare.{sameb, same_true, same_false}
 use Rattle.step_slots.specs.contracts.sort.Sort.{the_type as sort_type}
@@ -55,9 +54,6 @@ sort-number CreateCell = refl
 
 -- ── the test of two sorts is that of their bytes ──
 
-pub same-codes : (a b : Sort) → sameb sort_type a b ≡ eqb (sort_code a) (sort_code b)
-same-codes a b = rw (sort-number a, sort-number b) refl
-
 pub codes_same : (a b : Sort) {t : Bool} → t ≡ sameb sort_type a b → t ≡ true → sort_code a ≡ sort_code b
 codes_same a b e h = ap sort_code (same_true sort_type (search rules) a b (sym e ∙ h))
 
@@ -78,26 +74,7 @@ alike {b = false} e h = absurd (true≢false (sym e ∙ h))
 pub slot-is : (t : code.Slot) → is_slot (as_slot t) ≡ true
 slot-is t = le-leb (sort_code t.sort) 4 (sort-below t.sort)
 
-abbrev made : Sort → ℕ → ℕ → code.Slot
-made s i p = record { sort = s; id = i; payload = p }
-
--- two of the same view are one
-pub same_slot : (a b : code.Slot) → as_slot a ≡ as_slot b → a ≡ b
-same_slot a b e =
-    let s : a.sort ≡ b.sort = same-sort a.sort b.sort (ap (λ (t : Slot). t.sort) e) in
-    let i : a.id ≡ b.id = ap (λ (t : Slot). t.id) e in
-    let p : a.payload ≡ b.payload = ap (λ (t : Slot). t.payload) e in
-    ap (λ (x : Sort). made x a.id a.payload) s ∙ (ap (λ (x : ℕ). made b.sort x a.payload) i ∙ ap (λ (x : ℕ). made b.sort b.id x) p)
-
--- what is found is a slot exactly if there is one
-pub found-is : (o : Option code.Slot) (t : code.Slot) → o ≡ Some t → is_slot (found_slot o) ≡ true
-found-is o t e = rw e (slot-is t)
-
-pub found_none : (o : Option code.Slot) → is_slot (found_slot o) ≡ false → o ≡ None
-found_none None h = refl
-found_none (Some t) h = absurd (true≢false (sym (slot-is t) ∙ h))
-
--- .. so at a place where the view is known
+-- .. so where a slot was read, or none
 pub none_there : {t : Slot} → found_slot None ≡ t → is_slot t ≡ false
 none_there e = rw (← e) refl
 

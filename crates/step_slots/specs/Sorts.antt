@@ -1,6 +1,6 @@
 -- The sorts of slots by their bytes.
 use Rattle.std.specs.Prelude.{ℕ, ◌≡◌, ◌≤◌, Option, Some, None, Result, MatchResult}
-use Rattle.step_slots.specs.declared.sort.NoSort.{NoSort}
+use Rattle.syntax.specs.declared.codes.NoCode.{NoCode}
 use Rattle.step_slots.specs.declared.sort.Sort.{Sort}
 use Rattle.step_slots.specs.declared.sort.Sort.TheVariants.{Integer, Cell, Outside, LetCell, CreateCell}
 
@@ -18,5 +18,5 @@ own_code None = 0
 own_code (Some s) = sort_code s
 
 -- the result is the sort with this byte, or an error with a byte that no sort has
-abbrev pub Decodes : ℕ → Result Sort NoSort → Type 0
+abbrev pub Decodes : ℕ → Result Sort NoCode → Type 0
 Decodes code r = MatchResult r (λ s. sort_code s ≡ code) (λ e. (e.0 ≡ code) × (5 ≤ code))

@@ -30,6 +30,7 @@ slots_at s at (suc n) = slot_at s at ∷ slots_at s (at + 16) n
 abbrev pub is_slot : Slot → Bool
 is_slot t = leb t.sort 4
 
+-- (Asked of bytes that are written, or lent without a header; of a store at rest a `State` carries it.)
 abbrev pub all_slots : List Slot → Bool
 all_slots [] = true
 all_slots (t ∷ ts) = is_slot t && all_slots ts

@@ -7,13 +7,12 @@ ghost use Rattle.std.specs.Prelude.{◌≡◌, ◌∷◌, [], ◌+◌, ◌≤◌
 ghost use Rattle.image_spec.specs.Parse.{got, number, field, zeros, only_if};
 ghost use Rattle.image_write_parts.specs.Puts.{Puts};
 ghost use Rattle.step_slots.specs.Slots.{slot, slot_bytes, as_slot};
-ghost use Rattle.step_slots.specs.Views.{slot_at, found_slot};
+ghost use Rattle.step_slots.specs.Views.{slot_at, found_slot, no_slot};
 
 use crate::sort::Sort;
 use image_fields::number;
-use image_write_parts::store_pair;
 
-// What the sixteen bytes hold: a sort, an ID, a tag or a place, and 64 bits.
+// What the sixteen bytes hold: a sort, an ID, a tag or a place, and 64 bits. (`id` is no `VarId`: which of the three it is, the sort says.)
 #[derive(Clone, Copy, Debug, PartialEq, Eq)]
 pub struct Slot {
     pub sort: Sort,
@@ -21,8 +20,9 @@ pub struct Slot {
     pub payload: u64,
 }
 
-// Bytes and a place (`s, at` and `out, at`, also in step_header): callers work out places in stores; a `Writer` goes on from its own.
+// Bytes and a place (`s, at` and `out, at`, also in step_header, step_entries and step_gather): callers work out places in stores; a `Writer` goes on from its own.
 // The number in the eight bytes from at, the lowest first.
+// (In halves, which become one load. `u64::from_le_bytes` takes an array, which is filled first: in a loop it took up to three times as long.)
 pub fn long_at(s: &[u8], at: usize) -> u64
     requires { at + 8 ≤ length s.now }
     ensures { «number» 8 (drop at s.now) ≡ got result (drop (at + 8) s.now) }
@@ -38,12 +38,7 @@ pub fn all_zero(s: &[u8], at: usize, n: usize) -> bool
     requires { at + n ≤ length s.now }
     ensures { zeros n (drop at s.now) ≡ only_if result (got tt (drop (at + n) s.now)) }
 {
-    for i in 0..n {
-        if s[at + i] != 0 {
-            return false;
-        }
-    }
-    true
+    s[at..at + n].iter().all(|byte| *byte == 0)
 }
 
 // The slot from at; none where the sixteen bytes are no slot's.
@@ -51,6 +46,7 @@ pub fn read(s: &[u8], at: usize) -> Option<Slot>
     requires { at + 16 ≤ length s.now }
     ensures { found_slot result ≡ slot_at s.now at }
 {
+    // (A `let .. else`: its two ways are the two cases of the proof.)
     let Ok(sort) = Sort::try_from(s[at]) else {
         return None;
     };
@@ -63,12 +59,13 @@ pub fn read(s: &[u8], at: usize) -> Option<Slot>
 }
 
 // The four bytes of n, the lowest first. Here and below the caller has asked for the room once, so that no byte is tested by itself.
+// (The room stays a `requires`: the place is another at each call, so a value that carries bytes, place and room would be made anew for each.)
 pub fn put_four(out: &mut [u8], at: usize, n: u32) -> usize
     requires { at + 4 ≤ length out.old }
     ensures { Puts out.old out.new at result (field 4 n) }
 {
-    let next = store_pair(out, at, n);
-    store_pair(out, next, n / 65536)
+    out[at..at + 4].copy_from_slice(&n.to_le_bytes());
+    at + 4
 }
 
 // The eight bytes of n, the lowest first.
@@ -76,11 +73,11 @@ pub fn put_long(out: &mut [u8], at: usize, n: u64) -> usize
     requires { at + 8 ≤ length out.old }
     ensures { Puts out.old out.new at result (field 8 n) }
 {
-    let next = put_four(out, at, (n % 0x1_0000_0000) as u32);
-    put_four(out, next, (n / 0x1_0000_0000) as u32)
+    out[at..at + 8].copy_from_slice(&n.to_le_bytes());
+    at + 8
 }
 
-// A sort, and three zero bytes. (The sort as a byte: slots that are none are written too, decision 99.) Four stores, which become one where the places are known (docs/SPEED.md).
+// A sort, and three zero bytes. (The sort as a byte: what is no slot is written too.) Four stores, which become one where the places are known (docs/SPEED.md).
 fn put_sort(out: &mut [u8], at: usize, sort: u8) -> usize
     requires { at + 4 ≤ length out.old }
     ensures { Puts out.old out.new at result (sort ∷ 0 ∷ 0 ∷ 0 ∷ []) }
@@ -93,7 +90,7 @@ fn put_sort(out: &mut [u8], at: usize, sort: u8) -> usize
 }
 
 // Sixteen bytes with this one first, an ID and 64 bits; they are a slot's where the first is a sort's.
-pub fn put_parts(out: &mut [u8], at: usize, sort: u8, id: u32, payload: u64) -> usize
+fn put_parts(out: &mut [u8], at: usize, sort: u8, id: u32, payload: u64) -> usize
     requires { at + 16 ≤ length out.old }
     ensures { Puts out.old out.new at result (slot_bytes (slot sort id payload)) }
 {
@@ -102,9 +99,18 @@ pub fn put_parts(out: &mut [u8], at: usize, sort: u8, id: u32, payload: u64) -> 
     put_long(out, after_id, payload)
 }
 
+// A slot.
 pub fn put_slot(out: &mut [u8], at: usize, t: Slot) -> usize
     requires { at + 16 ≤ length out.old }
     ensures { Puts out.old out.new at result (slot_bytes (as_slot t)) }
 {
     put_parts(out, at, t.sort as u8, t.id, t.payload)
+}
+
+// Sixteen bytes that are no slot's.
+pub fn put_none(out: &mut [u8], at: usize) -> usize
+    requires { at + 16 ≤ length out.old }
+    ensures { Puts out.old out.new at result (slot_bytes no_slot) }
+{
+    put_parts(out, at, 5, 0, 0)
 }

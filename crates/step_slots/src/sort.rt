@@ -2,6 +2,8 @@
 ghost use Rattle.std.specs.Prelude.{◌≡◌, leb};
 ghost use Rattle.step_slots.specs.Sorts.{sort_code, Decodes};
 
+use syntax::codes::NoCode;
+
 // An integer, a cell by the place of its own slot, an outside number; and the own slots of a Let's cell and of a Create's.
 #[derive(Clone, Copy, Debug, PartialEq, Eq)]
 pub enum Sort {
@@ -21,23 +23,19 @@ impl Sort {
     }
 }
 
-// A byte that stands for no sort.
-#[derive(Clone, Copy, Debug, PartialEq, Eq)]
-pub struct NoSort(pub u8);
-
 impl TryFrom<u8> for Sort {
-    type Error = NoSort;
+    type Error = NoCode;
 
     ghost try_from_gives = { Decodes };
 
-    fn try_from(code: u8) -> Result<Self, NoSort> {
+    fn try_from(code: u8) -> Result<Self, NoCode> {
         match code {
             0 => Ok(Sort::Integer),
             1 => Ok(Sort::Cell),
             2 => Ok(Sort::Outside),
             3 => Ok(Sort::LetCell),
             4 => Ok(Sort::CreateCell),
-            _ => Err(NoSort(code)),
+            _ => Err(NoCode(code)),
         }
     }
 }

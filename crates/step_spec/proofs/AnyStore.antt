@@ -89,7 +89,8 @@ module _ (L : Layout) (w : L.id ≤ 4) where
   linear-from-store = from-store (linear_stepper L) linear_lawful (read-readable L w)
 
 -- the state's bytes in front of any others are a store with that state: to move a store is to copy its state's bytes
-pub copied : (P : Prog) → length (records_in P) < 256 ^ 4 → (s : List ℕ) → length s < 2 ^ 64 → (l : Located) → state_from P s ≡ some l → (rest : List ℕ) → state_from P (take (store_size l) s ++ rest) ≡ some l
+pub copied : (P : Prog) → length (records_in P) < 256 ^ 4 → (s : List ℕ) → length s < 2 ^ 64 → (l : Located) → state_from P s ≡ some l → (rest : List ℕ)
+    → state_from P (take (store_size l) s ++ rest) ≡ some l
 copied P few s k l e rest =
     let h = only_its_bytes P s l e in
     let t : take (store_size l) s ≡ store_bytes l = ap (take (store_size l)) h.bytes ∙ take_at (store_bytes l) h.rest (store_size l) (store-size l) in

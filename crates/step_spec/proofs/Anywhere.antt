@@ -2,11 +2,9 @@
 -- scope/proofs/Inside.antt, which has the same walk for question 13.) Assumes nothing.
 use Prim.Native.Nat.{ℕ, zero, suc, ◌+◌, ◌-◌, ◌≤◌, ◌<◌}
 use mathlib.Core.Path.{◌≡◌, refl, sym, ap, ◌∙◌, subst}
-use mathlib.Core.Bool.{Bool, true, false, false≢true}
+use mathlib.Core.Bool.{true, false, false≢true}
 use mathlib.Core.List.{List, [], ◌∷◌, append-nil}
 use native.Mathlib.Omega.{arith}
-use borrow.Author.Tests.{ltb-true, ltb-false}
-use lib.Dec.{ltb}
 use lib.ListN.{length, drop, length-append}
 use Rattle.model.specs.Syntax.{Stmt, Clauses, end, clause, Def, Prog}
 use Rattle.image_spec.specs.Parse.{each, All}
@@ -15,6 +13,7 @@ use Rattle.image_spec.specs.Kinds.{kind_of, clauses_of, bodies}
 use Rattle.image_spec.specs.Shape.{flatten, flatten_clauses, flatten_def, flatten_defs, DefOk, max_depth}
 use Rattle.image_places_spec.specs.Views.{record_of, clauses_in, bodies_of}
 use Rattle.image_places_spec.specs.Places.{Begins, StmtStands, ClausesStand, BodiesStand}
+use Rattle.image_places_spec.proofs.Runs.{at_place, in_two, no_place}
 use Rattle.image_places_spec.proofs.PlaceLaws.{stmt-parts, clause-parts, body-parts, begins-left, begins-right, begins-head}
 use Rattle.step_spec.specs.Located.{Kept, held, made, Located, records_in}
 use Rattle.step_spec.specs.Store.{is_a_statement, is_a_create, first_record, statement_at, create_at, KeptFits, Fits}
@@ -28,26 +27,6 @@ record Some (d : ℕ) (rs : List Record) (j : ℕ) : Type 0 where
 
 weaker : {d : ℕ} {rs : List Record} {j : ℕ} (e : ℕ) → d ≤ e → Some d rs j → Some e rs j
 weaker e h s = record { stmt = s.stmt; stands = deeper e h s.stands }
-
--- a place in a run of records: the first, in the a after it, or in the b after those
-at_place : {R : Type 0} (i a b j : ℕ) → i ≤ j → j < i + (1 + a + b) → (i ≡ j → R) → (i + 1 ≤ j → j < i + 1 + a → R) → (i + 1 + a ≤ j → j < i + 1 + a + b → R) → R
-at_place {R} i a b j l h here first then = go (ltb i j) refl (ltb j (i + 1 + a)) refl
-  where
-    go : (t : Bool) → ltb i j ≡ t → (u : Bool) → ltb j (i + 1 + a) ≡ u → R
-    go false e u k = here (omega (arith, ltb-false i j e))
-    go true e true k = first (omega (arith, ltb-true i j e)) (ltb-true j (i + 1 + a) k)
-    go true e false k = then (ltb-false j (i + 1 + a) k) (omega arith)
-
-in_two : {R : Type 0} (i a b j : ℕ) → i ≤ j → j < i + (a + b) → (j < i + a → R) → (i + a ≤ j → j < i + a + b → R) → R
-in_two {R} i a b j l h first then = go (ltb j (i + a)) refl
-  where
-    go : (u : Bool) → ltb j (i + a) ≡ u → R
-    go true k = first (ltb-true j (i + a) k)
-    go false k = then (ltb-false j (i + a) k) (omega arith)
-
-no_place : {i j : ℕ} → i ≤ j → j < i + length (flatten_clauses end) → ⊥
-unfolding flatten
-no_place l h = omega arith
 
 -- a record of another kind is not at the place
 not_here : (rs : List Record) (i j : ℕ) (r : Record) → drop i rs ≡ r ∷ drop (i + 1) rs → is_a_statement r ≡ false → i ≡ j → first_record is_a_statement (drop j rs) ≡ true → ⊥
@@ -82,7 +61,8 @@ in_stmt (suc d) t rs i j s l h f =
     let less : suc d - 1 ≡ d = omega arith in
     at_place i (length (flatten_clauses (clauses_in t))) (length (each flatten (bodies_of t))) j l (omega (arith, p.size, h))
     (λ e. record { stmt = t; stands = subst (λ (z : ℕ). StmtStands (suc d) rs z t) e s })
-    (λ a b. weaker (suc d) (omega arith) (in_clauses_lem d (in_stmt d) (clauses_in t) _ rs _ j (subst (λ (e : ℕ). ClausesStand e (clauses_of (record_of t)) rs (i + 1) (clauses_in t)) less p.clauses) a b f))
+    (λ a b. weaker (suc d) (omega arith) (in_clauses_lem d (in_stmt d) (clauses_in t) _ rs _ j
+    (subst (λ (e : ℕ). ClausesStand e (clauses_of (record_of t)) rs (i + 1) (clauses_in t)) less p.clauses) a b f))
     (λ a b. weaker (suc d) (omega arith) (in_bodies d (in_stmt d) (bodies_of t) _ rs _ j
     (subst (λ (e : ℕ). BodiesStand e (bodies (kind_of (record_of t))) rs (i + 1 + length (flatten_clauses (clauses_in t))) (bodies_of t)) less p.bodies) a b f))
 

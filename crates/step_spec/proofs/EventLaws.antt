@@ -83,9 +83,11 @@ shown-back (v ∷ vs) h = ap₂ {C = List Value} (λ (a : Value) (b : List Value
 -- an event is read from its bytes
 pub event-read : (e : Event) → EventFits e → (l : List ℕ) → event_parser (event_bytes e ++ l) ≡ got e l
 unfolding event_bytes
-event-read (Literal' z) h l = reads (8, (0, (0, (0, of_z w64 z)))) [] l (omega arith, (omega arith, (omega arith, (omega arith, bits z h)))) refl tt ∙ ap (λ (y : ℤ). got (Literal' y) l) (to_z-of_z w64 z h)
+event-read (Literal' z) h l = reads (8, (0, (0, (0, of_z w64 z)))) [] l (omega arith, (omega arith, (omega arith, (omega arith, bits z h)))) refl tt
+    ∙ ap (λ (y : ℤ). got (Literal' y) l) (to_z-of_z w64 z h)
 event-read (Op' z) h l = reads (9, (0, (0, (0, of_z w64 z)))) [] l (omega arith, (omega arith, (omega arith, (omega arith, bits z h)))) refl tt ∙ ap (λ (y : ℤ). got (Op' y) l) (to_z-of_z w64 z h)
-event-read (IfC' b) h l = reads (10, (bit b, (0, (0, 0)))) [] l (omega arith, (omega (arith, bit-small b), (omega arith, (omega arith, omega arith)))) refl tt ∙ ap (λ (y : Bool). got (IfC' y) l) (bit-back b)
+event-read (IfC' b) h l = reads (10, (bit b, (0, (0, 0)))) [] l
+    (omega arith, (omega (arith, bit-small b), (omega arith, (omega arith, omega arith)))) refl tt ∙ ap (λ (y : Bool). got (IfC' y) l) (bit-back b)
 event-read (Let' k tag) h l = reads (4, (1, (tag.0, (0, k)))) [] l (omega arith, (omega arith, (h.0, (omega arith, h.1)))) refl tt
 event-read (Create' k) h l = reads (6, (1, (0, (0, k)))) [] l (omega arith, (omega arith, (omega arith, (omega arith, h)))) refl tt
 event-read (Switch' k tag) h l = reads (5, (1, (tag.0, (0, k)))) [] l (omega arith, (omega arith, (h.0, (omega arith, h.1)))) refl tt
@@ -93,7 +95,8 @@ event-read (Invoke' k tag) h l = reads (7, (1, (tag.0, (0, k)))) [] l (omega ari
 event-read (Call' f) h l = reads (3, (0, (f.0, (0, 0)))) [] l (omega arith, (omega arith, (h, (omega arith, omega arith)))) refl tt
 event-read (Outside' n tag args) h l =
     ap event_parser (append_assoc (event_head 7 2 tag.0 (length args) n) (each slot_bytes (map shown_slot args)) l)
-    ∙ (reads (7, (2, (tag.0, (length args, n)))) (map shown_slot args) l (omega arith, (omega arith, (h.0, (h.2, h.1)))) (length-map args shown_slot) (all_map ShownFits SlotOk shown_slot args shown-fits h.3)
+    ∙ (reads (7, (2, (tag.0, (length args, n)))) (map shown_slot args) l (omega arith, (omega arith, (h.0, (h.2, h.1)))) (length-map args shown_slot)
+    (all_map ShownFits SlotOk shown_slot args shown-fits h.3)
     ∙ ap (λ (vs : List Value). got (Outside' n tag vs) l) (shown-back args h.3))
 event-read (PrintI64' newline z) h l =
     reads (12, (bit newline, (0, (0, of_z w64 z)))) [] l (omega arith, (omega (arith, bit-small newline), (omega arith, (omega arith, bits z h)))) refl tt

@@ -38,7 +38,8 @@ module _ (K new : List Kept) where
 
   block_stays : (P : Prog) (k : ℕ) (c : Kept) → KeptFits P (length K) c → block_of (place_of (K ++ new)) k c ≡ block_of (place_of K) k c
   block_stays P k (held tag fields) h =
-      ap (λ (z : List Slot). (record { sort = 3; id = tag.0; payload = k }, z)) (map_same (ValueFits (length K)) (value_slot (place_of (K ++ new)) 0) (value_slot (place_of K) 0) fields (value_stays 0) h.1)
+      ap (λ (z : List Slot). (record { sort = 3; id = tag.0; payload = k }, z))
+      (map_same (ValueFits (length K)) (value_slot (place_of (K ++ new)) 0) (value_slot (place_of K) 0) fields (value_stays 0) h.1)
   block_stays P k (made i entries) h =
       ap (λ (z : List Slot). (record { sort = 4; id = i; payload = k }, z))
       (map_same (EntryFits (length K)) (entry_slot (place_of (K ++ new))) (entry_slot (place_of K)) entries (λ e f. value_stays e.0.0 e.1 f.1) h.1)

@@ -10,7 +10,8 @@ use native.Mathlib.Omega.{arith}
 use Rattle.syntax.specs.Context.{Context}
 use Rattle.syntax.specs.declared.names.Name.{Name}
 use Rattle.model.specs.Syntax.{Stmt, Clauses, Prog}
-use Rattle.model.specs.Machine.{Value, int, cell, outside, Entries, Cell, Cells, State, at, ended, Event, IfC', Invoke', Outcome, shows, silent, halts, stops, or_halt, nth, find_clause_lem, clo, as_closure, invoked}
+use Rattle.model.specs.Machine.{Value, int, cell, outside, Entries, Cell, Cells, State, at, ended, Event, IfC', Invoke', Outcome, shows, silent, halts, stops}
+use Rattle.model.specs.Machine.{or_halt, nth, find_clause_lem, clo, as_closure, invoked}
 use Rattle.image_spec.specs.Parse.{All}
 use Rattle.image_spec.specs.Shape.{max_depth}
 use Rattle.image_places_spec.specs.Views.{clauses_in, bodies_of}

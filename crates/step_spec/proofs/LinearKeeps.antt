@@ -12,7 +12,8 @@ use Rattle.syntax.specs.declared.names.Name.{Name}
 use Rattle.model.specs.Syntax.{Stmt, Substitute, Call, Let, Switch, Create, Invoke, Literal, Op, IfC, PrintI64, Exit, Prog}
 use Rattle.model.specs.Lists.{lookup, lookups}
 use Rattle.model.specs.Integers.{eval_op, holds}
-use Rattle.model.specs.Machine.{Value, int, cell, Entries, keys, values, xtor, closure, Cells, State, at, ended, Event, Switch', Invoke', Call', Outcome, pair_up, find_def, find_clause_lem, as_int, second, matched, Target, out, clo, invoked, Let', Create', Literal', Outside'}
+use Rattle.model.specs.Machine.{Value, int, cell, Entries, keys, values, xtor, closure, Cells, State, at, ended, Event, Switch', Invoke', Call', Outcome}
+use Rattle.model.specs.Machine.{pair_up, find_def, find_clause_lem, as_int, second, matched, Target, out, clo, invoked, Let', Create', Literal', Outside'}
 use Rattle.model.specs.Linear.{last_of, before_last, sources, targets, in_order_lem, stop_unless, shows_unless_twice, last_value_lem, size_of, linear_enter_lem, linear_work, linear_step_lem}
 use Rattle.image_spec.specs.Parse.{All}
 use Rattle.image_spec.specs.Records.{RecordOk}
@@ -20,7 +21,9 @@ use Rattle.image_spec.specs.Shape.{flatten, flatten_clauses}
 use Rattle.step_spec.specs.Store.{ValueFits, EntryFits}
 use Rattle.step_spec.proofs.Lists.{all-++, all_left, all_right, all_take, all_drop}
 use Rattle.step_arithmetic.proofs.Operations.{eval_op-fits}
-use Rattle.step_spec.proofs.Representable.{values-fit, lookup-fits, lookups-fit, paired-fit, zipped-fit, int-fits, id-fits, ids-fit, targets-fit, clause-ok, def-ok, DefsOk, Holds, StateFits, Keeps, keeps-shows, keeps-silent, keeps-halts, keeps-stops, or_keeps, matched-fits, invoked-fits, out-fits, new-number, EventHolds, last_fits, entry-later, values-later, one_more, branch-ok}
+use Rattle.step_spec.proofs.Representable.{values-fit, lookup-fits, lookups-fit, paired-fit, zipped-fit, int-fits, id-fits, ids-fit, targets-fit, clause-ok}
+use Rattle.step_spec.proofs.Representable.{def-ok, DefsOk, Holds, StateFits, Keeps, keeps-shows, keeps-silent, keeps-halts, keeps-stops, or_keeps, matched-fits}
+use Rattle.step_spec.proofs.Representable.{invoked-fits, out-fits, new-number, EventHolds, last_fits, entry-later, values-later, one_more, branch-ok}
 
 module _ (w : ℕ) (narrow : 256 ^ w ≤ 256 ^ 4) (P : Prog) (defs : DefsOk w narrow P.defs) where
   abbrev Ks : Outcome → Type 0
@@ -39,7 +42,8 @@ module _ (w : ℕ) (narrow : 256 ^ w ≤ 256 ^ 4) (P : Prog) (defs : DefsOk w na
   last : (n k : ℕ) (ε : Entries) → All (EntryFits n) ε → All (EntryFits n) (last_of k ε)
   last n k ε h = all_drop (EntryFits n) (length ε - k) ε h
 
-  enters : (t : Stmt) (ε : Entries) (K : Cells) (v : Value) (tag : Name) (args : List Value) (g : Target) → Holds w narrow (length K) t ε K → tag.0 < 256 ^ 2 → ValueFits (length K) v → All (ValueFits (length K)) args → invoked K v ≡ some g
+  enters : (t : Stmt) (ε : Entries) (K : Cells) (v : Value) (tag : Name) (args : List Value) (g : Target) → Holds w narrow (length K) t ε K → tag.0 < 256 ^ 2
+      → ValueFits (length K) v → All (ValueFits (length K)) args → invoked K v ≡ some g
       → Ks (linear_enter_lem (ended t ε K) tag args K g)
   unfolding linear_enter_lem
   enters t ε K v tag args (out n) h b u a e = keeps-shows {e = Outside' n tag args} {s = ended t ε K} (b, out-fits w narrow (length K) K v n u e, a) h
@@ -48,21 +52,28 @@ module _ (w : ℕ) (narrow : 256 ^ w ≤ 256 ^ 4) (P : Prog) (defs : DefsOk w na
       or_keeps w narrow (find_clause_lem tag cs) _ λ c f.
       or_keeps w narrow (pair_up (ids c.0) args) _ λ new g.
       let o = clause-ok w narrow tag cs c r.1 f in
-      once (Invoke' j tag) c.1 (new ++ η) K (b, r.2) (record { stmt = o.1; entries = all-++ (EntryFits (length K)) new η (paired-fit (length K) (ids c.0) args new (ids-fit w narrow c.0 o.0) a g) r.0; cells = h.cells })
+      let entries = all-++ (EntryFits (length K)) new η (paired-fit (length K) (ids c.0) args new (ids-fit w narrow c.0 o.0) a g) r.0 in
+      once (Invoke' j tag) c.1 (new ++ η) K (b, r.2) (record { stmt = o.1; entries = entries; cells = h.cells })
 
   works : (t : Stmt) (ε : Entries) (K : Cells) → Holds w narrow (length K) t ε K → Ks (linear_work P t ε K)
   unfolding linear_work flatten RecordOk
   works (Substitute ps next) ε K h =
       or_keeps w narrow (lookups (sources ps) ε) _ λ vs e.
-      keeps-silent (record { stmt = h.stmt.1; entries = zipped-fit (length K) (targets ps) vs (targets-fit w narrow ps h.stmt.0.1) (lookups-fit (length K) (sources ps) ε vs h.entries e); cells = h.cells })
+      let entries = zipped-fit (length K) (targets ps) vs (targets-fit w narrow ps h.stmt.0.1) (lookups-fit (length K) (sources ps) ε vs h.entries e) in
+      keeps-silent (record { stmt = h.stmt.1; entries = entries; cells = h.cells })
   works (Call label args) ε K h =
       or_keeps w narrow (find_def label.name P.defs) _ λ d f.
       or_keeps w narrow (pair_up (ids d.context) (values ε)) _ λ ε' g.
       let o = def-ok w narrow label.name P.defs d defs f in
-      once (Call' label.name) d.body ε' K h.stmt.0.0.0 (record { stmt = o.1; entries = paired-fit (length K) (ids d.context) (values ε) ε' (ids-fit w narrow d.context o.0) (values-fit (length K) ε h.entries) g; cells = h.cells })
+      let entries = paired-fit (length K) (ids d.context) (values ε) ε' (ids-fit w narrow d.context o.0) (values-fit (length K) ε h.entries) g in
+      once (Call' label.name) d.body ε' K h.stmt.0.0.0 (record { stmt = o.1; entries = entries; cells = h.cells })
   works (Let var ty tag args next) ε K h =
-      keeps-shows {e = Let' (length K) tag.name} (h.stmt.0.1.1.0.0, new-number K (xtor tag.name (values (last_of (length args) ε)))) (one_more w narrow next (before_last (length args) ε ++ ((var.id, cell (length K)) ∷ [])) K (xtor tag.name (values (last_of (length args) ε))) h.stmt.1
-      (all-++ (EntryFits (suc (length K))) (before_last (length args) ε) ((var.id, cell (length K)) ∷ []) (entry-later w narrow (length K) (before_last (length args) ε) (before (length K) (length args) ε h.entries)) ((id-fits w narrow var h.stmt.0.0, omega arith), tt)) h.cells
+      let left = before_last (length args) ε in
+      let made = xtor tag.name (values (last_of (length args) ε)) in
+      let new = (var.id, cell (length K)) ∷ [] in
+      keeps-shows {e = Let' (length K) tag.name} (h.stmt.0.1.1.0.0, new-number K made) (one_more w narrow next (left ++ new) K made h.stmt.1
+      (all-++ (EntryFits (suc (length K))) left new (entry-later w narrow (length K) left (before (length K) (length args) ε h.entries))
+      ((id-fits w narrow var h.stmt.0.0, omega arith), tt)) h.cells
       (h.stmt.0.1.1.0.0, values-later w narrow (length K) (values (last_of (length args) ε)) (values-fit (length K) (last_of (length args) ε) (last (length K) (length args) ε h.entries))))
   works (Switch var ty cs) ε K h =
       or_keeps w narrow (last_value_lem ε) _ λ v _.
@@ -77,15 +88,24 @@ module _ (w : ℕ) (narrow : 256 ^ w ≤ 256 ^ 4) (P : Prog) (defs : DefsOk w na
         cells = h.cells;
       })
   works (Create var ty env cs next) ε K h =
-      keeps-shows {e = Create' (length K)} (new-number K (closure (last_of (size_of env) ε) cs)) (one_more w narrow next (before_last (size_of env) ε ++ ((var.id, cell (length K)) ∷ [])) K (closure (last_of (size_of env) ε) cs) (all_right (RecordOk w) (flatten_clauses cs) (flatten next) h.stmt.1)
-      (all-++ (EntryFits (suc (length K))) (before_last (size_of env) ε) ((var.id, cell (length K)) ∷ []) (entry-later w narrow (length K) (before_last (size_of env) ε) (before (length K) (size_of env) ε h.entries)) ((id-fits w narrow var h.stmt.0.0, omega arith), tt)) h.cells
+      let left = before_last (size_of env) ε in
+      let made = closure (last_of (size_of env) ε) cs in
+      let new = (var.id, cell (length K)) ∷ [] in
+      keeps-shows {e = Create' (length K)} (new-number K made) (one_more w narrow next (left ++ new) K made
+      (all_right (RecordOk w) (flatten_clauses cs) (flatten next) h.stmt.1)
+      (all-++ (EntryFits (suc (length K))) left new (entry-later w narrow (length K) left (before (length K) (size_of env) ε h.entries))
+      ((id-fits w narrow var h.stmt.0.0, omega arith), tt)) h.cells
       (entry-later w narrow (length K) (last_of (size_of env) ε) (last (length K) (size_of env) ε h.entries), all_left (RecordOk w) (flatten_clauses cs) (flatten next) h.stmt.1))
   works (Invoke var tag ty args) ε K h =
       or_keeps w narrow (last_value_lem ε) _ λ v u.
       or_keeps w narrow (invoked K v) _ λ g i.
-      enters (Invoke var tag ty args) ε K v tag.name (values (before_last 1 ε)) g h h.stmt.0.1.0.0 (last_fits (length K) ε v h.entries u) (values-fit (length K) (before_last 1 ε) (before (length K) 1 ε h.entries)) i
+      let given = before_last 1 ε in
+      enters (Invoke var tag ty args) ε K v tag.name (values given) g h h.stmt.0.1.0.0 (last_fits (length K) ε v h.entries u)
+      (values-fit (length K) given (before (length K) 1 ε h.entries)) i
   works (Literal lit var next) ε K h =
-      keeps-shows {e = Literal' lit} {s = at next (ε ++ ((var.id, int lit) ∷ [])) K} h.stmt.0.0 (record { stmt = h.stmt.1; entries = all-++ (EntryFits (length K)) ε ((var.id, int lit) ∷ []) h.entries ((id-fits w narrow var h.stmt.0.1, h.stmt.0.0), tt); cells = h.cells })
+      let new = (var.id, int lit) ∷ [] in
+      let entries = all-++ (EntryFits (length K)) ε new h.entries ((id-fits w narrow var h.stmt.0.1, h.stmt.0.0), tt) in
+      keeps-shows {e = Literal' lit} {s = at next (ε ++ new) K} h.stmt.0.0 (record { stmt = h.stmt.1; entries = entries; cells = h.cells })
   works (Op fst op snd var next) ε K h =
       or_keeps w narrow (lookup fst.id ε) _ λ a p.
       or_keeps w narrow (lookup snd.id ε) _ λ b q.

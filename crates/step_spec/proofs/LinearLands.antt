@@ -10,14 +10,16 @@ use Rattle.syntax.specs.declared.names.Name.{Name}
 use Rattle.model.specs.Syntax.{Stmt, Substitute, Call, Let, Switch, Create, Invoke, Literal, Op, IfC, PrintI64, Exit, Prog}
 use Rattle.model.specs.Lists.{lookup, lookups, zip}
 use Rattle.model.specs.Integers.{eval_op, holds}
-use Rattle.model.specs.Machine.{Value, Entries, keys, values, xtor, closure, Cells, ended, Event, Literal', Op', Let', Create', Switch', Invoke', Call', Outside', PrintI64', Exit', Outcome, pair_up, find_def, find_clause_lem, as_int, second, matched, Target, out, clo, invoked}
+use Rattle.model.specs.Machine.{Value, Entries, keys, values, xtor, closure, Cells, ended, Event, Literal', Op', Let', Create', Switch', Invoke', Call'}
+use Rattle.model.specs.Machine.{Outside', PrintI64', Exit', Outcome, pair_up, find_def, find_clause_lem, as_int, second, matched, Target, out, clo, invoked}
 use Rattle.model.specs.Linear.{last_of, before_last, sources, targets, in_order_lem, stop_unless, shows_unless_twice, last_value_lem, size_of, linear_enter_lem, linear_work, linear_step_lem}
 use Rattle.image_spec.specs.Parse.{All}
 use Rattle.image_spec.specs.Shape.{DefOk, max_depth}
 use Rattle.image_places_spec.specs.Places.{StmtStands}
 use Rattle.step_spec.specs.Located.{linear_machine, Located, records_in, stmt_in, cell_in, state_of, project, next_place_lem}
 use Rattle.step_spec.proofs.Standing.{Placed, create-here, label-stands}
-use Rattle.step_spec.proofs.Landing.{Follows, follows-shows, follows-silent, follows-halts, follows-stops, or_follows, land, land-same, land-ended, land-branch, at_first, at_second, at-clause, at-invoked}
+use Rattle.step_spec.proofs.Landing.{Follows, follows-shows, follows-silent, follows-halts, follows-stops, or_follows, land, land-same, land-ended, land-branch}
+use Rattle.step_spec.proofs.Landing.{at_first, at_second, at-clause, at-invoked}
 
 module _ (P : Prog) (shallow : All DefOk P.defs) (l : Located) (placed : Placed P l) where
   abbrev K : Cells
@@ -53,7 +55,8 @@ module _ (P : Prog) (shallow : All DefOk P.defs) (l : Located) (placed : Placed 
       or_follows linear_machine P l (pair_up (ids d.context) (values ε)) _ λ ε' _.
       once (Call' label.name) d.body ε' (label-stands P shallow label.name d f)
   works (Let var ty tag args next) e ε =
-      follows-shows (land linear_machine P l placed (some (Let' (length K) tag.name)) next _ (xtor tag.name (values (last_of (length args) ε)) ∷ []) (at_first linear_machine P l placed _ e next [] refl) refl (tt, tt))
+      follows-shows (land linear_machine P l placed (some (Let' (length K) tag.name)) next _ (xtor tag.name (values (last_of (length args) ε)) ∷ [])
+      (at_first linear_machine P l placed _ e next [] refl) refl (tt, tt))
   works (Switch var ty cs) e ε =
       or_follows linear_machine P l (last_value_lem ε) _ λ v _.
       or_follows linear_machine P l (matched K v) _ λ x _.

@@ -1,31 +1,21 @@
--- Lists all of whose members have a property, and small facts of lists and tests. Assumes nothing.
+-- Lists all of whose members have a property, and small facts of lists and tests. (Of lists behind one another: image_spec/proofs/ListLaws.antt.)
+-- Assumes nothing.
 use Prim.Native.Nat.{ℕ, zero, suc, ◌<◌}
 use mathlib.Core.Path.{◌≡◌, refl, sym, ap, ◌∙◌, subst}
 use mathlib.Core.Bool.{Bool, true, false, false≢true}
-use mathlib.Core.List.{List, [], ◌∷◌, ◌++◌, map, append_assoc}
+use mathlib.Core.List.{List, [], ◌∷◌, map}
 use mathlib.Core.Option.{some}
 use native.Mathlib.Omega.{arith}
 use borrow.Author.Tests.{ltb-true, ltb-false}
 use lib.Dec.{ltb, eqb}
 use lib.ListN.{length, take, drop, drop_of_length-le}
 use Rattle.model.specs.Machine.{nth}
-use Rattle.image_spec.specs.Parse.{each, All}
+use Rattle.image_spec.specs.Parse.{All}
 use Rattle.image_spec.specs.Records.{Record}
+pub use Rattle.image_spec.proofs.ListLaws.{all-++, all_left, all_right, each_append as each-++}
 use Rattle.step_spec.specs.Store.{bit, first_record}
 
 module _ {A : Type 0} (Q : A → Type 0) where
-  pub all-++ : (xs ys : List A) → All Q xs → All Q ys → All Q (xs ++ ys)
-  all-++ [] ys h k = k
-  all-++ (x ∷ xs) ys h k = (h.0, all-++ xs ys h.1 k)
-
-  pub all_left : (xs ys : List A) → All Q (xs ++ ys) → All Q xs
-  all_left [] ys h = tt
-  all_left (x ∷ xs) ys h = (h.0, all_left xs ys h.1)
-
-  pub all_right : (xs ys : List A) → All Q (xs ++ ys) → All Q ys
-  all_right [] ys h = h
-  all_right (x ∷ xs) ys h = all_right xs ys h.1
-
   pub all_take : (n : ℕ) (xs : List A) → All Q xs → All Q (take n xs)
   all_take zero xs h = tt
   all_take (suc n) [] h = tt
@@ -59,10 +49,6 @@ nth_inside (suc i) (x ∷ xs) a e = omega (arith, nth_inside i xs a e)
 pub all_mapped : {A B : Type 0} (R : B → Type 0) (f : A → B) (xs : List A) → ((a : A) → R (f a)) → All R (map f xs)
 all_mapped R f [] h = tt
 all_mapped R f (x ∷ xs) h = (h x, all_mapped R f xs h)
-
-pub each-++ : {A X : Type 0} (e : A → List X) (a b : List A) → each e (a ++ b) ≡ each e a ++ each e b
-each-++ e [] b = refl
-each-++ {X = X} e (x ∷ a) b = ap (λ (z : List X). e x ++ z) (each-++ e a b) ∙ sym (append_assoc (e x) (each e a) (each e b))
 
 -- a record that passes a test is one of the list's
 pub record_inside : (f : Record → Bool) (rs : List Record) (i : ℕ) → first_record f (drop i rs) ≡ true → i < length rs

@@ -27,7 +27,8 @@ shown-listed : (e : Option Event) (es : List Event) (b : List ℕ) → b ≡ eac
 shown-listed none es b h = h
 shown-listed (some e) es b h = ap (λ (z : List ℕ). event_bytes e ++ z) h
 
-module _ (w : ℕ) (narrow : 256 ^ w ≤ 256 ^ 4) (M : Machine) (lawful : Lawful M) (P : Prog) (shallow : All DefOk P.defs) (defs : DefsOk w narrow P.defs) (few : length (records_in P) < 256 ^ 4) (start : Start) where
+module _ (w : ℕ) (narrow : 256 ^ w ≤ 256 ^ 4) (M : Machine) (lawful : Lawful M) (P : Prog) (shallow : All DefOk P.defs)
+    (defs : DefsOk w narrow P.defs) (few : length (records_in P) < 256 ^ 4) (start : Start) where
   abbrev R : ℕ → List Event → Located → Type 0
   R n es l = Reached w narrow M lawful P shallow defs start n es l
 
@@ -52,7 +53,8 @@ module _ (w : ℕ) (narrow : 256 ^ w ≤ 256 ^ 4) (M : Machine) (lawful : Lawful
       ap (state_from P) (sets-eq (store_bytes l) store 0 (omega arith))
       ∙ state-stored P few l (sound-fits w narrow P l s) (omega (arith, store-size l)) (drop (0 + length (store_bytes l)) store)
 
-  stayed : (m : ℕ) (es : List Event) (n : ℕ) (l : Located) (store : List ℕ) (left : ℕ) (f : Bool) → R m es l → state_from P store ≡ some l → Ends n left (stays f l store) → Made m es n store left (stays f l store)
+  stayed : (m : ℕ) (es : List Event) (n : ℕ) (l : Located) (store : List ℕ) (left : ℕ) (f : Bool) → R m es l → state_from P store ≡ some l
+      → Ends n left (stays f l store) → Made m es n store left (stays f l store)
   stayed m es n l store left f h e x = record {
     events = [];
     reached = subst (λ (z : ℕ). R z (es ++ []) l) (omega arith) (subst (λ (z : List Event). R m z l) (sym (append-nil es)) h);
@@ -74,7 +76,8 @@ module _ (w : ℕ) (narrow : 256 ^ w ≤ 256 ^ 4) (M : Machine) (lawful : Lawful
       → Made (suc m) (es ++ listed r.0) n (sets store 0 (store_bytes r.1)) (left - length (shown_bytes r.0)) p → Made m es (suc n) store left (one_more_lem (shown_bytes r.0) p)
   another m es n store left r p h d = record {
     events = listed r.0 ++ d.events;
-    reached = subst (λ (z : ℕ). R z (es ++ (listed r.0 ++ d.events)) p.state) (omega arith) (subst (λ (z : List Event). R (suc m + p.steps) z p.state) (append_assoc es (listed r.0) d.events) d.reached);
+    reached = subst (λ (z : ℕ). R z (es ++ (listed r.0 ++ d.events)) p.state) (omega arith)
+        (subst (λ (z : List Event). R (suc m + p.steps) z p.state) (append_assoc es (listed r.0) d.events) d.reached);
     shown = shown-listed r.0 d.events p.shown d.shown;
     stored = d.stored;
     size = d.size ∙ length-sets store 0 (store_bytes r.1);
@@ -82,13 +85,15 @@ module _ (w : ℕ) (narrow : 256 ^ w ≤ 256 ^ 4) (M : Machine) (lawful : Lawful
     ends = further n left (left - length (shown_bytes r.0)) (shown_bytes r.0) p (omega arith) d.room d.ends;
   }
 
-  pub makes : (n m : ℕ) (es : List Event) (l : Located) (store : List ℕ) (left : ℕ) → R m es l → state_from P store ≡ some l → length store < 2 ^ 64 → Made m es n store left (making M P n l store left)
+  pub makes : (n m : ℕ) (es : List Event) (l : Located) (store : List ℕ) (left : ℕ) → R m es l → state_from P store ≡ some l → length store < 2 ^ 64
+      → Made m es n store left (making M P n l store left)
   unfolding making
   makes zero m es l store left h e k = stayed m es 0 l store left false h e (all_made refl refl)
   makes (suc n) m es l store left h e k = go (located_step M P l) refl (λ m' es' l' store' left' h' e' k'. makes n m' es' l' store' left' h' e' k')
     where
       enough : (r : Stepped) (b : Bool) → located_step M P l ≡ some r → has_room_lem r store left ≡ b
-          → ((m' : ℕ) (es' : List Event) (l' : Located) (store' : List ℕ) (left' : ℕ) → R m' es' l' → state_from P store' ≡ some l' → length store' < 2 ^ 64 → Made m' es' n store' left' (making M P n l' store' left'))
+          → ((m' : ℕ) (es' : List Event) (l' : Located) (store' : List ℕ) (left' : ℕ) → R m' es' l' → state_from P store' ≡ some l'
+          → length store' < 2 ^ 64 → Made m' es' n store' left' (making M P n l' store' left'))
           → Made m es (suc n) store left
           (if_room b (one_more_lem (shown_bytes r.0) (making M P n r.1 (sets store 0 (store_bytes r.1)) (left - length (shown_bytes r.0)))) (stays true l store))
       enough r true s t ih =
@@ -103,7 +108,8 @@ module _ (w : ℕ) (narrow : 256 ^ w ≤ 256 ^ 4) (M : Machine) (lawful : Lawful
           stayed m es (suc n) l store left true h e (no_room refl (omega arith) r s (ap (λ (z : ℕ). has_room_lem r store z) (sym q) ∙ t))
 
       go : (o : Option Stepped) → located_step M P l ≡ o
-          → ((m' : ℕ) (es' : List Event) (l' : Located) (store' : List ℕ) (left' : ℕ) → R m' es' l' → state_from P store' ≡ some l' → length store' < 2 ^ 64 → Made m' es' n store' left' (making M P n l' store' left'))
+          → ((m' : ℕ) (es' : List Event) (l' : Located) (store' : List ℕ) (left' : ℕ) → R m' es' l' → state_from P store' ≡ some l'
+          → length store' < 2 ^ 64 → Made m' es' n store' left' (making M P n l' store' left'))
           → Made m es (suc n) store left (onward o l store left (making M P n))
       go none s ih = stayed m es (suc n) l store left false h e (no-next refl (omega arith) s)
       go (some r) s ih = enough r (has_room_lem r store left) s refl ih

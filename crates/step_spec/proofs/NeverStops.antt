@@ -12,7 +12,7 @@ use Rattle.model.specs.Machine.{Value, Entries, Cells, State, at, ended, Outcome
 use Rattle.model.specs.Source.{source_enter_lem, source_work, source_step_lem}
 use Rattle.step_spec.specs.Located.{is_stop}
 
-or_goes : {A : Type 0} (o : Option A) (k : A → Outcome) → ((a : A) → is_stop (k a) ≡ false) → is_stop (or_halt o k) ≡ false
+pub or_goes : {A : Type 0} (o : Option A) (k : A → Outcome) → ((a : A) → is_stop (k a) ≡ false) → is_stop (or_halt o k) ≡ false
 or_goes none k h = refl
 or_goes (some a) k h = h a
 

@@ -7,6 +7,7 @@ use mathlib.Core.Option.{none, some}
 use native.Mathlib.Omega.{arith}
 use borrow.Author.Tests.{ltb-true, leb-true, eqb-true, eqb-false}
 use lib.Dec.{ltb, eqb}
+use Rattle.std.proofs.lemmas.List.{nil_from_length}
 use lib.ListN.{length, take, drop, length-map}
 use mir.Syntax.{w64}
 use mir.ValLaws.{to_z-Fits, of_z-to_z}
@@ -17,7 +18,10 @@ use Rattle.image_spec.specs.Image.{if_got}
 use Rattle.image_spec.proofs.ParseLaws.{Sound, none_read, one-read, following, times_exact}
 use Rattle.step_spec.specs.Located.{held, made, Located}
 use Rattle.step_slots.specs.Slots.{Slot, slot, slot_bytes, SlotOk, is_cell_lem, value_slot}
-use Rattle.step_spec.specs.Store.{size_of, place_of, entry_slot, Block, block_of, blocks_of, block_slots, heap_of, environment_of, Raw, bit, raw_of, Header, header_of, header_bytes, raw_bytes, store_bytes, ValueFits, EntryFits, raw_from, raw_parser, leading, blocks, cells_in, first_slot, every_slot, statement_at, create_at, KeptFits, Fits, value_ok, entry_ok, field_ok, cell_ok, cells_ok, formed, value_in, field_in, entry_in, kept_in, state_in, if_formed, state_from}
+use Rattle.step_spec.specs.Store.{size_of, place_of, entry_slot, Block, block_of, blocks_of, block_slots, heap_of, environment_of, Raw, bit, raw_of, Header}
+use Rattle.step_spec.specs.Store.{header_of, header_bytes, raw_bytes, store_bytes, ValueFits, EntryFits, raw_from, raw_parser, leading, blocks, cells_in}
+use Rattle.step_spec.specs.Store.{first_slot, every_slot, statement_at, create_at, KeptFits, Fits, value_ok, entry_ok, field_ok, cell_ok, cells_ok, formed}
+use Rattle.step_spec.specs.Store.{value_in, field_in, entry_in, kept_in, state_in, if_formed, state_from}
 use Rattle.step_slots.proofs.SlotLaws.{slot_exact}
 use Rattle.step_spec.proofs.Slots.{HeaderOk, header_exact, RawOk}
 use Rattle.step_spec.proofs.Lists.{all_left, all_right}
@@ -215,10 +219,6 @@ flag_back zero o = refl
 flag_back (suc zero) o = refl
 flag_back (suc (suc h)) o = absurd (omega arith)
 
-empty : (l : List Slot) → length l ≡ 0 → l ≡ []
-empty [] e = refl
-empty (s ∷ l) e = absurd (omega arith)
-
 record Yes (P : Prog) (r : Raw) : Type 0 where
   position : statement_at P r.position ≡ true
   counted : r.cells ≡ cells_in r.heap
@@ -233,7 +233,7 @@ formed-yes P r h =
     let b = both_true (eqb r.cells (cells_in r.heap)) _ a.1 in
     let c = both_true (eqb (length (leading r.heap)) 0) _ b.1 in
     let d = both_true (cells_ok P r.heap 0 (blocks r.heap)) _ c.1 in
-    record { position = a.0; counted = eqb-true _ _ b.0; opens = empty (leading r.heap) (eqb-true _ _ c.0); cells = d.0; environment = d.1 }
+    record { position = a.0; counted = eqb-true _ _ b.0; opens = nil_from_length (leading r.heap) (eqb-true _ _ c.0); cells = d.0; environment = d.1 }
 
 module _ (P : Prog) (r : Raw) (o : RawOk r) (y : Yes P r) where
   heap-split : each block_slots (blocks r.heap) ≡ r.heap
@@ -280,7 +280,12 @@ only_its_bytes P s l e = go (raw_parser s) (raw_right s) e
     yes' r rest true o q h f =
         let y = formed-yes P r h in
         let k : state_in r ≡ l = cc in
-        subst (λ (z : Located). Stores P z s) k (record { rest = rest; bytes = q ∙ ap (λ (z : List ℕ). z ++ rest) (ap raw_bytes (sym (raw_back P r o y))); fits = raw_fits P r o y; slots = rw (raw_back P r o y) o })
+        subst (λ (z : Located). Stores P z s) k (record {
+          rest = rest;
+          bytes = q ∙ ap (λ (z : List ℕ). z ++ rest) (ap raw_bytes (sym (raw_back P r o y)));
+          fits = raw_fits P r o y;
+          slots = rw (raw_back P r o y) o;
+        })
     yes' r rest false o q h f = let z : ◌≡◌ {A = ℕ} 0 1 = cc in absurd (omega arith)
 
     go : (x : Parsed ℕ Raw) → Sound raw_bytes RawOk s x → if_got x none (λ r _. if_formed (formed P r) (state_in r)) ≡ some l → Stores P l s

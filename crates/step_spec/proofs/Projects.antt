@@ -16,7 +16,8 @@ use Rattle.image_spec.specs.Parse.{All}
 use Rattle.image_spec.specs.Shape.{DefOk, max_depth}
 use Rattle.image_places_spec.specs.Places.{StmtStands}
 use Rattle.image_places_spec.proofs.PlaceLaws.{stmt_is}
-use Rattle.step_spec.specs.Located.{Machine, source_machine, linear_machine, Located, Stepped, records_in, project, definition_place, is_stop, cells_of, keep, moved, follow, unless_stopped, located_step, start_state, start_of, located_start}
+use Rattle.step_spec.specs.Located.{Machine, source_machine, linear_machine, Located, Stepped, records_in, project, definition_place, is_stop, cells_of, keep}
+use Rattle.step_spec.specs.Located.{moved, follow, unless_stopped, located_step, start_state, start_of, located_start}
 use Rattle.step_spec.specs.Claims.{StandsFor, SameStep, both_show, both-silent, both_halt, both-stop, SameStart, both-begin, neither-begins, both_stopped}
 use Rattle.step_spec.proofs.Standing.{Placed, stands_as, definition-stands}
 use Rattle.step_spec.proofs.Landing.{Lands, Follows, follows-shows, follows-silent, follows-halts, follows-stops}
@@ -130,7 +131,8 @@ module _ (M : Machine) (F : Followed M) (P : Prog) (shallow : All DefOk P.defs) 
   StartPlaced none = Unit {0}
   StartPlaced (some l) = Placed P l
 
-  begin : (n : ℕ) (t : Stmt) (ε : Entries) (f : Bool) → StmtStands max_depth (records_in P) (definition_place n P.defs 0) t → StandsFor P (start_state P n f (at t ε [])) (at t ε []) f × Placed P (start_state P n f (at t ε []))
+  begin : (n : ℕ) (t : Stmt) (ε : Entries) (f : Bool) → StmtStands max_depth (records_in P) (definition_place n P.defs 0) t
+      → StandsFor P (start_state P n f (at t ε [])) (at t ε []) f × Placed P (start_state P n f (at t ε []))
   unfolding project
   begin n t ε f s = (record { is = rw (stmt_is s) refl; ended_is = refl; stopped_is = refl }, record { here = stands_as P _ t s; cells = tt })
 

@@ -131,7 +131,8 @@ module _ (w : ℕ) (narrow : 256 ^ w ≤ 256 ^ 4) (M : Machine) (lawful : Lawful
       go stops f = refl
 
   -- one step more
-  from_next : (s : State) (n : ℕ) (es : List Event) (l : Located) (r : Stepped) → run (M.step P) n s ≡ some (es, project P l) → All (EventHolds (length l.cells)) es → length l.cells ≤ length r.1.cells → Next l (some r) → Reached (begun s) (suc n) (es ++ listed r.0) r.1
+  from_next : (s : State) (n : ℕ) (es : List Event) (l : Located) (r : Stepped) → run (M.step P) n s ≡ some (es, project P l)
+      → All (EventHolds (length l.cells)) es → length l.cells ≤ length r.1.cells → Next l (some r) → Reached (begun s) (suc n) (es ++ listed r.0) r.1
   from_next s n es l r ran held grown (next e l' s' is f sound o b) = record {
     ran = run_more (M.step P) n s (project P l) es ran ∙ (ap (before (M.step P) es) o ∙ ap (λ (z : State). some (es ++ listed e, z)) (sym is));
     stopped_is = f ∙ ap (λ (z : State). is_stop (M.step P z)) (sym is);

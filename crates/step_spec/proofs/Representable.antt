@@ -18,7 +18,9 @@ use Rattle.syntax.specs.declared.names.Identifier.{Identifier}
 use Rattle.syntax.specs.declared.context.ContextBinding.{ContextBinding}
 use Rattle.model.specs.Syntax.{Stmt, Clauses, end, clause, Def}
 use Rattle.model.specs.Lists.{lookup, lookups, both, zip}
-use Rattle.model.specs.Machine.{Value, int, cell, outside, Entries, values, Cell, xtor, closure, Cells, State, at, ended, Event, Literal', Op', IfC', Let', Create', Switch', Invoke', Call', Outside', PrintI64', Exit', Outcome, shows, silent, halts, stops, or_halt, nth, pair_up, and_first, find_def, find_clause_lem, as_int, second, matched, as_xtor, out, clo, as_closure, invoked}
+use Rattle.model.specs.Machine.{Value, int, cell, outside, Entries, values, Cell, xtor, closure, Cells, State, at, ended, Event, Literal', Op', IfC', Let'}
+use Rattle.model.specs.Machine.{Create', Switch', Invoke', Call', Outside', PrintI64', Exit', Outcome, shows, silent, halts, stops, or_halt, nth, pair_up}
+use Rattle.model.specs.Machine.{and_first, find_def, find_clause_lem, as_int, matched, as_xtor, out, clo, as_closure, invoked}
 use Rattle.model.specs.Linear.{last_of, first, last_value_lem, targets}
 use Rattle.image_spec.specs.Parse.{each, All}
 use Rattle.image_spec.specs.Fields.{IdentifierOk, BindingOk, PairOk}
@@ -87,10 +89,6 @@ module _ (n : ℕ) where
   int-fits (int y) z h e = let q : y ≡ z = cc in subst (SFits w64) q h
   int-fits (cell k) z h e = let y : ◌≡◌ {A = ℕ} 0 1 = cc in absurd (omega arith)
   int-fits (outside k) z h e = let y : ◌≡◌ {A = ℕ} 0 1 = cc in absurd (omega arith)
-
-  pub second_fits : (x : Option Identifier) (l : Entries) (v : Value) → All (EntryFits n) l → second x l ≡ some v → ValueFits n v
-  second_fits none l v h e = let q : int (lib.IntN.pos 0) ≡ v = cc in subst (ValueFits n) q (record { sfits = omega arith })
-  second_fits (some x) l v h e = lookup-fits x.id l v h e
 
 -- ── events ──
 
@@ -220,7 +218,8 @@ module _ (w : ℕ) (narrow : 256 ^ w ≤ 256 ^ 4) where
       go none p f = let y : ◌≡◌ {A = ℕ} 0 1 = cc in absurd (omega arith)
       go (some (xtor tag fields)) p f =
           let c = all-at (CellFits n) K i (xtor tag fields) h p in
-          subst (λ (o : Option (ℕ × Name × List Value)). elim o as (λ _. Type 0) [ none ↦ Unit {0} | some y ↦ Matched n K y ]) f (record { number = nth_inside i K (xtor tag fields) p; tag = c.0; fields = c.1 })
+          subst (λ (o : Option (ℕ × Name × List Value)). elim o as (λ _. Type 0) [ none ↦ Unit {0} | some y ↦ Matched n K y ]) f
+          (record { number = nth_inside i K (xtor tag fields) p; tag = c.0; fields = c.1 })
       go (some (closure l cs)) p f = let y : ◌≡◌ {A = ℕ} 0 1 = cc in absurd (omega arith)
   matched-fits n K (outside m) x h e = let y : ◌≡◌ {A = ℕ} 0 1 = cc in absurd (omega arith)
 

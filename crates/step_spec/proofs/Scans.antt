@@ -1,7 +1,7 @@
 -- The test of the slots of cells in one pass is the test of specs/Store.antt. Assumes nothing.
 use Prim.Native.Nat.{ℕ, suc, ◌^◌, ◌≤◌}
 use mathlib.Core.Path.{◌≡◌, refl, sym, ap, ◌∙◌}
-use mathlib.Core.Bool.{Bool, true, false, ◌&&◌, cond, false≢true}
+use mathlib.Core.Bool.{Bool, true, false, ◌&&◌, cond, false≢true, and_assoc}
 use mathlib.Core.List.{List, [], ◌∷◌}
 use native.Mathlib.Omega.{arith}
 use borrow.Author.Tests.{leb-true, ne_eqb}
@@ -12,16 +12,13 @@ use Rattle.step_slots.specs.Slots.{Slot, is_cell_lem}
 use Rattle.step_spec.specs.Store.{Block, leading, blocks, every_slot, create_at, entry_ok, field_ok, cell_ok, cells_ok}
 use Rattle.step_spec.specs.Scan.{held_ok, head_ok, scan}
 
-and_assoc : (a b c : Bool) → (a && b) && c ≡ a && (b && c)
-and_assoc true b c = refl
-and_assoc false b c = refl
-
 module _ (P : Prog) (heap : List Slot) where
   -- after a cell's own slot: all that it holds
   every_held : (k : ℕ) (es : List Slot) → 3 ≤ k → every_slot (held_ok P heap k) es ≡ cond (eqb k 3) (every_slot (field_ok P heap) es) (every_slot (entry_ok P heap) es)
   every_held k es h = go (eqb k 0) (eqb k 3) (ne_eqb k 0 (omega arith)) es
     where
-      go : (a b : Bool) → a ≡ false → (es : List Slot) → every_slot (λ s. cond a false (cond b (field_ok P heap s) (entry_ok P heap s))) es ≡ cond b (every_slot (field_ok P heap) es) (every_slot (entry_ok P heap) es)
+      go : (a b : Bool) → a ≡ false → (es : List Slot)
+          → every_slot (λ s. cond a false (cond b (field_ok P heap s) (entry_ok P heap s))) es ≡ cond b (every_slot (field_ok P heap) es) (every_slot (entry_ok P heap) es)
       go true b n es = absurd (false≢true (sym n))
       go false true n [] = refl
       go false false n [] = refl

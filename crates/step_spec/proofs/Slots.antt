@@ -11,7 +11,8 @@ use Rattle.image_spec.specs.Parse.{Parsed, got, and_then, times, each, All}
 use Rattle.image_spec.proofs.ParseLaws.{Exact, both_exact, code_exact, times_exact, zeros_exact, number_exact}
 use Rattle.step_spec.specs.Located.{Kept, held, made}
 use Rattle.step_slots.specs.Slots.{Slot, slot_bytes, SlotOk, slot_parser, is_cell_lem, value_slot}
-use Rattle.step_spec.specs.Store.{size_of, place_of, entry_slot, Block, block_of, blocks_of, block_slots, Raw, Header, header_of, header_bytes, raw_bytes, header_parser, raw_from, raw_parser, leading, blocks, cells_in, first_slot}
+use Rattle.step_spec.specs.Store.{size_of, place_of, entry_slot, Block, block_of, blocks_of, block_slots, Raw, Header, header_of, header_bytes, raw_bytes}
+use Rattle.step_spec.specs.Store.{header_parser, raw_from, raw_parser, leading, blocks, cells_in, first_slot}
 use Rattle.step_slots.proofs.SlotLaws.{slot_exact}
 use Rattle.step_spec.proofs.Lists.{all_mapped}
 
@@ -23,7 +24,9 @@ HeaderOk h =
 
 pub header_exact : Exact header_bytes HeaderOk header_parser
 header_exact =
-    both_exact (number_exact 4) (both_exact (code_exact 1) (both_exact (code_exact 1) (both_exact (zeros_exact 2) (both_exact (number_exact 8) (both_exact (number_exact 8) (both_exact (number_exact 8) (zeros_exact 32)))))))
+    both_exact (number_exact 4)
+    (both_exact (code_exact 1) (both_exact (code_exact 1) (both_exact (zeros_exact 2)
+    (both_exact (number_exact 8) (both_exact (number_exact 8) (both_exact (number_exact 8) (zeros_exact 32)))))))
 
 pub record RawOk (r : Raw) : Type 0 where
   pub header : HeaderOk (header_of r)

@@ -10,7 +10,8 @@ use Rattle.syntax.specs.declared.names.Name.{Name}
 use Rattle.model.specs.Syntax.{Stmt, Substitute, Call, Let, Switch, Create, Invoke, Literal, Op, IfC, PrintI64, Exit, Prog}
 use Rattle.model.specs.Lists.{lookup, lookups}
 use Rattle.model.specs.Integers.{eval_op, holds}
-use Rattle.model.specs.Machine.{Value, int, cell, Entries, xtor, closure, Cells, State, at, ended, Outcome, pair_up, find_def, find_clause_lem, as_int, second, matched, Target, out, clo, invoked, Let', Create', Literal', Outside'}
+use Rattle.model.specs.Machine.{Value, int, cell, Entries, xtor, closure, Cells, State, at, ended, Outcome, pair_up, find_def, find_clause_lem, as_int, second}
+use Rattle.model.specs.Machine.{matched, Target, out, clo, invoked, Let', Create', Literal', Outside'}
 use Rattle.model.specs.Source.{source_enter_lem, source_work, source_step_lem}
 use Rattle.image_spec.specs.Parse.{All}
 use Rattle.image_spec.specs.Records.{RecordOk}
@@ -18,13 +19,16 @@ use Rattle.image_spec.specs.Shape.{flatten, flatten_clauses}
 use Rattle.step_spec.specs.Store.{ValueFits, EntryFits}
 use Rattle.step_spec.proofs.Lists.{all-++, all_left, all_right}
 use Rattle.step_arithmetic.proofs.Operations.{eval_op-fits}
-use Rattle.step_spec.proofs.Representable.{lookup-fits, lookups-fit, paired-fit, int-fits, id-fits, ids-fit, clause-ok, def-ok, DefsOk, Holds, StateFits, Keeps, keeps-shows, keeps-halts, or_keeps, matched-fits, invoked-fits, out-fits, new-number, entry-later, values-later, one_more, branch-ok}
+use Rattle.step_spec.proofs.Representable.{lookup-fits, lookups-fit, paired-fit, int-fits, id-fits, ids-fit, clause-ok, def-ok, DefsOk, Holds, StateFits, Keeps}
+use Rattle.step_spec.proofs.Representable.{keeps-shows, keeps-halts, or_keeps, matched-fits, invoked-fits, out-fits, new-number, entry-later, values-later}
+use Rattle.step_spec.proofs.Representable.{one_more, branch-ok}
 
 module _ (w : ℕ) (narrow : 256 ^ w ≤ 256 ^ 4) (P : Prog) (defs : DefsOk w narrow P.defs) where
   abbrev Ks : Outcome → Type 0
   Ks o = Keeps w narrow o
 
-  enters : (t : Stmt) (ε : Entries) (K : Cells) (v : Value) (tag : Name) (args : List Value) (g : Target) → Holds w narrow (length K) t ε K → tag.0 < 256 ^ 2 → ValueFits (length K) v → All (ValueFits (length K)) args → invoked K v ≡ some g
+  enters : (t : Stmt) (ε : Entries) (K : Cells) (v : Value) (tag : Name) (args : List Value) (g : Target) → Holds w narrow (length K) t ε K → tag.0 < 256 ^ 2
+      → ValueFits (length K) v → All (ValueFits (length K)) args → invoked K v ≡ some g
       → Ks (source_enter_lem (ended t ε K) tag args K g)
   unfolding source_enter_lem
   enters t ε K v tag args (out n) h b u a e = keeps-shows {e = Outside' n tag args} {s = ended t ε K} (b, out-fits w narrow (length K) K v n u e, a) h
@@ -43,10 +47,15 @@ module _ (w : ℕ) (narrow : 256 ^ w ≤ 256 ^ 4) (P : Prog) (defs : DefsOk w na
       or_keeps w narrow (find_def label.name P.defs) _ λ d f.
       or_keeps w narrow (pair_up (ids d.context) vs) _ λ ε' g.
       let o = def-ok w narrow label.name P.defs d defs f in
-      keeps-shows h.stmt.0.0.0 (record { stmt = o.1; entries = paired-fit (length K) (ids d.context) vs ε' (ids-fit w narrow d.context o.0) (lookups-fit (length K) (ids args) ε vs h.entries e) g; cells = h.cells })
+      let given = lookups-fit (length K) (ids args) ε vs h.entries e in
+      let entries = paired-fit (length K) (ids d.context) vs ε' (ids-fit w narrow d.context o.0) given g in
+      keeps-shows h.stmt.0.0.0 (record { stmt = o.1; entries = entries; cells = h.cells })
   works (Let var ty tag args next) ε K h =
       or_keeps w narrow (lookups (ids args) ε) _ λ vs e.
-      keeps-shows {e = Let' (length K) tag.name} (h.stmt.0.1.1.0.0, new-number K (xtor tag.name vs)) (one_more w narrow next ((var.id, cell (length K)) ∷ ε) K (xtor tag.name vs) h.stmt.1 ((id-fits w narrow var h.stmt.0.0, omega arith), entry-later w narrow (length K) ε h.entries) h.cells
+      let made = xtor tag.name vs in
+      keeps-shows {e = Let' (length K) tag.name} (h.stmt.0.1.1.0.0, new-number K made)
+      (one_more w narrow next ((var.id, cell (length K)) ∷ ε) K made h.stmt.1
+      ((id-fits w narrow var h.stmt.0.0, omega arith), entry-later w narrow (length K) ε h.entries) h.cells
       (h.stmt.0.1.1.0.0, values-later w narrow (length K) vs (lookups-fit (length K) (ids args) ε vs h.entries e)))
   works (Switch var ty cs) ε K h =
       or_keeps w narrow (lookup var.id ε) _ λ v _.
@@ -61,14 +70,22 @@ module _ (w : ℕ) (narrow : 256 ^ w ≤ 256 ^ 4) (P : Prog) (defs : DefsOk w na
         cells = h.cells;
       })
   works (Create var ty env cs next) ε K h =
-      keeps-shows {e = Create' (length K)} (new-number K (closure ε cs)) (one_more w narrow next ((var.id, cell (length K)) ∷ ε) K (closure ε cs) (all_right (RecordOk w) (flatten_clauses cs) (flatten next) h.stmt.1) ((id-fits w narrow var h.stmt.0.0, omega arith), entry-later w narrow (length K) ε h.entries) h.cells
+      let made = closure ε cs in
+      keeps-shows {e = Create' (length K)} (new-number K made)
+      (one_more w narrow next ((var.id, cell (length K)) ∷ ε) K made (all_right (RecordOk w) (flatten_clauses cs) (flatten next) h.stmt.1)
+      ((id-fits w narrow var h.stmt.0.0, omega arith), entry-later w narrow (length K) ε h.entries) h.cells
       (entry-later w narrow (length K) ε h.entries, all_left (RecordOk w) (flatten_clauses cs) (flatten next) h.stmt.1))
   works (Invoke var tag ty args) ε K h =
       or_keeps w narrow (lookup var.id ε) _ λ v u.
       or_keeps w narrow (lookups (ids args) ε) _ λ vs e.
       or_keeps w narrow (invoked K v) _ λ g i.
       enters (Invoke var tag ty args) ε K v tag.name vs g h h.stmt.0.1.0.0 (lookup-fits (length K) var.id ε v h.entries u) (lookups-fit (length K) (ids args) ε vs h.entries e) i
-  works (Literal lit var next) ε K h = keeps-shows {e = Literal' lit} {s = at next ((var.id, int lit) ∷ ε) K} h.stmt.0.0 (record { stmt = h.stmt.1; entries = ((id-fits w narrow var h.stmt.0.1, h.stmt.0.0), h.entries); cells = h.cells })
+  works (Literal lit var next) ε K h =
+      keeps-shows {e = Literal' lit} {s = at next ((var.id, int lit) ∷ ε) K} h.stmt.0.0 (record {
+        stmt = h.stmt.1;
+        entries = ((id-fits w narrow var h.stmt.0.1, h.stmt.0.0), h.entries);
+        cells = h.cells;
+      })
   works (Op fst op snd var next) ε K h =
       or_keeps w narrow (lookup fst.id ε) _ λ a p.
       or_keeps w narrow (lookup snd.id ε) _ λ b q.

@@ -9,7 +9,8 @@ use Rattle.syntax.specs.declared.names.Name.{Name}
 use Rattle.model.specs.Syntax.{Stmt, Substitute, Call, Let, Switch, Create, Invoke, Literal, Op, IfC, PrintI64, Exit, Prog}
 use Rattle.model.specs.Lists.{lookup, lookups}
 use Rattle.model.specs.Integers.{eval_op, holds}
-use Rattle.model.specs.Machine.{Value, Entries, xtor, closure, Cells, ended, Literal', Op', Let', Create', Switch', Invoke', Call', Outside', PrintI64', Exit', pair_up, find_def, find_clause_lem, as_int, second, matched, Target, out, clo, invoked}
+use Rattle.model.specs.Machine.{Value, Entries, xtor, closure, Cells, ended, Literal', Op', Let', Create', Switch', Invoke', Call', Outside', PrintI64', Exit'}
+use Rattle.model.specs.Machine.{pair_up, find_def, find_clause_lem, as_int, second, matched, Target, out, clo, invoked}
 use Rattle.model.specs.Source.{source_enter_lem, source_work, source_step_lem}
 use Rattle.image_spec.specs.Parse.{All}
 use Rattle.image_spec.specs.Shape.{DefOk}

@@ -81,7 +81,8 @@ second-stands {rs} {i} {t} one two e s =
 
 -- ── clauses ──
 
-pub clause-stands : {d n : ℕ} {rs : List Record} {i : ℕ} (tag : Name) (cs : Clauses) (c : Context × Stmt) → find_clause_lem tag cs ≡ some c → ClausesStand d n rs i cs → StmtStands d rs (clause_place tag cs i) c.1
+pub clause-stands : {d n : ℕ} {rs : List Record} {i : ℕ} (tag : Name) (cs : Clauses) (c : Context × Stmt) → find_clause_lem tag cs ≡ some c
+    → ClausesStand d n rs i cs → StmtStands d rs (clause_place tag cs i) c.1
 unfolding clause_place
 clause-stands tag end c e s = let z : ◌≡◌ {A = ℕ} 0 1 = cc in absurd (omega arith)
 clause-stands {d} {n} {rs} {i} tag (clause x Γ body rest) c e s =
@@ -97,7 +98,8 @@ clause-stands {d} {n} {rs} {i} tag (clause x Γ body rest) c e s =
 pub clauses-stand : {rs : List Record} {i : ℕ} {t : Stmt} → StmtStands max_depth rs i t → ClausesStand (max_depth - 1) (clauses_of (record_of t)) rs (i + 1) (clauses_in t)
 clauses-stand s = (stmt-parts s).clauses
 
-pub entered : {rs : List Record} {i : ℕ} {t : Stmt} (tag : Name) (c : Context × Stmt) → StmtStands max_depth rs i t → find_clause_lem tag (clauses_in t) ≡ some c → StmtStands max_depth rs (clause_place tag (clauses_in t) (i + 1)) c.1
+pub entered : {rs : List Record} {i : ℕ} {t : Stmt} (tag : Name) (c : Context × Stmt) → StmtStands max_depth rs i t
+    → find_clause_lem tag (clauses_in t) ≡ some c → StmtStands max_depth rs (clause_place tag (clauses_in t) (i + 1)) c.1
 entered {t = t} tag c s e = deeper max_depth (omega arith) (clause-stands tag (clauses_in t) c e (clauses-stand s))
 
 -- ── definitions ──

@@ -3,7 +3,7 @@ use Prim.Native.Nat.{ℕ, zero, suc, ◌-◌}
 use mathlib.Core.Path.{◌≡◌, refl, sym, ap, ◌∙◌}
 use mathlib.Core.Bool.{Bool, true, false, false≢true}
 use mathlib.Core.List.{List, [], ◌∷◌, ◌++◌, map, map-append}
-use mathlib.Core.Option.{Option, none, some}
+use mathlib.Core.Option.{Option, none, some, none-ne-some}
 use lib.ListN.{length, take, length-map}
 use Rattle.syntax.specs.Context.{ids}
 use Rattle.syntax.specs.Sets.{distinct}
@@ -14,9 +14,10 @@ use Rattle.syntax.specs.declared.context.ContextBinding.{ContextBinding}
 use Rattle.model.specs.Syntax.{Stmt, Substitute, Call, Let, Switch, Create, Invoke, Literal, Op, IfC, PrintI64, Exit, Prog}
 use Rattle.model.specs.Lists.{lookup, both, lookups, zip}
 use Rattle.model.specs.Integers.{eval_op}
-use Rattle.model.specs.Machine.{Value, Entries, keys, values, Cells, State, at, ended, Event, Outcome, shows, silent, halts, stops, or_halt, pair_up, find_def, find_clause_lem, as_int, second, matched, Target, out, clo, invoked}
+use Rattle.model.specs.Machine.{Value, Entries, keys, values, Cells, State, at, ended, Event, Outcome, shows, silent, halts, stops, or_halt, pair_up, find_def}
+use Rattle.model.specs.Machine.{find_clause_lem, as_int, second, matched, Target, out, clo, invoked}
 use Rattle.model.specs.Linear.{before_last, ends_in_lem, present, sources, targets, in_order_lem, stop_unless, shows_unless_twice, last_value_lem, linear_enter_lem, linear_work, linear_step_lem}
-use Rattle.model.proofs.Alist.{none≢some, firsts-zip}
+use Rattle.model.proofs.Alist.{firsts-zip}
 use Rattle.image_spec.proofs.DirectoryLaws.{and_left, and_right}
 use Rattle.step_spec.specs.Located.{linear_machine, Located, Stepped, stmt_in, cell_in, state_of, project, entries_of, moved, unless_stopped, follow, located_step}
 
@@ -47,8 +48,8 @@ lookups-length [] ε vs e = let q : [] ≡ vs = cc e in ap length q
 lookups-length (x ∷ xs) ε vs e = go (lookup x ε) (lookups xs ε) (λ ws. lookups-length xs ε ws) e
   where
     go : (o : Option Value) (p : Option (List Value)) → ((ws : List Value) → p ≡ some ws → length xs ≡ length ws) → both o p ≡ some vs → suc (length xs) ≡ length vs
-    go none p h e = absurd (none≢some e)
-    go (some v) none h e = absurd (none≢some e)
+    go none p h e = absurd (none-ne-some _ e)
+    go (some v) none h e = absurd (none-ne-some _ e)
     go (some v) (some ws) h e = let q : v ∷ ws ≡ vs = cc e in ap suc (h ws refl) ∙ ap length q
 
 -- Substitute: its targets
@@ -130,8 +131,8 @@ located-stays-distinct P l r e d = go l.has_stopped (linear_step_lem P (project 
     same false d = d
 
     go : (b : Bool) (o : Outcome) → DistinctAfter o → unless_stopped b (follow linear_machine P l o) ≡ some r → distinct (keys r.1.environment) ≡ true
-    go true o a e = absurd (none≢some e)
+    go true o a e = absurd (none-ne-some _ e)
     go false (shows v s) a e = let q : (some v, moved linear_machine P l (some v) s) ≡ r = cc e in ap (λ (z : Stepped). distinct (keys z.1.environment)) (sym q) ∙ a
     go false (silent s) a e = let q : (none, moved linear_machine P l none s) ≡ r = cc e in ap (λ (z : Stepped). distinct (keys z.1.environment)) (sym q) ∙ a
-    go false halts a e = absurd (none≢some e)
-    go false stops a e = absurd (none≢some e)
+    go false halts a e = absurd (none-ne-some _ e)
+    go false stops a e = absurd (none-ne-some _ e)

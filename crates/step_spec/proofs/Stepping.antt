@@ -22,7 +22,8 @@ use Rattle.scope_spec.specs.Calls.{after_reading, checking, check_of}
 use Rattle.step_spec.specs.Located.{Machine, Located, records_in, located_start}
 use Rattle.step_spec.specs.Store.{store_bytes, state_from}
 use Rattle.step_spec.specs.Events.{event_bytes, givens}
-use Rattle.step_spec.specs.Calls.{Stepper, source_stepper, linear_stepper, Result, unchanged, starts_with, start_with, start_at, starting, start_call, Progress, making, space_number, made', step_call_lem}
+use Rattle.step_spec.specs.Calls.{Stepper, source_stepper, linear_stepper, Result, unchanged, starts_with, start_with, start_at, starting, start_call, Progress}
+use Rattle.step_spec.specs.Calls.{making, space_number, made', step_call_lem}
 use Rattle.step_spec.specs.Claims.{Request, calls, steps_of, shown_in, store_left, After, Fair, all_made, no-next, no_room, Stepping}
 use Rattle.step_spec.proofs.Lists.{all_weaker, each-++}
 use Rattle.step_spec.proofs.Stored.{store-size}
@@ -41,7 +42,8 @@ pub call_is : (S : Stepper) (P : Prog) (image : List ℕ) → S.asks image ≡ a
 unfolding step_call_lem
 call_is S P image a n store events l e = rw (a, e) refl
 
-module _ (S : Stepper) (w : ℕ) (narrow : 256 ^ w ≤ 256 ^ 4) (lawful : Lawful S.machine) (P : Prog) (shallow : All DefOk P.defs) (defs : DefsOk w narrow P.defs) (few : length (records_in P) < 256 ^ 4) (start : Start) (image : List ℕ) (read : S.asks image ≡ accept P) where
+module _ (S : Stepper) (w : ℕ) (narrow : 256 ^ w ≤ 256 ^ 4) (lawful : Lawful S.machine) (P : Prog) (shallow : All DefOk P.defs)
+    (defs : DefsOk w narrow P.defs) (few : length (records_in P) < 256 ^ 4) (start : Start) (image : List ℕ) (read : S.asks image ≡ accept P) where
   abbrev pub M : Machine
   M = S.machine
 

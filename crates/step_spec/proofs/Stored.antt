@@ -15,7 +15,9 @@ use Rattle.model.specs.Machine.{Value, int, cell, outside}
 use Rattle.image_spec.specs.Parse.{each, All}
 use Rattle.step_spec.specs.Located.{Kept, held, made, Located, records_in}
 use Rattle.step_slots.specs.Slots.{Slot, SlotOk, value_slot}
-use Rattle.step_spec.specs.Store.{place_of, entry_slot, block_of, blocks_of, block_slots, heap_of, environment_of, Raw, raw_of, raw_bytes, store_bytes, held_in, store_size, ValueFits, EntryFits, blocks, every_slot, statement_at, create_at, KeptFits, Fits, entry_ok, field_ok, cell_ok, cells_ok, formed, field_in, entry_in, kept_in, state_in, state_from}
+use Rattle.step_spec.specs.Store.{place_of, entry_slot, block_of, blocks_of, block_slots, heap_of, environment_of, Raw, raw_of, raw_bytes, store_bytes, held_in}
+use Rattle.step_spec.specs.Store.{store_size, ValueFits, EntryFits, blocks, every_slot, statement_at, create_at, KeptFits, Fits, entry_ok, field_ok, cell_ok}
+use Rattle.step_spec.specs.Store.{cells_ok, formed, field_in, entry_in, kept_in, state_in, state_from}
 use Rattle.step_slots.proofs.SlotBytes.{slots_length}
 use Rattle.step_spec.proofs.Lists.{all-++, all_map, record_inside, bit-back, bit-small}
 use Rattle.step_spec.proofs.Slots.{RawOk, raw_left, block_size, heap-leading, heap-blocks, heap-cells, heap_from, cells-before, cell-there}
@@ -144,7 +146,8 @@ module _ (P : Prog) (few : length (records_in P) < 256 ^ 4) (K : List Kept) (sma
   heap-fits : (k : ℕ) (cs : List Kept) → k + length cs < 256 ^ 8 → All (KeptFits P (length K)) cs → All SlotOk (each block_slots (blocks_of (place_of K) k cs))
   heap-fits k [] o h = tt
   heap-fits k (c ∷ cs) o h =
-      all-++ SlotOk (block_slots (block_of (place_of K) k c)) (each block_slots (blocks_of (place_of K) (suc k) cs)) (block_fits P few K small k c (omega arith) h.0) (heap-fits (suc k) cs (omega arith) h.1)
+      all-++ SlotOk (block_slots (block_of (place_of K) k c)) (each block_slots (blocks_of (place_of K) (suc k) cs))
+      (block_fits P few K small k c (omega arith) h.0) (heap-fits (suc k) cs (omega arith) h.1)
 
 raw_fits : (P : Prog) → length (records_in P) < 256 ^ 4 → (l : Located) → Fits P l → store_size l < 2 ^ 64 → RawOk (raw_of l)
 unfolding raw_of heap_of environment_of statement_at

@@ -5,7 +5,8 @@ use Rattle.std.proofs.Math.Option.{Option, none, some}
 use Rattle.syntax.specs.Names.{same_name}
 use Rattle.syntax.specs.declared.names.Name.{Name}
 use Rattle.model.specs.Syntax.{Stmt, Clauses, end, clause, Def, Prog}
-use Rattle.model.specs.Machine.{Value, Entries, Cell, xtor, closure, Cells, State, at, ended, Event, Literal', Op', IfC', Let', Create', Switch', Invoke', Call', Outside', PrintI64', Exit', Outcome, shows, silent, halts, stops, nth, Given, Start, begun, no_start, stopped}
+use Rattle.model.specs.Machine.{Value, Entries, Cell, xtor, closure, Cells, State, at, ended, Event, Literal', Op', IfC', Let', Create', Switch', Invoke'}
+use Rattle.model.specs.Machine.{Call', Outside', PrintI64', Exit', Outcome, shows, silent, halts, stops, nth, Given, Start, begun, no_start, stopped}
 use Rattle.model.specs.Source.{source_step_lem, source_start}
 use Rattle.model.specs.Linear.{linear_step_lem, linear_start}
 use Rattle.image_spec.specs.Records.{Record}

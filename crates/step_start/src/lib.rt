@@ -38,7 +38,8 @@ use step_values::are_given;
 // The header, and the values under the row's IDs.
 // `values` and `store`, here and below: one is read, the other written; the caller lends both.
 fn begin(row: &Row<'_>, values: &[u8], store: &mut [u8], header: Header)
-    requires { (length values.now ≡ 16 * row.now.places.len) × ((64 + 16 * row.now.places.len ≤ length store.old) × (all_slots (slots_at values.now 0 row.now.places.len) ≡ true)) }
+    requires { (length values.now ≡ 16 * row.now.places.len) × ((64 + 16 * row.now.places.len ≤ length store.old)
+        × (all_slots (slots_at values.now 0 row.now.places.len) ≡ true)) }
     ensures { store.new ≡ sets store.old 0 (header_bytes (tuple_of header) ++ each slot_bytes (renamed (ids_of row.now) (slots_at values.now 0 row.now.places.len))) }
 {
     copy(values, store, 64);
@@ -119,7 +120,9 @@ fn start_on(
     requires { Accepted opened.now.image.frame opened.now.definitions opened.now.image.bytes.now }
     ensures { StartsOn machine opened.now definition values.now store.old store.new result }
 {
-    let mut ends = [0u32; 4000];
+    // (These lines stand in step_call too: a function could not hand out the table that it fills, and of a stepper that it made in a lent one, four equations would be
+    // rewritten by below, where now the literal's parts compute.)
+    let mut ends = [0u32; Layout::MAX_RECORDS];
     fill_ends(&opened.image, &mut ends);
     let stepper = Stepper {
         image: opened.image,

@@ -6,7 +6,7 @@ ghost use Rattle.step_spec.specs.Located.{source_machine, linear_machine};
 ghost use Rattle.step_spec.specs.Events.{event_head};
 ghost use Rattle.step_gather.specs.Gathering.{renamed};
 ghost use Rattle.step_rule.specs.Rules.{Given, MakesAs};
-ghost use Rattle.step_enter.specs.Entering.{Enters};
+ghost use Rattle.step_enter.specs.Entering.{EntersIn};
 ghost use Rattle.step_statement_call.specs.Calling.{DefinitionOf};
 ghost use Rattle.step_write.specs.Working.{Fit, Keeps};
 ghost use Rattle.step_rows.specs.Rows.{ids_of};
@@ -21,8 +21,7 @@ use step_gather::gather;
 use step_places::search::find_label;
 use step_places::stepper::Stepper;
 use step_rows::records::list_row;
-use step_rows::row::Row;
-use step_write::{EventHead, Step, Stop, Work, state_of, store_of};
+use step_write::{EventHead, Scratch, Step, Stop, Work, state_of, store_of};
 
 // The label of a Call.
 fn label_of(node: &RecordAt<'_>) -> u32
@@ -48,15 +47,15 @@ fn definition_of<'a>(stepper: &Stepper<'a>, label: u32) -> Option<Parameters<'a>
 
 // A step to the body, with the values at the beginning of scratch as the only entries. The label is shown.
 fn jump(
-    row: &Row<'_>,
-    work: &mut Work<'_, '_>,
-    scratch: &mut [u8],
+    called: &Parameters<'_>,
+    work: &mut Work<'_>,
+    scratch: &mut Scratch,
     label: u32,
-    body: u32,
 ) -> Result<Step, Stop>
-    requires { Fit work.old × ((16 * row.now.places.len ≤ length scratch.old) × (all_slots (slots_at scratch.old 0 row.now.places.len) ≡ true)) }
-    ensures { Enters work.old.store.now work.old.events.now work.old.header work.old.at body (event_head 3 0 label 0 0) 0 0 (renamed (ids_of row.now) (slots_at scratch.old 0 row.now.places.len)) work.new.store.now work.new.events.now result × Keeps work.old work.new }
+    requires { Fit work.old × ((16 * called.now.row.places.len ≤ length scratch.old) × (all_slots (slots_at scratch.old 0 called.now.row.places.len) ≡ true)) }
+    ensures { EntersIn work.old work.new called.now.body (event_head 3 0 label 0 0) 0 0 (renamed (ids_of called.now.row) (slots_at scratch.old 0 called.now.row.places.len)) result }
 {
+    // (By its fields: it shows a label and no value, which no other event does.)
     let event = EventHead {
         kind: Kind::Call,
         detail: 0,
@@ -64,16 +63,16 @@ fn jump(
         count: 0,
         payload: 0,
     };
-    enter(row, work, scratch, event, body, 0, 0)
+    enter(called, work, scratch, event, 0, 0)
 }
 
 // The source machine's: the values are those of the args.
 pub fn source(
     stepper: &Stepper<'_>,
-    work: &mut Work<'_, '_>,
-    scratch: &mut [u8],
+    work: &mut Work<'_>,
+    scratch: &mut Scratch,
 ) -> Result<Step, Stop>
-    requires { Given stepper.now work.old 3 × (2080 ≤ length scratch.old) }
+    requires { Given stepper.now work.old 3 }
     ensures { MakesAs source_machine stepper.now work.old work.new result × Keeps work.old work.new }
 {
     let node = RecordAt {
@@ -91,16 +90,16 @@ pub fn source(
     if called.row.places.len != args.places.len {
         return Err(Stop::NoStep);
     }
-    jump(&called.row, work, scratch, label, called.body)
+    jump(&called, work, scratch, label)
 }
 
 // The linear machine's: the values are those of all entries. The args aren't read.
 pub fn linear(
     stepper: &Stepper<'_>,
-    work: &mut Work<'_, '_>,
-    scratch: &mut [u8],
+    work: &mut Work<'_>,
+    scratch: &mut Scratch,
 ) -> Result<Step, Stop>
-    requires { Given stepper.now work.old 3 × (2080 ≤ length scratch.old) }
+    requires { Given stepper.now work.old 3 }
     ensures { MakesAs linear_machine stepper.now work.old work.new result × Keeps work.old work.new }
 {
     let from = 64 + 16 * work.header.heap as usize;
@@ -116,5 +115,5 @@ pub fn linear(
         return Err(Stop::NoStep);
     }
     fetch(store_of(work), from, entries, scratch);
-    jump(&called.row, work, scratch, label, called.body)
+    jump(&called, work, scratch, label)
 }

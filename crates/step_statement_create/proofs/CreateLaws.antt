@@ -37,8 +37,9 @@ use Rattle.step_rule.proofs.Leads.{Leads}
 use Rattle.step_rule.proofs.Ways.{entries_stay, lead_made}
 use Rattle.step_rule.proofs.Statements.{Is, is_substitute, is_call, is_let, is_switch, is_create_lem, is_invoke, is_literal, is_op, is_ifc, is_print, is_exit, here, placed}
 use Rattle.step_last.proofs.NewCells.{cells_count}
+use Rattle.step_last.specs.NewCell.{with_cell}
 use Rattle.step_statement_create.specs.declared.create.Parts.{Parts}
-use Rattle.step_statement_create.specs.Creating.{PartsOf, closed, cell_slot_lem}
+use Rattle.step_statement_create.specs.Creating.{PartsOf, cell_slot_lem}
 
 -- ── what is read ──
 
@@ -108,12 +109,12 @@ module _ {M : Machine} {P : Prog} {store : List ℕ} {h : Header} {l : Located} 
       → M.step P (project P l) ≡ shows (Create' (length K)) (at t ε (K ++ (closure held cs ∷ []))) → p ≡ bodies_place l.position (stmt_in P l.position)
       → All (EntryFits (length l.cells)) held → environment_of l.cells held ≡ slots → j ≡ length slots
       → environment_of (l.cells ++ (made l.position held ∷ [])) ε ≡ environment → n + 1 ≡ length environment
-      → Leads M P l store h (event_head 6 1 0 0 h.cells) (closed h p j n) (cell_slot_lem h ∷ slots) environment
+      → Leads M P l store h (event_head 6 1 0 0 h.cells) (with_cell h p j n) (cell_slot_lem h ∷ slots) environment
   unfolding event_bytes next_place_lem environment_of
   lead_created held ε cs t n {p} {j} {slots} {environment} s q f v k w m =
       let new = made l.position held ∷ [] in
       let b : (slot 4 l.position (length l.cells) ∷ environment_of (l.cells ++ new) held) ++ [] ≡ cell_slot_lem h ∷ slots =
       append-nil _
       ∙ ap₂ {C = List Slot} (λ (a : Slot) (z : List Slot). a ∷ z) (ap₂ {C = Slot} (slot 4) (sym (viewed o).position) (sym (viewed o).cells)) (entries_stay l.cells new held f ∙ v) in
-      subst (λ (y : List ℕ). Leads M P l store h y (closed h p j n) (cell_slot_lem h ∷ slots) environment) (ap (event_head 6 1 0 0) (cells_count o))
+      subst (λ (y : List ℕ). Leads M P l store h y (with_cell h p j n) (cell_slot_lem h ∷ slots) environment) (ap (event_head 6 1 0 0) (cells_count o))
       (lead_made o t ε (Create' (length K)) (closure held cs) s q m w b (omega (arith, k)))

@@ -46,13 +46,14 @@ use Rattle.step_rule.proofs.Leads.{leads-makes}
 use Rattle.step_rule.proofs.Machines.{in_order, linear-works}
 use Rattle.step_last.proofs.LastEntries.{ends-entries, entries-count, last-slots, last-bytes, before-bytes}
 use Rattle.step_last.proofs.NewCells.{var-behind}
+use Rattle.step_last.specs.NewCell.{with_cell, var_slot_lem}
 use Rattle.step_statement_create.specs.declared.create.Parts.{Parts}
-use Rattle.step_statement_create.specs.Creating.{PartsOf, closed, cell_slot_lem, var_slot_lem, closing, Closes}
+use Rattle.step_statement_create.specs.Creating.{PartsOf, cell_slot_lem, closing, Closes}
 use Rattle.step_statement_create.proofs.CreateLaws.{Creation, created, body-place, finishes_as, lead_created}
 
 -- what was finished, with what the code computed
 pub closes_as : {store events store' events' shown front : List ℕ} {h next : Header} {at' k from kept : ℕ} {r : Parts} {head var : Slot} {m : Result Step Stop}
-    → next ≡ closed h r.next k (h.entries - k) → shown ≡ event_head 6 1 0 0 h.cells → from ≡ 64 + 16 * h.heap → kept ≡ h.entries - k
+    → next ≡ with_cell h r.next k (h.entries - k) → shown ≡ event_head 6 1 0 0 h.cells → from ≡ 64 + 16 * h.heap → kept ≡ h.entries - k
     → head ≡ cell_slot_lem h → var ≡ var_slot_lem h r.id → front ≡ slot_bytes head ++ take (16 * k) (drop (from + 16 * kept) store)
     → Finishes store events at' next shown from (front ++ (take (16 * kept) (drop from store) ++ slot_bytes var)) store' events' m → Closes store events h at' r k store' events' m
 closes_as {store} {front = front} {h} {k = k} {from} {kept} {r} {head} {var} header' event from' count cell' var' g w =

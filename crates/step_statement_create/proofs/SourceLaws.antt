@@ -30,8 +30,9 @@ use Rattle.step_rule.proofs.Views.{viewed}
 use Rattle.step_rule.proofs.Leads.{leads-makes}
 use Rattle.step_rule.proofs.Machines.{source-works}
 use Rattle.step_last.proofs.NewCells.{var-before}
+use Rattle.step_last.specs.NewCell.{with_cell, var_slot_lem}
 use Rattle.step_statement_create.specs.declared.create.Parts.{Parts}
-use Rattle.step_statement_create.specs.Creating.{PartsOf, closed, cell_slot_lem, var_slot_lem}
+use Rattle.step_statement_create.specs.Creating.{PartsOf, cell_slot_lem}
 use Rattle.step_statement_create.proofs.CreateLaws.{created, body-place, finishes_as, lead_created}
 
 -- what is written: the cell with the n slots from `from`, var, and these slots again
@@ -51,7 +52,7 @@ module _ {P : Prog} {store : List ℕ} {h : Header} {l : Located} (o : Stored so
 
   pub source-makes : {frame : Frame} {definitions : ℕ} {bytes ends events store' events' shown : List ℕ} {at' from n : ℕ} {r : Parts} {next : Header} {head var : Slot} {m : Result Step Stop}
       → ImageOf P frame definitions bytes → At frame bytes h.position 6 → Ends (image.records_in frame bytes) ends
-      → PartsOf frame bytes ends h.position r → next ≡ closed h r.next h.entries h.entries → shown ≡ event_head 6 1 0 0 h.cells
+      → PartsOf frame bytes ends h.position r → next ≡ with_cell h r.next h.entries h.entries → shown ≡ event_head 6 1 0 0 h.cells
       → from ≡ 64 + 16 * h.heap → n ≡ h.entries → head ≡ cell_slot_lem h → var ≡ var_slot_lem h r.id
       → Finishes store events at' next shown from (holding store from n head var) store' events' m → Makes store events at' (resting (located_step source_machine P l)) store' events' m
   unfolding source_work

@@ -2,11 +2,10 @@
 use Rattle.std.specs.Prelude.{Result, Err}
 use Prim.Native.Nat.{ℕ, ◌≤◌, ◌<◌}
 use mathlib.Core.Path.{◌≡◌, refl, sym, ap, ap₂, ◌∙◌}
-use mathlib.Core.Bool.{Bool, true, cond}
+use mathlib.Core.Bool.{true}
 use mathlib.Core.List.{List, map}
 use mathlib.Core.Option.{none, some}
 use native.Mathlib.Omega.{arith}
-use borrow.Author.Tests.{eq-eqb, ne_eqb}
 use lib.ListN.{length}
 use Rattle.syntax.specs.declared.names.VarId.{VarId}
 use Rattle.syntax.specs.declared.names.Identifier.{Identifier}
@@ -28,6 +27,8 @@ use Rattle.step_spec.proofs.Representable.{lookup-fits}
 use Rattle.step_header.specs.declared.Header.{Header}
 use Rattle.step_header.specs.Headers.{heap_in, entries_in}
 use Rattle.step_entries.specs.Named.{named}
+use Rattle.step_gather.specs.Gathering.{shown_as}
+use Rattle.step_gather.proofs.CellNumbers.{cell-number}
 use Rattle.step_write.specs.declared.Step.{Step}
 use Rattle.step_write.specs.declared.Stop.{Stop}
 use Rattle.step_write.specs.declared.Stop.TheVariants.{NoStep}
@@ -40,17 +41,13 @@ use Rattle.step_lookup.proofs.LookupLaws.{Asks, goes_with, nothing-made}
 use Rattle.step_stay.specs.Staying.{Stays}
 use Rattle.step_stay.proofs.StayingLaws.{stays-ended}
 use Rattle.step_statement_exit.specs.Shown.{number_at, shown_in}
-use Rattle.step_statement_exit.proofs.CellNumbers.{cell-number}
 
 -- ── what is shown ──
 
-pub shows-cell : (heap : List Slot) (t : Slot) → t.sort ≡ 1 → number_at heap t.payload ≡ shown_in heap t
-unfolding shown_in
-shows-cell heap t e = ap (λ (b : Bool). cond b (number_at heap t.payload) t.payload) (sym (eq-eqb t.sort 1 e))
-
-pub shows-itself : (heap : List Slot) (t : Slot) → (t.sort ≡ 1 → ⊥) → t.payload ≡ shown_in heap t
-unfolding shown_in
-shows-itself heap t e = ap (λ (b : Bool). cond b (number_at heap t.payload) t.payload) (sym (ne_eqb t.sort 1 e))
+-- as in other events
+pub as_shown : (heap : List Slot) (t : Slot) → (shown_as heap t).payload ≡ shown_in heap t
+unfolding shown_in number_at
+as_shown heap t = refl
 
 module _ {M : Machine} {P : Prog} {store : List ℕ} {h : Header} {l : Located} (o : Stored M P store h l) where
   -- the value that a slot is, as an event shows it
@@ -61,7 +58,7 @@ module _ {M : Machine} {P : Prog} {store : List ℕ} {h : Header} {l : Located} 
     payload : shown_in (heap_in store h) t ≡ (shown_slot value).payload
 
   valued : (x : VarId) {t : Slot} → Sees (place_of l.cells) x l.environment t → t.sort ≤ 4 → Valued x t
-  unfolding shown_in
+  unfolding shown_in number_at
   valued x (sees_none e) s = absurd (omega arith)
   valued x (sees-int z e f) s = record { value = int z; there = sym e; sort = refl; payload = refl }
   valued x (sees-cell k e) s =

@@ -1,3 +1,2 @@
--- The laws of Exit, and of the numbers of cells.
-pub mod CellNumbers
+-- The laws of Exit.
 pub mod ExitLaws

@@ -30,22 +30,17 @@ fn second(state: &State<'_>, snd: Option<Identifier>) -> Option<i64>
     }
 }
 
-// The step to a branch at this place.
-fn enter(work: &mut Work<'_, '_>, place: u32, branch: u8) -> Result<Step, Stop>
+// The step to a branch at this place. (`branch` is the byte that the event shows of it, 1 or 0, as the format has it: a bool would be made this byte at once,
+// and the clause would say of it what byte that is.)
+fn enter(work: &mut Work<'_>, place: u32, branch: u8) -> Result<Step, Stop>
     requires { Fit work.old }
     ensures { Stays work.old.store.now work.old.events.now work.old.header work.old.at place false (event_head 10 branch 0 0 0) work.new.store.now work.new.events.now result × Keeps work.old work.new }
 {
-    let event = EventHead {
-        kind: Kind::IfC,
-        detail: branch,
-        name: 0,
-        count: 0,
-        payload: 0,
-    };
+    let event = EventHead::of_payload(Kind::IfC, branch, 0);
     stay(work, place, false, event)
 }
 
-pub fn ifc(stepper: &Stepper<'_>, work: &mut Work<'_, '_>) -> Result<Step, Stop>
+pub fn ifc(stepper: &Stepper<'_>, work: &mut Work<'_>) -> Result<Step, Stop>
     requires { Given stepper.now work.old 10 }
     ensures { MakesAs (machine_in stepper.now) stepper.now work.old work.new result × Keeps work.old work.new }
 {

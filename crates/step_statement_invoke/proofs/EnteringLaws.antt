@@ -1,10 +1,10 @@
 -- What is written where a clause is entered, and where the run ends, as the code has it. Assumes nothing.
-use Prim.Native.Nat.{ℕ, ◌+◌, ◌*◌, ◌≤◌}
+use Prim.Native.Nat.{ℕ, ◌+◌, ◌*◌}
 use mathlib.Core.Path.{◌≡◌, sym, ap, ap₂, ◌∙◌, subst}
 use mathlib.Core.List.{List, [], ◌++◌, map}
 use native.Mathlib.Omega.{arith}
 use lib.ListN.{length, take, drop}
-use lib.Seq.{sets}
+use lib.Seq.{sets, length-sets, take_all}
 use Rattle.std.specs.Prelude.{Option as Maybe, Some, None, Result, Err}
 use Rattle.syntax.specs.declared.names.VarId.{VarId}
 use Rattle.image_spec.specs.Parse.{each}
@@ -29,23 +29,25 @@ use Rattle.step_enter.specs.declared.Parameters.{Parameters}
 use Rattle.step_enter.specs.Entering.{entered}
 use Rattle.step_statement_invoke.specs.Invoking.{EntranceOf, no-closure, EntersClause, over, Invokes, of-outside, of-nothing, of-closure}
 
--- the slots of `scratch` under other IDs are taken from it
-taken-renamed : (scratch scratch' : List ℕ) (k : ℕ) (xs : List VarId) → length xs ≡ k → 16 * k ≤ length scratch → scratch' ≡ sets scratch 0 (each slot_bytes (renamed xs (slots_at scratch 0 k)))
-    → take (16 * k) scratch' ≡ each slot_bytes (renamed xs (slots_at scratch 0 k))
-taken-renamed scratch scratch' k xs n r e =
-    let ts = slots_at scratch 0 k in
-    let m : length (renamed xs ts) ≡ k = renamed-length xs ts (n ∙ sym (slots-count scratch 0 k)) ∙ n in
-    ap (take (16 * k)) e ∙ taken-put scratch (each slot_bytes (renamed xs ts)) (16 * k) (slots_length (renamed xs ts) ∙ ap (λ (i : ℕ). 16 * i) m) r
+-- bytes that are so many slots, under other IDs
+renamed-whole : (bytes bytes' : List ℕ) (k : ℕ) (xs : List VarId) → length xs ≡ k → length bytes ≡ 16 * k → bytes' ≡ sets bytes 0 (each slot_bytes (renamed xs (slots_at bytes 0 k)))
+    → bytes' ≡ each slot_bytes (renamed xs (slots_at bytes 0 k))
+renamed-whole bytes bytes' k xs n r e =
+    let ts = slots_at bytes 0 k in
+    let m : length (renamed xs ts) ≡ k = renamed-length xs ts (n ∙ sym (slots-count bytes 0 k)) ∙ n in
+    let long : length bytes' ≡ 16 * k = ap length e ∙ (length-sets bytes 0 (each slot_bytes (renamed xs ts)) ∙ r) in
+    sym (take_all (16 * k) bytes' (omega (arith, long)))
+    ∙ (ap (take (16 * k)) e ∙ taken-put bytes (each slot_bytes (renamed xs ts)) (16 * k) (slots_length (renamed xs ts) ∙ ap (λ (i : ℕ). 16 * i) m) (omega (arith, r)))
 
-pub enters-clause : (scratch : List ℕ) {store events scratch' store' events' : List ℕ} {h : Header} {at : ℕ} {cell : Cell} {body tag : ℕ} (k : ℕ) {xs : List VarId}
-    {entries heap : ℕ} {shown : List ℕ} {m : Result Step Stop} → length xs ≡ k → 16 * k ≤ length scratch
-    → scratch' ≡ sets scratch 0 (each slot_bytes (renamed xs (slots_at scratch 0 k))) → entries ≡ k + cell.len → heap ≡ h.heap
+pub enters-clause : (bytes : List ℕ) {store events bytes' store' events' : List ℕ} {h : Header} {at : ℕ} {cell : Cell} {body tag : ℕ} (k : ℕ) {xs : List VarId}
+    {entries heap : ℕ} {shown : List ℕ} {m : Result Step Stop} → length xs ≡ k → length bytes ≡ 16 * k
+    → bytes' ≡ sets bytes 0 (each slot_bytes (renamed xs (slots_at bytes 0 k))) → entries ≡ k + cell.len → heap ≡ h.heap
     → shown ≡ event_head 7 1 tag 0 cell.number
-    → Finishes store events at (entered h body entries) shown (64 + 16 * heap) (take (16 * k) scratch' ++ take (16 * cell.len) (drop cell.from store)) store' events' m
-    → EntersClause store events h at cell body xs (slots_at scratch 0 k) tag store' events' m
-enters-clause scratch {store} {events} {scratch'} {store'} {events'} {h} {at} {cell} {body} {tag} k {xs} {entries} {heap} {shown} {m} n r e f g s w =
-    let c : entries ≡ length (slots_at scratch 0 k) + cell.len = f ∙ ap (λ (i : ℕ). i + cell.len) (sym (slots-count scratch 0 k)) in
-    let t = taken-renamed scratch scratch' k xs n r e in
+    → Finishes store events at (entered h body entries) shown (64 + 16 * heap) (bytes' ++ take (16 * cell.len) (drop cell.from store)) store' events' m
+    → EntersClause store events h at cell body xs (slots_at bytes 0 k) tag store' events' m
+enters-clause bytes {store} {events} {bytes'} {store'} {events'} {h} {at} {cell} {body} {tag} k {xs} {entries} {heap} {shown} {m} n r e f g s w =
+    let c : entries ≡ length (slots_at bytes 0 k) + cell.len = f ∙ ap (λ (i : ℕ). i + cell.len) (sym (slots-count bytes 0 k)) in
+    let t = renamed-whole bytes bytes' k xs n r e in
     let held = take (16 * cell.len) (drop cell.from store) in
     let Is : ℕ × (List ℕ × (ℕ × List ℕ)) → Type 0 =
     λ (z : ℕ × (List ℕ × (ℕ × List ℕ))). Finishes store events at (entered h body z.0) z.1.0 (64 + 16 * z.1.1.0) (z.1.1.1 ++ held) store' events' m in

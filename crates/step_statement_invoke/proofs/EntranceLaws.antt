@@ -1,5 +1,5 @@
 -- The clause that is entered: as the code finds it, and what is known of one that was found. Assumes nothing.
-use Prim.Native.Nat.{ℕ, ◌≤◌}
+use Prim.Native.Nat.{ℕ, ◌*◌, ◌≤◌}
 use mathlib.Core.Path.{◌≡◌, refl, ap, ◌∙◌, subst}
 use mathlib.Core.Bool.{true}
 use mathlib.Core.List.{List}
@@ -43,11 +43,11 @@ module _ {frame : Frame} {bytes : List ℕ} {cell : Cell} {tag k : ℕ} {p : Par
     entered-few = omega (arith, w.count, entered-fits.short)
 
     -- it can be entered
-    pub can_enter : {work : Work} {scratch : List ℕ} (value : Slot) → Fit work → cell ≡ cell_in' (heap_in work.store.now work.header) value → 2080 ≤ length scratch
-        → all_slots (slots_at scratch 0 k) ≡ true → Enterable work scratch cell p.row
-    can_enter {work} {scratch} value f e r s = record {
+    pub can_enter : {work : Work} {bytes : List ℕ} (value : Slot) → Fit work → cell ≡ cell_in' (heap_in work.store.now work.header) value → length bytes ≡ 16 * k
+        → all_slots (slots_at bytes 0 k) ≡ true → Enterable work bytes cell p.row
+    can_enter {work} {bytes} value f e r s = record {
       fit = f;
-      room = omega (arith, r, entered-few, w.count);
-      slots = ap (λ (m : ℕ). all_slots (slots_at scratch 0 m)) w.count ∙ s;
+      whole = omega (arith, r, w.count);
+      slots = ap (λ (m : ℕ). all_slots (slots_at bytes 0 m)) w.count ∙ s;
       closure = (cell_holds work.store.now work.header f.holds value e).inside;
     }

@@ -21,7 +21,7 @@ use Rattle.step_spec.specs.Located.{linear_machine, Located, stmt_in, located_st
 use Rattle.step_spec.specs.Store.{place_of, entry_slot, environment_of, EntryFits}
 use Rattle.step_spec.proofs.Lists.{all_take}
 use Rattle.step_header.specs.declared.Header.{Header}
-use Rattle.step_header.specs.Headers.{heap_in}
+use Rattle.step_header.specs.Headers.{heap_in, entries_in}
 use Rattle.step_gather.specs.Gathering.{shown_as, renamed}
 use Rattle.step_gather.proofs.Filling.{slot_of}
 use Rattle.step_gather.proofs.GatheringLaws.{renamed-values, shown-entries}
@@ -40,6 +40,9 @@ use Rattle.step_enter.proofs.Around.{nothing_makes}
 use Rattle.step_statement_invoke.specs.Invoking.{Invokes}
 use Rattle.step_statement_invoke.proofs.FirstSlots.{slots-take}
 use Rattle.step_statement_invoke.proofs.InvokeLaws.{Invocation, invocation-at, Rule, Valued, invokes-makes}
+use Rattle.step_entries.specs.Named.{last_slot}
+use Rattle.step_entries.proofs.LastLaws.{last-there}
+use Rattle.step_statement_invoke.proofs.EnteringLaws.{no-value}
 
 -- ---- the last entry
 
@@ -125,7 +128,17 @@ module _ {P : Prog} {store : List ℕ} {h : Header} {l : Located} (o : Stored li
         let x = last l.environment (h.entries - 1) (omega (arith, n, environment-count o)) in
         invokes-makes p o ready (linear-rule i) before-valued (last_met n x e) (subst Is (λ j. (c j, q j)) w)
 
-    pub linear_none : {events : List ℕ} {at' : ℕ} → h.entries ≡ 0 → Makes store events at' (resting (located_step linear_machine P l)) store events (Err NoStep)
+    linear_none : {events : List ℕ} {at' : ℕ} → h.entries ≡ 0 → Makes store events at' (resting (located_step linear_machine P l)) store events (Err NoStep)
     linear_none n =
         let i = invocation-at p o a in
         nothing_makes o ((linear-rule i).goes ∙ ap (λ (v : Option Value). or_halt v λ v. or_halt (invoked (cells_of P l) v) (linear-rule i).enter) (none_last n))
+
+    -- .. where no value is found
+    pub none_makes : {events : List ℕ} {at' : ℕ} → Ready frame bytes → no_slot ≡ last_slot (entries_in store h) → Makes store events at' (resting (located_step linear_machine P l)) store events (Err NoStep)
+    none_makes {events} {at'} ready q = go h.entries refl
+      where
+        go : (n : ℕ) → n ≡ h.entries → Makes store events at' (resting (located_step linear_machine P l)) store events (Err NoStep)
+        go zero e = linear_none (sym e)
+        go (suc n) e =
+            let some_there : 0 < h.entries = omega (arith, e) in
+            linear-makes ready some_there (last-there store (64 + 16 * h.heap) h.entries q some_there) refl refl no-value

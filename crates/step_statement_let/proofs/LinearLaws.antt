@@ -39,8 +39,9 @@ use Rattle.step_gather.proofs.GatheringLaws.{erased}
 use Rattle.step_last.proofs.LastEntries.{ends-entries, entries-count, last-slots, before-bytes}
 use Rattle.step_last.proofs.NewCells.{var-behind}
 use Rattle.step_tags.specs.Tags.{tag_in}
+use Rattle.step_last.specs.NewCell.{var_slot_lem}
 use Rattle.step_statement_let.specs.declared.let_.Parts.{Parts}
-use Rattle.step_statement_let.specs.Letting.{PartsOf, kept, cell_slot_lem, var_slot_lem, Adds}
+use Rattle.step_statement_let.specs.Letting.{PartsOf, kept, cell_slot_lem, Adds}
 use Rattle.step_statement_let.proofs.LetLaws.{Letting, let_here, lead_let}
 
 -- what was packed from a state, of the store and the header that it has

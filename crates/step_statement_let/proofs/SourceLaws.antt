@@ -42,8 +42,9 @@ use Rattle.step_gather.specs.Gathering.{found_slots}
 use Rattle.step_gather.proofs.GatheringLaws.{Gathered, gathered, not_gathered}
 use Rattle.step_last.proofs.NewCells.{var-before}
 use Rattle.step_tags.specs.Tags.{tag_in}
+use Rattle.step_last.specs.NewCell.{var_slot_lem}
 use Rattle.step_statement_let.specs.declared.let_.Parts.{Parts}
-use Rattle.step_statement_let.specs.Letting.{PartsOf, kept, cell_slot_lem, var_slot_lem, Packs, Adds}
+use Rattle.step_statement_let.specs.Letting.{PartsOf, kept, cell_slot_lem, Packs, Adds}
 use Rattle.step_statement_let.proofs.LetLaws.{Letting, let_here, lead_let}
 
 module _ {P : Prog} {frame : Frame} {definitions : ℕ} {bytes store : List ℕ} {h : Header} {l : Located} (p : ImageOf P frame definitions bytes) (o : Stored source_machine P store h l)

@@ -7,7 +7,8 @@ ghost use Rattle.step_spec.specs.Located.{source_machine, linear_machine};
 ghost use Rattle.step_entries.specs.Named.{under};
 ghost use Rattle.step_write.specs.Writing.{head_bytes};
 ghost use Rattle.step_rule.specs.Rules.{Given, MakesAs};
-ghost use Rattle.step_statement_let.specs.Letting.{PartsOf, kept, cell_slot_lem, var_slot_lem, Packs, Adds};
+ghost use Rattle.step_statement_let.specs.Letting.{PartsOf, kept, cell_slot_lem, Packs, AddsBefore, AddsBehind};
+ghost use Rattle.step_last.specs.NewCell.{var_slot_lem};
 ghost use Rattle.step_header.specs.States.{entries_of};
 ghost use Rattle.step_rows.specs.Rows.{ids_of};
 ghost use Rattle.step_write.specs.Working.{Fit, Keeps};
@@ -21,13 +22,14 @@ use image_write_bytes::bytes::copy;
 use step_gather::{erase, gather};
 use step_header::Header;
 use step_header::state::State;
+use step_last::{after, var_slot};
 use step_places::stepper::Stepper;
 use step_rows::records::list_row;
 use step_rows::row::Row;
 use step_slots::sort::Sort;
 use step_slots::{Slot, put_slot};
 use step_tags::tag_of;
-use step_write::{EventHead, Step, Stop, Work, finish, finish_before, state_of};
+use step_write::{EventHead, Scratch, Step, Stop, Work, finish, finish_before, state_of};
 
 // What is read of a Let: the ID of its var, the name of its tag, and the row of its args.
 #[derive(Clone, Copy)]
@@ -52,35 +54,14 @@ fn read_parts<'a>(node: &RecordAt<'a>) -> Parts<'a>
     }
 }
 
-// The header after a Let whose cell holds `held` values, where `others` entries stay beside var.
-fn after(header: Header, held: u64, others: u64) -> Header
-    requires { (header.position + 1 < 2 ^ 32) × ((header.cells + 1 < 2 ^ 64) × ((header.heap + (held + 1) < 2 ^ 64) × (others + 1 < 2 ^ 64))) }
-    ensures { result ≡ kept header held others }
-{
-    Header {
-        position: header.position + 1,
-        ended: false,
-        stopped: false,
-        cells: header.cells + 1,
-        heap: header.heap + (held + 1),
-        entries: others + 1,
-    }
-}
-
 // The number of the new cell is shown, and its tag.
 fn event(header: Header, tag: u32) -> EventHead
     ensures { head_bytes result ≡ event_head 4 1 tag 0 header.cells }
 {
-    EventHead {
-        kind: Kind::Let,
-        detail: 1,
-        name: tag,
-        count: 0,
-        payload: header.cells,
-    }
+    EventHead::of_cell(Kind::Let, tag, header.cells)
 }
 
-// The new cell's own slot.
+// The new cell's own slot. (Not one with Create's: the sort and the ID would be its parameters, and then it is the slot.)
 fn cell_slot(header: Header, tag: u32) -> Slot
     ensures { as_slot result ≡ cell_slot_lem header tag }
 {
@@ -91,20 +72,10 @@ fn cell_slot(header: Header, tag: u32) -> Slot
     }
 }
 
-// The new cell under var.
-fn var_slot(header: Header, id: u32) -> Slot
-    ensures { as_slot result ≡ var_slot_lem header id }
-{
-    Slot {
-        sort: Sort::Cell,
-        id,
-        payload: header.heap,
-    }
-}
-
-// A cell that holds the values of the args, and var behind it, at the beginning of `scratch`; no, if one is absent.
-fn pack_found(state: &State<'_>, parts: &Parts<'_>, scratch: &mut [u8]) -> bool
-    requires { 16 * (parts.now.args.places.len + 2) ≤ length scratch.old }
+// A cell that holds the values of the args, and var behind it, at the beginning of `scratch`; no, if one is absent. (A yes or no: what it makes is in
+// `scratch`, and where it is no, that is of no use.)
+fn pack_found(state: &State<'_>, parts: &Parts<'_>, scratch: &mut Scratch) -> bool
+    requires { parts.now.args.places.len ≤ 128 }
     ensures { Packs (entries_of state.now) (ids_of parts.now.args) state.now.header parts.now scratch.new result }
 {
     let header = state.header;
@@ -121,30 +92,30 @@ fn pack_found(state: &State<'_>, parts: &Parts<'_>, scratch: &mut [u8]) -> bool
     true
 }
 
-// The cell of k values and var that are in `scratch` go before the entries.
-fn add_before(
-    work: &mut Work<'_, '_>,
-    scratch: &[u8],
-    parts: &Parts<'_>,
-    k: usize,
-) -> Result<Step, Stop>
-    requires { Fit work.old × ((16 * (k + 2) ≤ length scratch.now) × (work.old.header.position + 1 < 2 ^ 32)) }
-    ensures { Adds work.old.store.now work.old.events.now work.old.header work.old.at parts.now k work.old.header.entries (take (16 * (k + 2)) scratch.now ++ take (16 * work.old.header.entries) (drop (64 + 16 * work.old.header.heap) work.old.store.now)) work.new.store.now work.new.events.now result × Keeps work.old work.new }
+// The cell of the args' values and var go before the entries.
+fn add_before(work: &mut Work<'_>, slots: &[u8], parts: &Parts<'_>) -> Result<Step, Stop>
+    requires { Fit work.old × ((length slots.now ≡ 16 * (parts.now.args.places.len + 2)) × (work.old.header.position + 1 < 2 ^ 32)) }
+    ensures { AddsBefore work.old work.new parts.now slots.now result }
 {
     let heap = work.header.heap as usize;
     let n = work.header.entries as usize;
-    let next = after(work.header, k as u64, work.header.entries);
+    let next = after(
+        work.header,
+        work.header.position + 1,
+        parts.args.places.len as u64,
+        work.header.entries,
+    );
     let shown = event(work.header, parts.tag);
-    finish(work, scratch, shown, next, 64 + 16 * heap, n, k + 2)
+    finish(work, slots, shown, next, 64 + 16 * heap, n)
 }
 
 // The source machine's: the args are looked up, and the environment stays behind var.
 pub fn source(
     stepper: &Stepper<'_>,
-    work: &mut Work<'_, '_>,
-    scratch: &mut [u8],
+    work: &mut Work<'_>,
+    scratch: &mut Scratch,
 ) -> Result<Step, Stop>
-    requires { Given stepper.now work.old 4 × (2080 ≤ length scratch.old) }
+    requires { Given stepper.now work.old 4 }
     ensures { MakesAs source_machine stepper.now work.old work.new result × Keeps work.old work.new }
 {
     let node = RecordAt {
@@ -157,13 +128,14 @@ pub fn source(
     if !pack_found(&state, &parts, scratch) {
         return Err(Stop::NoStep);
     }
-    add_before(work, scratch, &parts, parts.args.places.len)
+    let k = parts.args.places.len;
+    add_before(work, &scratch[..16 * (k + 2)], &parts)
 }
 
 // `tag` and `k`: all that the linear machine needs of a Let's parts here; the IDs of its args are not read.
 // A cell that holds the values of the last k entries, at the beginning of `scratch`.
-fn pack_last(state: &State<'_>, tag: u32, k: usize, scratch: &mut [u8])
-    requires { (k ≤ state.now.header.entries) × (16 * (k + 1) ≤ length scratch.old) }
+fn pack_last(state: &State<'_>, tag: u32, k: usize, scratch: &mut Scratch)
+    requires { (k ≤ state.now.header.entries) × (k ≤ 128) }
     ensures { take (16 * (k + 1)) scratch.new ≡ each slot_bytes (cell_slot_lem state.now.header tag ∷ map (under 0) (drop (state.now.header.entries - k) (entries_of state.now))) }
 {
     let header = state.header;
@@ -175,40 +147,32 @@ fn pack_last(state: &State<'_>, tag: u32, k: usize, scratch: &mut [u8])
     erase(scratch, 16, k);
 }
 
-// The cell of k values that is in `scratch` goes before what is left without the last k entries, and var behind it.
-fn add_behind(
-    work: &mut Work<'_, '_>,
-    scratch: &[u8],
-    parts: &Parts<'_>,
-    k: usize,
-) -> Result<Step, Stop>
-    requires { Fit work.old × ((16 * (k + 1) ≤ length scratch.now) × ((work.old.header.position + 1 < 2 ^ 32) × (k ≤ work.old.header.entries))) }
-    ensures { Adds work.old.store.now work.old.events.now work.old.header work.old.at parts.now k (work.old.header.entries - k) (take (16 * (k + 1)) scratch.now ++ (take (16 * (work.old.header.entries - k)) (drop (64 + 16 * work.old.header.heap) work.old.store.now) ++ slot_bytes (var_slot_lem work.old.header parts.now.id))) work.new.store.now work.new.events.now result × Keeps work.old work.new }
+// The cell of the args' values goes before what is left without as many last entries, and var behind it.
+fn add_behind(work: &mut Work<'_>, slots: &[u8], parts: &Parts<'_>) -> Result<Step, Stop>
+    requires { Fit work.old × ((length slots.now ≡ 16 * (parts.now.args.places.len + 1)) × ((work.old.header.position + 1 < 2 ^ 32) × (parts.now.args.places.len ≤ work.old.header.entries))) }
+    ensures { AddsBehind work.old work.new parts.now slots.now result }
 {
+    let k = parts.args.places.len;
     let heap = work.header.heap as usize;
     let others = work.header.entries as usize - k;
-    let next = after(work.header, k as u64, others as u64);
+    let next = after(
+        work.header,
+        work.header.position + 1,
+        k as u64,
+        others as u64,
+    );
     let shown = event(work.header, parts.tag);
     let var = var_slot(work.header, parts.id);
-    finish_before(
-        work,
-        scratch,
-        shown,
-        next,
-        64 + 16 * heap,
-        others,
-        var,
-        k + 1,
-    )
+    finish_before(work, slots, shown, next, 64 + 16 * heap, others, var)
 }
 
 // The linear machine's: the last entries become the cell's values. With fewer entries than args it would have stopped.
 pub fn linear(
     stepper: &Stepper<'_>,
-    work: &mut Work<'_, '_>,
-    scratch: &mut [u8],
+    work: &mut Work<'_>,
+    scratch: &mut Scratch,
 ) -> Result<Step, Stop>
-    requires { Given stepper.now work.old 4 × (2080 ≤ length scratch.old) }
+    requires { Given stepper.now work.old 4 }
     ensures { MakesAs linear_machine stepper.now work.old work.new result × Keeps work.old work.new }
 {
     let node = RecordAt {
@@ -223,5 +187,5 @@ pub fn linear(
     }
     let state = state_of(work);
     pack_last(&state, parts.tag, k, scratch);
-    add_behind(work, scratch, &parts, k)
+    add_behind(work, &scratch[..16 * (k + 1)], &parts)
 }

@@ -1,22 +1,20 @@
 // literal.rs: the integer, under var.
 ghost use Rattle.step_write.specs.Working.{Keeps};
 ghost use Rattle.step_rule.specs.Rules.{Given, machine_in, MakesAs};
-ghost use Rattle.std.specs.Prelude.{length, ◌≤◌};
 
-use image_integers::bits;
 use image_kinds::kinds::Kind;
 use image_read_parts::record::RecordAt;
 use pass_records as records;
 use step_bind::bind;
 use step_places::stepper::Stepper;
-use step_write::{Step, Stop, Work};
+use step_write::{Scratch, Step, Stop, Work};
 
 pub fn literal(
     stepper: &Stepper<'_>,
-    work: &mut Work<'_, '_>,
-    scratch: &mut [u8],
+    work: &mut Work<'_>,
+    scratch: &mut Scratch,
 ) -> Result<Step, Stop>
-    requires { Given stepper.now work.old 8 × (2080 ≤ length scratch.old) }
+    requires { Given stepper.now work.old 8 }
     ensures { MakesAs (machine_in stepper.now) stepper.now work.old work.new result × Keeps work.old work.new }
 {
     let node = RecordAt {
@@ -31,6 +29,6 @@ pub fn literal(
         scratch,
         Kind::Literal,
         statement.var.id.0,
-        bits(statement.lit),
+        statement.lit.cast_unsigned(),
     )
 }

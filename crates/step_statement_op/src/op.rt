@@ -1,9 +1,7 @@
 // op.rs: what the operator gives of two integers, under var.
 ghost use Rattle.step_write.specs.Working.{Keeps};
 ghost use Rattle.step_rule.specs.Rules.{Given, machine_in, MakesAs};
-ghost use Rattle.std.specs.Prelude.{length, ◌≤◌};
 
-use image_integers::bits;
 use image_kinds::kinds::Kind;
 use image_read_parts::record::RecordAt;
 use pass_records as records;
@@ -11,10 +9,10 @@ use step_arithmetic::operation::evaluate;
 use step_bind::bind;
 use step_lookup::integer_of;
 use step_places::stepper::Stepper;
-use step_write::{Step, Stop, Work, state_of};
+use step_write::{Scratch, Step, Stop, Work, state_of};
 
-pub fn op(stepper: &Stepper<'_>, work: &mut Work<'_, '_>, scratch: &mut [u8]) -> Result<Step, Stop>
-    requires { Given stepper.now work.old 9 × (2080 ≤ length scratch.old) }
+pub fn op(stepper: &Stepper<'_>, work: &mut Work<'_>, scratch: &mut Scratch) -> Result<Step, Stop>
+    requires { Given stepper.now work.old 9 }
     ensures { MakesAs (machine_in stepper.now) stepper.now work.old work.new result × Keeps work.old work.new }
 {
     let node = RecordAt {
@@ -33,6 +31,6 @@ pub fn op(stepper: &Stepper<'_>, work: &mut Work<'_, '_>, scratch: &mut [u8]) ->
         scratch,
         Kind::Op,
         statement.var.id.0,
-        bits(z),
+        z.cast_unsigned(),
     )
 }

@@ -2,7 +2,6 @@
 ghost use Rattle.step_write.specs.Working.{Keeps};
 ghost use Rattle.step_rule.specs.Rules.{Given, machine_in, MakesAs};
 
-use image_integers::bits;
 use image_kinds::kinds::Kind;
 use image_read_parts::record::RecordAt;
 use pass_records as records;
@@ -11,7 +10,7 @@ use step_places::stepper::Stepper;
 use step_stay::stay;
 use step_write::{EventHead, Step, Stop, Work, state_of};
 
-pub fn print(stepper: &Stepper<'_>, work: &mut Work<'_, '_>) -> Result<Step, Stop>
+pub fn print(stepper: &Stepper<'_>, work: &mut Work<'_>) -> Result<Step, Stop>
     requires { Given stepper.now work.old 12 }
     ensures { MakesAs (machine_in stepper.now) stepper.now work.old work.new result × Keeps work.old work.new }
 {
@@ -24,12 +23,6 @@ pub fn print(stepper: &Stepper<'_>, work: &mut Work<'_, '_>) -> Result<Step, Sto
     let header = work.header;
     let state = state_of(work);
     let z = integer_of(&state, statement.var.id.0).ok_or(Stop::NoStep)?;
-    let event = EventHead {
-        kind: Kind::Print,
-        detail: u8::from(statement.newline),
-        name: 0,
-        count: 0,
-        payload: bits(z),
-    };
+    let event = EventHead::of_payload(Kind::Print, u8::from(statement.newline), z.cast_unsigned());
     stay(work, header.position + 1, false, event)
 }

@@ -1,8 +1,8 @@
 // substitute.rs: the list rebuilt from the pairs.
-ghost use Rattle.std.specs.Prelude.{◌≡◌, ◌+◌, ◌*◌, ◌≤◌, ◌<◌, ◌^◌, length, take};
+ghost use Rattle.std.specs.Prelude.{◌≡◌, ◌+◌, ◌*◌, ◌/◌, ◌≤◌, ◌<◌, ◌^◌, length};
 ghost use Rattle.step_spec.specs.Located.{linear_machine};
 ghost use Rattle.step_rule.specs.Rules.{Given, MakesAs};
-ghost use Rattle.step_statement_substitute.specs.Substituting.{PartsOf, rebuilt, Packs, Replaces};
+ghost use Rattle.step_statement_substitute.specs.Substituting.{PartsOf, Packs, Replaces};
 ghost use Rattle.step_header.specs.States.{entries_of};
 ghost use Rattle.step_write.specs.Working.{Fit, Keeps};
 ghost use Rattle.step_rows.specs.Rows.{ids_of};
@@ -17,7 +17,7 @@ use step_header::state::State;
 use step_places::stepper::Stepper;
 use step_rows::records::{source_row, target_row};
 use step_rows::row::Row;
-use step_write::{Step, Stop, Work, finish_silent, state_of};
+use step_write::{Scratch, Step, Stop, Work, finish_silent, state_of};
 
 // What is read of a Substitute: the IDs that it gives, and those that it takes the values from.
 #[derive(Clone, Copy)]
@@ -36,9 +36,10 @@ fn read_parts<'a>(node: &RecordAt<'a>) -> Parts<'a>
     Parts { targets, sources }
 }
 
-// The values of the sources under the IDs of the targets, at the beginning of `scratch`; no, if one is absent.
-fn pack(state: &State<'_>, parts: &Parts<'_>, scratch: &mut [u8]) -> bool
-    requires { (parts.now.targets.places.len ≡ parts.now.sources.places.len) × (16 * parts.now.targets.places.len ≤ length scratch.old) }
+// The values of the sources under the IDs of the targets, at the beginning of `scratch`; no, if one is absent. (A yes or no: what it makes is in `scratch`,
+// and where it is no, that is of no use.)
+fn pack(state: &State<'_>, parts: &Parts<'_>, scratch: &mut Scratch) -> bool
+    requires { (parts.now.targets.places.len ≡ parts.now.sources.places.len) × (parts.now.targets.places.len ≤ 128) }
     ensures { Packs (entries_of state.now) (ids_of parts.now.targets) (ids_of parts.now.sources) scratch.new result }
 {
     if !gather(&parts.sources, state, scratch, 0) {
@@ -48,37 +49,29 @@ fn pack(state: &State<'_>, parts: &Parts<'_>, scratch: &mut [u8]) -> bool
     true
 }
 
-// The header after a Substitute of k pairs.
-fn after(header: Header, k: u64) -> Header
-    requires { header.position + 1 < 2 ^ 32 }
-    ensures { result ≡ rebuilt header k }
-{
-    Header {
-        position: header.position + 1,
-        ended: false,
-        stopped: false,
-        entries: k,
-        ..header
-    }
-}
-
-// The first k slots of `scratch` instead of the entries. (Scratch is lent whole; k is what the header counts too.)
-fn replace(work: &mut Work<'_, '_>, scratch: &[u8], k: usize) -> Result<Step, Stop>
-    requires { Fit work.old × ((16 * k ≤ length scratch.now) × (work.old.header.position + 1 < 2 ^ 32)) }
-    ensures { Replaces work.old.store.now work.old.events.now work.old.header work.old.at k (take (16 * k) scratch.now) work.new.store.now work.new.events.now result × Keeps work.old work.new }
+// These slots instead of the entries.
+fn replace(work: &mut Work<'_>, slots: &[u8]) -> Result<Step, Stop>
+    requires { Fit work.old × ((16 * (length slots.now / 16) ≡ length slots.now) × (work.old.header.position + 1 < 2 ^ 32)) }
+    ensures { Replaces work.old.store.now work.old.events.now work.old.header work.old.at (length slots.now / 16) slots.now work.new.store.now work.new.events.now result × Keeps work.old work.new }
 {
     let from = 64 + 16 * work.header.heap as usize;
-    let next = after(work.header, k as u64);
-    finish_silent(work, scratch, next, from, k)
+    let next = Header {
+        position: work.header.position + 1,
+        ended: false,
+        stopped: false,
+        entries: (slots.len() / 16) as u64,
+        ..work.header
+    };
+    finish_silent(work, slots, next, from)
 }
 
 // The linear machine's. (The source machine has no rule.)
 pub fn linear(
     stepper: &Stepper<'_>,
-    work: &mut Work<'_, '_>,
-    scratch: &mut [u8],
+    work: &mut Work<'_>,
+    scratch: &mut Scratch,
 ) -> Result<Step, Stop>
-    requires { Given stepper.now work.old 2 × (2080 ≤ length scratch.old) }
+    requires { Given stepper.now work.old 2 }
     ensures { MakesAs linear_machine stepper.now work.old work.new result × Keeps work.old work.new }
 {
     let node = RecordAt {
@@ -91,5 +84,5 @@ pub fn linear(
     if !pack(&state, &parts, scratch) {
         return Err(Stop::NoStep);
     }
-    replace(work, scratch, parts.targets.places.len)
+    replace(work, &scratch[..16 * parts.targets.places.len])
 }

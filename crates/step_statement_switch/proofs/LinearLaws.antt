@@ -1,5 +1,5 @@
 -- Switch: the linear machine's. Assumes nothing.
-use Prim.Native.Nat.{ℕ, ◌+◌, ◌-◌, ◌*◌, ◌<◌}
+use Prim.Native.Nat.{ℕ, ◌+◌, ◌-◌, ◌*◌, ◌<◌, zero, suc}
 use mathlib.Core.Path.{◌≡◌, refl, sym, ap, ap₂, ◌∙◌, subst}
 use mathlib.Core.List.{List, [], ◌∷◌, ◌++◌, append-nil}
 use mathlib.Core.Option.{Option, none, some}
@@ -14,12 +14,12 @@ use Rattle.model.specs.Linear.{last_of, before_last, first, last_value_lem, show
 use Rattle.image_directory.specs.declared.Frame.{Frame}
 use Rattle.image_read_parts.specs.Indexed.{record_at, At}
 use Rattle.step_slots.specs.Slots.{Slot}
-use Rattle.step_slots.specs.Views.{slot_at, slots_at}
+use Rattle.step_slots.specs.Views.{slot_at, slots_at, no_slot}
 use Rattle.step_spec.specs.Located.{linear_machine, Located, stmt_in, is_stop, located_step}
 use Rattle.step_spec.specs.Store.{place_of, entry_slot, environment_of}
 use Rattle.step_spec.proofs.Representable.{last_fits}
 use Rattle.step_header.specs.declared.Header.{Header}
-use Rattle.step_header.specs.Headers.{heap_in}
+use Rattle.step_header.specs.Headers.{heap_in, entries_in}
 use Rattle.step_scan.proofs.PassLaws.{slots-drop, slots_next}
 use Rattle.step_cells.specs.Cells.{cell_in'}
 use Rattle.step_cells.proofs.CellLaws.{Meets, cells_of, meets}
@@ -34,7 +34,9 @@ use Rattle.step_enter.proofs.Twice.{not_twice}
 use Rattle.step_enter.proofs.Around.{Around, nothing_makes}
 use Rattle.step_statement_switch.specs.Switching.{Switches}
 use Rattle.step_statement_switch.proofs.TheSwitch.{Switching, the_switch}
-use Rattle.step_statement_switch.proofs.SwitchLaws.{Works, entering, switches-makes}
+use Rattle.step_statement_switch.proofs.SwitchLaws.{Works, entering, switches-makes, no-value}
+use Rattle.step_entries.specs.Named.{last_slot}
+use Rattle.step_entries.proofs.LastLaws.{last-there}
 
 no_last : (ε : Entries) → length ε ≡ 0 → last_value_lem ε ≡ none
 no_last [] e = refl
@@ -101,3 +103,14 @@ module _ {P : Prog} {store : List ℕ} {h : Header} {l : Located} (o : Stored li
         let k : 64 + 16 * (heap + (n - 1)) ≡ 64 + 16 * (h.heap + (h.entries - 1)) = ap₂ {C = ℕ} (λ (i j : ℕ). 64 + 16 * (i + (j - 1))) e f in
         switches-makes p o t (works t) (last_met (omega (arith, f, s)) k v) before_others
         (subst (λ (j : ℕ). Switches frame bytes store events h at' value (j - 1) 0 store' events' m) f w)
+
+    -- .. where no value is found
+    pub none_makes : {events : List ℕ} {at' : ℕ} → no_slot ≡ last_slot (entries_in store h) → Makes store events at' (resting (located_step linear_machine P l)) store events (Err NoStep)
+    none_makes {events} {at'} q = go h.entries refl
+      where
+        go : (n : ℕ) → n ≡ h.entries → Makes store events at' (resting (located_step linear_machine P l)) store events (Err NoStep)
+        go zero e = empty-makes e refl
+        go (suc n) e =
+            let there = last-there store (64 + 16 * h.heap) h.entries q (omega (arith, e)) in
+            let k : 64 + 16 * h.heap + 16 * (h.entries - 1) ≡ 64 + 16 * (h.heap + (h.entries - 1)) = omega arith in
+            linear-makes refl refl (omega (arith, e)) (there ∙ ap (slot_at store) k) no-value

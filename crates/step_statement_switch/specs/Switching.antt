@@ -9,6 +9,9 @@ use Rattle.step_header.specs.Headers.{heap_in}
 use Rattle.step_rows.specs.Rows.{ids_of}
 use Rattle.step_cells.specs.Cells.{Cell, cell_in'}
 use Rattle.step_gather.specs.Gathering.{renamed}
+use Rattle.step_places.specs.declared.stepper.Stepper.{Stepper}
+use Rattle.step_write.specs.declared.Work.{Work}
+use Rattle.step_write.specs.Working.{Keeps}
 use Rattle.step_write.specs.declared.Step.{Step}
 use Rattle.step_write.specs.declared.Stop.{Stop}
 use Rattle.step_write.specs.declared.Stop.TheVariants.{NoStep}
@@ -33,3 +36,8 @@ pub data SwitchesOn (frame : Frame) (bytes store events : List ℕ) (h : Header)
 -- .. with the cell to which this value refers
 abbrev pub Switches : Frame → (bytes store events : List ℕ) → Header → (at : ℕ) → Slot → (j n : ℕ) → (store' events' : List ℕ) → Result Step Stop → Type 0
 Switches frame bytes store events h at value j n store' events' m = SwitchesOn frame bytes store events h at (cell_in' (heap_in store h) value) j n store' events' m
+
+-- .. of the state in the one `Work`, to the state in the other, with the same two buffers
+abbrev pub SwitchesIn : Stepper → (w w' : Work) → Slot → (j n : ℕ) → Result Step Stop → Type 0
+SwitchesIn s w w' value j n m =
+    Switches s.image.frame s.image.bytes.now w.store.now w.events.now w.header w.at value j n w'.store.now w'.events.now m × Keeps w w'

@@ -26,12 +26,6 @@ use Rattle.step_rule.proofs.Leads.{Leads, leads-makes}
 use Rattle.step_rule.proofs.Ways.{lead_same, lead_ended}
 use Rattle.step_stay.specs.Staying.{stayed, Stays}
 
--- what was finished, from the end of the slots as the code computed it
-pub stays_as : {store events store' events' shown : List ℕ} {h : Header} {at' p : ℕ} {e : Bool} {from : ℕ} {m : Result Step Stop} → from ≡ size h → Finishes store events at' (stayed h p e) shown from [] store' events' m
-    → Stays store events h at' p e shown store' events' m
-stays_as {store} {events} {store'} {events'} {shown} {h} {at'} {p} {e} {from} {m} q f =
-    record { finishes = subst (λ (i : ℕ). Finishes store events at' (stayed h p e) shown i [] store' events' m) q f }
-
 module _ {M : Machine} {P : Prog} {store : List ℕ} {h : Header} {l : Located} (o : Stored M P store h l) {events store' events' : List ℕ} {at' p : ℕ} {m : Result Step Stop} where
   leads : {e : Bool} {shown : List ℕ} → Leads M P l store h shown (stayed h p e) [] (entries_in store h) → Stays store events h at' p e shown store' events' m
       → Makes store events at' (resting (located_step M P l)) store' events' m

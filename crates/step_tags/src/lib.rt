@@ -11,6 +11,8 @@ use image_read_parts::identifier;
 use image_read_parts::record::RecordAt;
 use syntax::names::Identifier;
 
+// Where the tag stands in the record.
+// (`_` is an Invoke: callers have no other kind. The definition has two cases too, so eleven names more would say no more.)
 fn tag_at(kind: Kind, w: usize) -> usize
     requires { w ≤ 4 }
     ensures { result ≡ tag_at w (code_of kind) }

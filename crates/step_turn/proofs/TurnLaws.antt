@@ -88,7 +88,8 @@ module _ {M : Machine} (lawful : Lawful M) {P : Prog} {stepper : Stepper} {bytes
       go (some r) e k = record { step = r; is = e; reads = made_reads r e k }
 
   module _ (s : l.has_stopped ≡ false) {events store₁ store₂ events₁ : List ℕ} {at : ℕ} {step : Step} {h₂ : Header} (w : Settles M stepper bytes store₁ step.header store₂ h₂) where
-    settled : (r : Stepped) → located_step M P l ≡ some r → MadeStep store events at (some (r.0, going' r.1)) store₁ events₁ step → Makes store events at (located_step M P l) store₂ events₁ (Ok (record { header = h₂; at = step.at }))
+    settled : (r : Stepped) → located_step M P l ≡ some r → MadeStep store events at (some (r.0, going' r.1)) store₁ events₁ step
+        → Makes store events at (located_step M P l) store₂ events₁ (Ok (record { header = h₂; at = step.at }))
     unfolding project
     settled r e m =
         let l₁ = going' r.1 in

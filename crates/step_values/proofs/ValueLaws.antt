@@ -1,5 +1,5 @@
--- The values of a start: the loop that tests them, and what it says of `givens`. Assumes nothing.
-use Prim.Native.Nat.{ℕ, zero, suc, ◌+◌, ◌-◌, ◌*◌, ◌≤◌, ◌<◌}
+-- The values of a start: the test of them all, and what it says of `givens`. Assumes nothing.
+use Prim.Native.Nat.{ℕ, zero, suc, ◌+◌, ◌*◌}
 use mathlib.Core.Path.{◌≡◌, refl, sym, ap, ap₂, ◌∙◌}
 use mathlib.Core.Bool.{Bool, true, false, ◌&&◌, ◌||◌, cond, false≢true}
 use mathlib.Core.List.{List, [], ◌∷◌, map}
@@ -7,10 +7,11 @@ use mathlib.Core.Option.{Option, none, some}
 use native.Mathlib.Omega.{arith}
 use borrow.Author.Tests.{eq-eqb, eqb-true, le-leb}
 use lib.Dec.{eqb, ltb}
-use lib.ListN.{length, drop, length-append, length-drop}
+use lib.ListN.{length, drop, drop_of_length-le, length-append}
 use mir.Syntax.{w64}
 use mir.Val.{to_z}
 use mir.ValLaws.{of_z-to_z}
+use Rattle.std.specs.List.{list_all, range_with_len}
 use Rattle.model.specs.Machine.{Given, integer, outside_number, value}
 use Rattle.image_spec.specs.Parse.{Parsed, got, only_if, times, whole, each, All}
 use Rattle.image_spec.specs.Image.{if_some}
@@ -18,7 +19,8 @@ use Rattle.image_spec.proofs.DirectoryLaws.{and_left, and_right}
 use Rattle.step_slots.specs.Slots.{Slot, slot_bytes, SlotOk, slot_parser, value_slot}
 use Rattle.step_slots.specs.Views.{slot_at, slots_at, is_slot, all_slots}
 use Rattle.step_slots.proofs.SlotLaws.{slots_parse}
-use Rattle.step_slots.proofs.SlotBytes.{standing, slots_length, slots-bytes, slots-count}
+use Rattle.step_slots.proofs.SlotBytes.{slots_length, slots-bytes, slots-count}
+use Rattle.step_slots.proofs.SlotPlaces.{slots-ok}
 use Rattle.step_spec.specs.Store.{every_slot}
 use Rattle.step_spec.specs.Events.{given_by_lem, given_in, and_given, givens_in, givens}
 use Rattle.step_values.specs.Values.{given_ok_lem, are_given_lem}
@@ -118,12 +120,6 @@ every-slots : (ts : List Slot) → every_slot given_ok_lem ts ≡ true → all_s
 every-slots [] e = refl
 every-slots (t ∷ ts) e = rw (ok-slot t (and_left (given_ok_lem t) (every_slot given_ok_lem ts) e)) (every-slots ts (and_right (given_ok_lem t) (every_slot given_ok_lem ts) e))
 
-stand-ok : (s : List ℕ) (at n : ℕ) → all_slots (slots_at s at n) ≡ true → All SlotOk (slots_at s at n)
-unfolding slots_at
-stand-ok s at zero h = tt
-stand-ok s at (suc n) h =
-    ((standing s at (and_left (is_slot (slot_at s at)) (all_slots (slots_at s (at + 16) n)) h)).ok, stand-ok s (at + 16) n (and_right (is_slot (slot_at s at)) (all_slots (slots_at s (at + 16) n)) h))
-
 -- ── the bytes ──
 
 module _ (n : ℕ) (s : List ℕ) where
@@ -137,16 +133,12 @@ module _ (n : ℕ) (s : List ℕ) where
       let k : length s ≡ 16 * n = eqb-true (length s) (16 * n) (and_left (eqb (length s) (16 * n)) (every_slot given_ok_lem ts) e) in
       let f = and_right (eqb (length s) (16 * n)) (every_slot given_ok_lem ts) e in
       let a = every-slots ts f in
-      let z : drop (0 + 16 * n) s ≡ [] = nothing_left (drop (0 + 16 * n) s) (omega (arith, length-drop (0 + 16 * n) s, k)) in (
-        all-given ts (stand-ok s 0 n a) f,
+      let z : drop (0 + 16 * n) s ≡ [] = drop_of_length-le s {i = 0 + 16 * n} (omega (arith, k)) in (
+        all-given ts (slots-ok s 0 n a) f,
         ap (λ (r : Parsed ℕ (List Slot)). if_some (whole r) none givens_in) (parsed ∙ (ap (λ (b : Bool). only_if b (got ts (drop (0 + 16 * n) s))) a ∙ ap (got ts) z)),
         k,
         a,
       )
-    where
-      nothing_left : (l : List ℕ) → length l ≡ 0 → l ≡ []
-      nothing_left [] h = refl
-      nothing_left (x ∷ l) h = absurd (omega arith)
 
   pub not_given_all : are_given_lem n s ≡ false → givens n s ≡ none
   unfolding are_given_lem givens
@@ -162,34 +154,11 @@ module _ (n : ℕ) (s : List ℕ) where
       go false a = ap (λ (r : Parsed ℕ (List Slot)). if_some (whole r) none givens_in) (parsed ∙ ap (λ (b : Bool). only_if b (got (slots_at s 0 n) (drop (0 + 16 * n) s))) a)
       go true a = ap (λ (r : Parsed ℕ (List Slot)). if_some (whole r) none givens_in) (parsed ∙ ap (λ (b : Bool). only_if b (got (slots_at s 0 n) (drop (0 + 16 * n) s))) a) ∙ short (drop (0 + 16 * n) s) refl a
 
--- ── the loop over them ──
+-- ── all of them, asked one place after the other ──
 
-module _ (s : List ℕ) (n : ℕ) where
-  -- the first i are values that a start may give
-  pub record Tested (i : ℕ) : Type 0 where
-    pub within : i ≤ n
-    pub left : every_slot given_ok_lem (slots_at s 0 n) ≡ every_slot given_ok_lem (slots_at s (16 * i) (n - i))
-
-  pub tested_none : Tested 0
-  tested_none = let k : 16 * 0 ≡ 0 = omega arith in let m : n - 0 ≡ n = omega arith in record { within = omega arith; left = rw (k, m) }
-
-  turn : (i : ℕ) → i < n → slots_at s (16 * i) (n - i) ≡ slot_at s (16 * i) ∷ slots_at s (16 * (i + 1)) (n - (i + 1))
-  unfolding slots_at
-  turn i h =
-      let k : n - i ≡ suc (n - (i + 1)) = omega arith in
-      let m : 16 * i + 16 ≡ 16 * (i + 1) = omega arith in
-      rw (k, ← m) refl
-
-  module _ (i : ℕ) (h : i < n) (o : Tested i) (t : Slot) (e : t ≡ slot_at s (16 * i)) (r : Bool) (f : r ≡ given_ok_lem t) where
-    asks : every_slot given_ok_lem (slots_at s 0 n) ≡ r && every_slot given_ok_lem (slots_at s (16 * (i + 1)) (n - (i + 1)))
-    asks = o.left ∙ (ap (every_slot given_ok_lem) (turn i h) ∙ ap (λ (b : Bool). b && every_slot given_ok_lem (slots_at s (16 * (i + 1)) (n - (i + 1)))) (sym (f ∙ ap given_ok_lem e)))
-
-    pub tested-next : r ≡ true → Tested (i + 1)
-    tested-next g = record { within = omega arith; left = asks ∙ ap (λ (b : Bool). b && every_slot given_ok_lem (slots_at s (16 * (i + 1)) (n - (i + 1)))) g }
-
-    pub tested-no : r ≡ false → false ≡ every_slot given_ok_lem (slots_at s 0 n)
-    tested-no g = sym (asks ∙ ap (λ (b : Bool). b && every_slot given_ok_lem (slots_at s (16 * (i + 1)) (n - (i + 1)))) g)
-
-  pub tested-all : (i : ℕ) → n ≤ i → Tested i → true ≡ every_slot given_ok_lem (slots_at s 0 n)
-  unfolding slots_at
-  tested-all i h o = let k : n - i ≡ 0 = omega arith in sym (o.left ∙ rw k refl)
+pub given-listed : (s : List ℕ) (i n : ℕ) → list_all (λ j. given_ok_lem (slot_at s (16 * j))) (range_with_len i n) ≡ every_slot given_ok_lem (slots_at s (16 * i) n)
+unfolding slots_at
+given-listed s i zero = refl
+given-listed s i (suc n) =
+    let k : 16 * (i + 1) ≡ 16 * i + 16 = omega arith in
+    ap (λ (b : Bool). given_ok_lem (slot_at s (16 * i)) && b) (given-listed s (i + 1) n ∙ ap (λ (at : ℕ). every_slot given_ok_lem (slots_at s at n)) k)

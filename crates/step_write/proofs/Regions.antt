@@ -47,8 +47,5 @@ closure-bytes s H X T at n h x t =
 -- what was put at the beginning is taken from it
 pub taken-put : (s xs : List ℕ) (n : ℕ) → length xs ≡ n → n ≤ length s → take n (sets s 0 xs) ≡ xs
 taken-put s xs n e h =
-    ap (take n) (sets-eq xs s 0 (omega (arith, e, h)) ∙ append-nil-front xs (drop (0 + length xs) s))
+    ap (take n) (sets-eq xs s 0 (omega (arith, e, h)))
     ∙ (ap (λ (k : ℕ). take k (xs ++ drop (0 + length xs) s)) (sym e) ∙ take-append_seam xs (drop (0 + length xs) s))
-  where
-    append-nil-front : (xs ys : List ℕ) → [] ++ xs ++ ys ≡ xs ++ ys
-    append-nil-front xs ys = refl

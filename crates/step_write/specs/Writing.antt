@@ -1,5 +1,5 @@
 -- What is written for a step: its event and the state after it, where there is room for both.
-use Rattle.std.specs.Prelude.{ℕ, ◌+◌, ◌-◌, ◌*◌, ◌^◌, ◌≤◌, ◌<◌, ◌≡◌, Bool, true, false, ◌&&◌, List, leb, length, Result, Ok, Err}
+use Rattle.std.specs.Prelude.{ℕ, ◌+◌, ◌-◌, ◌*◌, ◌^◌, ◌≤◌, ◌<◌, ◌≡◌, Bool, true, false, ◌&&◌, List, ◌++◌, leb, length, Result, Ok, Err}
 use Rattle.std.proofs.lemmas.List.Edits.{sets}
 use Rattle.image_kinds.specs.Codes.{code_of}
 use Rattle.step_spec.specs.Store.{header_bytes}
@@ -17,6 +17,10 @@ head_bytes e = event_head (code_of e.kind) e.detail e.name e.count e.payload
 -- how many bytes the state with this header takes
 abbrev pub size : Header → ℕ
 size h = 64 + 16 * (h.heap + h.entries)
+
+-- a cell of which `head` is the own slot and that holds these bytes, the variable `var`, and these bytes again
+abbrev pub with_closure : (head var held : List ℕ) → List ℕ
+with_closure head var held = head ++ (held ++ (var ++ held))
 
 -- what is asked before a step is finished: a store that has a header, a place in the event buffer, and a header whose counts can be added.
 -- (No field of `Work`: the header that is asked of is the one to be written, not the one that is there.)

@@ -7,14 +7,14 @@ use Prim.Native.Nat.{ℕ, suc, ◌+◌, ◌*◌, ◌≤◌, ◌<◌}
 use native.Mathlib.Omega.{arith}
 use lib.ListN.{length, take, get_or, set, length-set}
 use lib.Seq.{append_snoc}
+use Rattle.std.proofs.lemmas.List.{take_more, take_more_set}
 use Rattle.syntax.specs.Sets.{elem, ◌∈◌, Distinct}
-use Rattle.syntax.specs.Context.{Context, id_of, ids, rebound}
-use Rattle.syntax.specs.Fresh.{fresh, fresh_identifier, drawn, prepend, freshen}
+use Rattle.syntax.specs.Context.{Context, id_of, ids}
+use Rattle.syntax.specs.Fresh.{fresh, drawn, prepend, freshen}
 use Rattle.syntax.specs.declared.names.VarId.{VarId}
-use Rattle.syntax.specs.declared.names.Identifier.{Identifier}
 use Rattle.syntax.specs.declared.context.ContextBinding.{ContextBinding}
 use Rattle.syntax.proofs.Bools.{Answers}
-use Rattle.syntax.proofs.Lists.{rest, rest_cons, rest_end, rest-set, take_next, take-stored}
+use Rattle.syntax.proofs.Lists.{rest, rest_cons, rest_end, rest-set}
 use Rattle.syntax.proofs.Members.{elem?, ∈_left, ∈_right, ∈_split}
 
 -- ── all that is known of the rule for fresh IDs ──
@@ -165,9 +165,6 @@ pub record Freshening (whole : Context × ℕ) (seen : List VarId) (m : ℕ) (l 
   pub list : whole.0 ≡ take i l ++ (freshen (rest l n i) seen m).0
   pub closing : whole.1 ≡ (freshen (rest l n i) seen m).1
 
-pub freshening-start : (l : Context) (seen : List VarId) (m n : ℕ) → n ≤ length l → Freshening (freshen (take n l) seen m) seen m l n 0
-freshening-start l seen m n h = record { within = h; below = omega arith; list = refl; closing = refl }
-
 module _ {whole : Context × ℕ} {seen : List VarId} {m : ℕ} {l : Context} {n i : ℕ} (d : ContextBinding) (h : i < n) (s : Freshening whole seen m l n i) where
   left-clash : elem (id_of (get_or l i d)) seen ≡ true → freshen (rest l n i) seen m ≡ prepend (drawn m (get_or l i d)) (freshen (rest l n (i + 1)) seen (fresh m))
   left-clash e = rw (rest_cons l n i d h s.within) (freshen-clash (get_or l i d) (rest l n (i + 1)) seen m e)
@@ -184,7 +181,7 @@ module _ {whole : Context × ℕ} {seen : List VarId} {m : ℕ} {l : Context} {n
   freshening-clash r f e = record {
     within = rw length-set s.within;
     below = omega arith;
-    list = s.list ∙ rw (f, left-clash e, rest-set l n i (drawn m (get_or l i d)) h, take-stored l i (drawn m (get_or l i d)) (omega (arith, s.within)))
+    list = s.list ∙ rw (f, left-clash e, rest-set l n i (drawn m (get_or l i d)) h, take_more_set l i (drawn m (get_or l i d)) (omega (arith, s.within)))
         (sym (append_snoc (take i l) (drawn m (get_or l i d)) _));
     closing = s.closing ∙ rw (f, left-clash e, rest-set l n i (drawn m (get_or l i d)) h) refl;
   }
@@ -194,7 +191,7 @@ module _ {whole : Context × ℕ} {seen : List VarId} {m : ℕ} {l : Context} {n
   freshening-kept seen' f e = record {
     within = s.within;
     below = omega arith;
-    list = s.list ∙ rw (f, left-kept e, take_next l i d (omega (arith, s.within))) (sym (append_snoc (take i l) (get_or l i d) _));
+    list = s.list ∙ rw (f, left-kept e, take_more l i d (omega (arith, s.within))) (sym (append_snoc (take i l) (get_or l i d) _));
     closing = s.closing ∙ rw (f, left-kept e) refl;
   }
 

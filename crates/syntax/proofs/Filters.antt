@@ -10,13 +10,13 @@ use native.Mathlib.Nat.{eq-or-lt_of_le}
 use native.Mathlib.Numerals.{add-one}
 use lib.ListN.{length, take, drop, get_or, set, length-append, length-map, length-set, take-append-drop}
 use lib.Seq.{take-append-le, drop-append-le, take-set-le, get_or-set_same, append_snoc}
+use Rattle.std.proofs.lemmas.List.{take_more}
 use Rattle.syntax.specs.Sets.{elem, ◌∈◌, Distinct}
 use Rattle.syntax.specs.Context.{Context, id_of, ids}
 use Rattle.syntax.specs.Filter.{retained, fill, filtered, in_set, filter_by_set_lem}
 use Rattle.syntax.specs.declared.names.VarId.{VarId}
-use Rattle.syntax.specs.declared.context.ContextBinding.{ContextBinding}
 use Rattle.syntax.proofs.Bools.{Answers}
-use Rattle.syntax.proofs.Lists.{rest, rest_cons, rest_end, rest_snoc, rest-set, take_next}
+use Rattle.syntax.proofs.Lists.{rest, rest_cons, rest_end, rest_snoc, rest-set}
 use Rattle.syntax.proofs.Members.{elem?}
 use Rattle.syntax.proofs.Permutations.{Perm, nil, keep, swap, trans, perm_refl, perm_sym, perm_middle, perm_after, perm_reverse, perm_length}
 
@@ -159,7 +159,7 @@ module _ {A : Type 0} (p : A → Bool) where
   filtering_in {whole} {l} {n} {i} d h e s = record {
     within = s.within;
     below = omega arith;
-    rule = s.rule ∙ rw (rest_cons l n i d h s.within, filtered_in (get_or l i d) (rest l n (i + 1)) e, take_next l i d (omega (arith, s.within)))
+    rule = s.rule ∙ rw (rest_cons l n i d h s.within, filtered_in (get_or l i d) (rest l n (i + 1)) e, take_more l i d (omega (arith, s.within)))
         (sym (append_snoc (take i l) (get_or l i d) _));
   }
 

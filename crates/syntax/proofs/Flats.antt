@@ -1,44 +1,26 @@
 -- Bindings as they stand in an array, and arrays that are seen through what their elements stand for. Assumes nothing.
-use mathlib.Core.Path.{◌≡◌, refl, sym, ap, ◌∙◌, subst}
+use mathlib.Core.Path.{◌≡◌, sym, ap, ◌∙◌, subst}
 use mathlib.Core.Bool.{Bool, true, false}
 use mathlib.Core.List.{List, [], ◌∷◌, ◌++◌, map}
-use Prim.Native.Nat.{ℕ, zero, suc, ◌+◌, ◌-◌, ◌<◌}
-use lib.ListN.{length, take, get_or, set, length-map, get_or-map}
-use Rattle.syntax.proofs.Lists.{take-stored}
+use Prim.Native.Nat.{ℕ, ◌+◌, ◌-◌, ◌<◌}
+use lib.ListN.{length, take, get_or, set, get_or-map}
+use Rattle.std.proofs.lemmas.List.{take_more_set, map-set}
 use Rattle.syntax.proofs.Filters.{Filtering, filtering_in, filtering-out}
-use Rattle.syntax.specs.Types.{declared_ty, identifier_of}
-use Rattle.syntax.specs.Flat.{ty_of}
-use Rattle.syntax.specs.declared.types.Ty.{Ty}
-use Rattle.syntax.specs.declared.types.Ty.TheVariants.{I64, Decl}
-
-pub flat-ty : (t : Ty) → ty_of (declared_ty t) (identifier_of t) ≡ t
-flat-ty I64 = refl
-flat-ty (Decl x) = refl
 
 -- ── arrays, seen through f ──
 
--- the length of what is seen, from what owning the array tells of a struct's field
-pub long-seen : {X Y Z : Type 0} (g : X → Z) (f : X → Y) (l : List X) {n : ℕ} → length (map g l) ≡ n → length (map f l) ≡ n
-long-seen g f l e = length-map l f ∙ sym (length-map l g) ∙ e
-
 module _ {A B : Type 0} (f : A → B) where
-  -- what is read
+  -- what is read (`get_or-map`, turned)
   pub seen_at : (l : List A) (i : ℕ) (d : A) → f (get_or l i d) ≡ get_or (map f l) i (f d)
   seen_at l i d = sym (get_or-map f l i d)
 
-  -- what is stored
-  pub seen-set : (l : List A) (i : ℕ) (a : A) → map f (set l i a) ≡ set (map f l) i (f a)
-  seen-set [] i a = refl
-  seen-set (x ∷ l) zero a = refl
-  seen-set (x ∷ l) (suc i) a = ap (λ (r : List B). f x ∷ r) (seen-set l i a)
-
   -- one element more
   pub seen_stored : (l : List A) (n : ℕ) (a : A) (b : B) → f a ≡ b → n < length (map f l) → take (n + 1) (map f (set l n a)) ≡ take n (map f l) ++ (b ∷ [])
-  seen_stored l n a b e h = rw (seen-set l n a, e) (take-stored (map f l) n b h)
+  seen_stored l n a b e h = rw (map-set f l n a, e) (take_more_set (map f l) n b h)
 
   -- an element put in another's place
   pub seen-moved : (l : List A) (i j : ℕ) (d : A) → map f (set l i (get_or l j d)) ≡ set (map f l) i (get_or (map f l) j (f d))
-  seen-moved l i j d = seen-set l i (get_or l j d) ∙ ap (set (map f l) i) (seen_at l j d)
+  seen-moved l i j d = map-set f l i (get_or l j d) ∙ ap (set (map f l) i) (seen_at l j d)
 
 -- ── the loop that filters in place, over an array that is seen through f ──
 

@@ -1,11 +1,11 @@
 -- Lists that are seen as the first n elements of an array: what is left of them from a place on, and stores. Assumes nothing.
-use mathlib.Core.Path.{◌≡◌, refl, sym, ap, ◌∙◌}
+use mathlib.Core.Path.{◌≡◌, sym, ◌∙◌}
 use mathlib.Core.List.{List, [], ◌∷◌, ◌++◌, map}
 use Prim.Native.Nat.{ℕ, suc, ◌+◌, ◌≤◌, ◌<◌}
 use native.Mathlib.Numerals.{add-one}
 use native.Mathlib.Omega.{arith}
 use lib.ListN.{length, take, drop, get_or, set, length-take, length-map, length-append, drop_of_length-le}
-use lib.Seq.{drop-cons, get_or-take, take-suc, take-suc-set, drop-append-le, drop-set-lt, take-set-lt, length-take-le}
+use lib.Seq.{drop-cons, get_or-take, take-suc, drop-append-le, drop-set-lt, take-set-lt, length-take-le}
 
 -- an array's length, from what owning the array tells of a struct's field
 pub long : {X Y : Type 0} (f : X → Y) (l : List X) {n : ℕ} → length (map f l) ≡ n → length l ≡ n
@@ -32,16 +32,6 @@ module _ {A : Type 0} where
   pub rest-set : (l : List A) (n i : ℕ) (a : A) → i < n → rest (set l i a) n (i + 1) ≡ rest l n (i + 1)
   rest-set l n i a h = rw (take-set-lt n l i a h) (drop-set-lt (i + 1) (take n l) i a (omega arith))
 
-  -- the count of the first n
-  pub counted : (l : List A) (n : ℕ) → n ≤ length l → length (take n l) ≡ n
-  counted l n h = simp length-take (omega arith)
-
-  -- one element more: the next of the array, or one that is stored there
-  pub take_next : (l : List A) (n : ℕ) (d : A) → n < length l → take (n + 1) l ≡ take n l ++ (get_or l n d ∷ [])
-  take_next l n d h = rw add-one (take-suc l n d h)
-
-  pub take-stored : (l : List A) (n : ℕ) (a : A) → n < length l → take (n + 1) (set l n a) ≡ take n l ++ (a ∷ [])
-  take-stored l n a h = rw add-one (take-suc-set l n a h)
-
+  -- the count where one more is stored behind the first n
   pub stored-count : (l : List A) (n : ℕ) (a : A) → n < length l → n + 1 ≡ length (take n l ++ (a ∷ []))
   stored-count l n a h = simp (length-append, length-take) (omega arith)

@@ -1,16 +1,16 @@
 -- Equality of bindings and contexts: the tests answer for `≡`; the comparison of two contexts a place at a time, for loops.
 -- Assumes nothing.
-use mathlib.Core.Path.{◌≡◌, refl, sym, ap, ap₂, ◌∙◌, subst}
-use mathlib.Core.Bool.{Bool, true, false, ◌&&◌, and-false}
-use mathlib.Core.List.{List, [], ◌∷◌}
+use mathlib.Core.Path.{◌≡◌, refl, sym, ap, ap₂, subst}
+use mathlib.Core.Bool.{true, false, ◌&&◌, and-false}
+use mathlib.Core.List.{[], ◌∷◌}
 use Prim.Native.Nat.{ℕ, suc, ◌+◌, ◌≤◌, ◌<◌}
-use lib.Dec.{T, eqb, eqb→eq, eqb_refl}
+use borrow.Author.Tests.{eqb-true}
+use lib.Dec.{T}
 use lib.ListN.{length, get_or}
 use Rattle.syntax.specs.Names.{same_name, same_var_id, same_identifier}
 use Rattle.syntax.specs.Types.{same_chirality, same_ty}
 use Rattle.syntax.specs.Context.{Context, same_binding, same_context}
 use Rattle.syntax.specs.declared.names.Name.{Name}
-use Rattle.syntax.specs.declared.names.VarId.{VarId}
 use Rattle.syntax.specs.declared.names.Identifier.{Identifier}
 use Rattle.syntax.specs.declared.types.Ty.{Ty}
 use Rattle.syntax.specs.declared.types.Ty.TheVariants.{I64, Decl}
@@ -23,17 +23,14 @@ use Rattle.syntax.proofs.Members.{same_self}
 
 -- ── what is found equal is equal ──
 
-same_number : (m n : ℕ) → eqb m n ≡ true → m ≡ n
-same_number m n e = eqb→eq m n (subst T (sym e) tt)
-
 pub same_name-sound : (a b : Name) → same_name a b ≡ true → a ≡ b
-same_name-sound a b e = let p = same_number a.0 b.0 e in λ i. record { 0 = p i }
+same_name-sound a b e = let p = eqb-true a.0 b.0 e in λ i. record { 0 = p i }
 
 pub same_identifier-sound : (a b : Identifier) → same_identifier a b ≡ true → a ≡ b
 same_identifier-sound a b e =
     let p = both_true (same_name a.name b.name) (same_var_id a.id b.id) e in
     let q = same_name-sound a.name b.name p.0 in
-    let r = same_number a.id.0 b.id.0 p.1 in
+    let r = eqb-true a.id.0 b.id.0 p.1 in
     λ i. record { name = q i; id = record { 0 = r i } }
 
 same_chirality-sound : (a b : Chirality) → same_chirality a b ≡ true → a ≡ b

@@ -1,5 +1,5 @@
 -- Fresh IDs (names.rs, `fresh_identifier`) and the rule of `freshen` (context.rs).
-use Rattle.std.specs.Prelude.{ℕ, ◌+◌, Bool, true, false, List, [], ◌∷◌, ◌++◌}
+use Rattle.std.specs.Prelude.{ℕ, ◌+◌, true, false, List, [], ◌∷◌, ◌++◌}
 use Rattle.syntax.specs.Sets.{elem}
 use Rattle.syntax.specs.Context.{Context, id_of, rebound}
 use Rattle.syntax.specs.declared.names.VarId.{VarId}

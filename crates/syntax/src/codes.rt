@@ -5,7 +5,8 @@ use crate::context::Chirality;
 use crate::ifc::IfSort;
 use crate::op::BinOp;
 
-// A byte that stands for none.
+// A byte that stands for no value of the type that it is asked for: one of these, the kind of a record, or the sort of a slot.
+// (One `TryFrom` for each enum, here and in image_kinds and step_slots: the gate refuses an impl by a macro of our own.)
 #[derive(Clone, Copy, PartialEq, Eq)]
 pub struct NoCode(pub u8);
 

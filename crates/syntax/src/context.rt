@@ -1,9 +1,8 @@
 // context.rs: typing contexts, up to 64 bindings in an order.
-ghost use Rattle.std.specs.Prelude.{◌≡◌, ◌∷◌, [], ◌++◌, ◌≤◌, ◌<◌, ◌^◌};
+ghost use Rattle.std.specs.Prelude.{◌≡◌, ◌∷◌, [], ◌++◌, ◌≤◌, ◌<◌, ◌^◌, length};
 ghost use Rattle.syntax.specs.Context.{empty_binding};
 ghost use Rattle.syntax.specs.Fresh.{fresh, drawn, freshen};
 ghost use Rattle.syntax.specs.Flat.{binding_of};
-ghost use Rattle.syntax.specs.Arrays.{set_of, context_of, Holds, Freshens};
 
 use crate::names::{Identifier, Name, VarId};
 use crate::sets::IdSet;
@@ -31,17 +30,20 @@ pub struct FlatBinding {
     pub name: Name,
     pub ty_name: Name,
     pub chi: Chirality,
-    // Whether the type is declared. I64 has no identifier. A flag and no Option: 16 bytes and not 24.
+    // Whether the type is declared. I64 has no identifier. A flag and no Option: 16 bytes and not 20.
     pub declared: bool,
     // Always 0. It leaves no byte of an element unused, so that an array is cleared at once.
     pub unused: u16,
 }
 
-// An array by value with a count, and no Vec: nothing below the programs takes memory, and 64 is the paper's limit.
+// An array by value with a count, and no Vec: nothing below the programs takes memory, and 64 is the paper's limit. (`IdSet` says why the four such are
+// not one generic struct, and why the array's size stands among the facts.)
 #[derive(Clone, Copy)]
 pub struct TypingContext {
     pub bindings: [FlatBinding; TypingContext::MAX],
     pub len: usize,
+    pub ghost size: { length bindings ≡ 64 },
+    pub ghost fits: { len ≤ 64 },
 }
 
 // A renamed context, and the max_id after it.
@@ -66,6 +68,7 @@ impl ContextBinding {
         }
     }
 
+    // (A method and no `From`, and `binding` so: they end chains, as `used_binding(e, b.binding()).flat()`, and `from` would turn these inside out.)
     pub fn flat(self) -> FlatBinding
         ensures { binding_of result ≡ self }
     {
@@ -117,6 +120,8 @@ impl FlatBinding {
 }
 
 impl TypingContext {
+    ghost use Rattle.syntax.specs.Arrays.{set_of, context_of, Holds, Freshens};
+
     // How many bindings can be in scope.
     pub const MAX: usize = 64;
 
@@ -143,19 +148,21 @@ impl TypingContext {
 
     // Draws an ID for each binding whose own is among the clashes or came earlier.
     pub fn freshen(self, clashes: IdSet, max_id: VarId) -> Freshened
-        requires { (self.len ≤ 64) × ((clashes.len ≤ 64) × ((freshen (context_of self) (set_of clashes) max_id.0).1 < 2 ^ 32)) }
+        requires { (clashes.len ≤ 64) × ((freshen (context_of self) (set_of clashes) max_id.0).1 < 2 ^ 32) }
         ensures { Freshens result (freshen (context_of self) (set_of clashes) max_id.0) }
     {
         let mut out = self;
         let mut seen = clashes;
         let mut max = max_id;
+        // by places: of a part that is lent of a struct with a ghost field nothing is known after, so no slice of `out` is walked
         for i in 0..self.len {
             let b = out.bindings[i];
-            if seen.ids[..seen.len].contains(&b.id) {
+            if seen.contains(b.id) {
                 let renamed = b.drawn(max);
                 max = renamed.id;
                 out.bindings[i] = renamed;
             } else {
+                // (In its place: by `add`, which gives a new set of 520 bytes, the same loop in plain Rust took twice as long for 16 bindings.)
                 seen.ids[seen.len] = b.id;
                 seen.len += 1;
             }

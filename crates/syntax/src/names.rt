@@ -7,6 +7,7 @@ ghost use Rattle.syntax.specs.Fresh.{fresh, fresh_identifier};
 pub struct Name(pub u16);
 
 // A variable is known by this alone.
+// (A max_id that is read or written is a number, `u32`; `fresh` and `Freshened` have it as the ID that was drawn last, or would have been.)
 #[derive(Clone, Copy, PartialEq, Eq)]
 pub struct VarId(pub u32);
 

@@ -14,13 +14,11 @@ impl Ty {
     pub fn declared(self) -> bool
         ensures { result ≡ declared_ty self }
     {
-        match self {
-            Ty::I64 => false,
-            Ty::Decl(_) => true,
-        }
+        matches!(self, Ty::Decl(_))
     }
 
     // The identifier of a declared type. I64 has none, and 0 stands for it.
+    // (No `Option`: its one caller stores it beside `declared`, and would make these zeros of a None.)
     pub fn identifier(self) -> Identifier
         ensures { result ≡ identifier_of self }
     {

@@ -5,18 +5,19 @@ use Prim.Native.Nat.{ℕ, ◌+◌, ◌≤◌, ◌<◌}
 use native.Mathlib.Omega.{arith}
 use lib.ListN.{length, take, get_or, set, length-map, length-set}
 use lib.Seq.{take-length, get_or-take}
+use Rattle.std.proofs.lemmas.List.{take_more, length-take-le}
 use Rattle.syntax.specs.Context.{Context, vars, empty_binding}
 use Rattle.syntax.specs.Flat.{binding_of, empty_flat}
 use Rattle.syntax.specs.Arrays.{bindings_in, context_of}
 use Rattle.syntax.specs.declared.names.Identifier.{Identifier}
 use Rattle.syntax.specs.declared.context.ContextBinding.{ContextBinding}
 use Rattle.syntax.specs.declared.context.TypingContext.{TypingContext}
-use Rattle.syntax.proofs.Lists.{counted, take_next}
 use Rattle.syntax.proofs.Flats.{seen_at, seen_stored}
 use Rattle.model.specs.Lists.{zip}
 use Rattle.syntax_substitution.specs.declared.Pair.{Pair}
 use Rattle.syntax_substitution.specs.declared.FlatPair.{FlatPair}
-use Rattle.syntax_substitution.specs.Pairs.{pair_of, parts_of, HoldsPairs}
+use Rattle.syntax_substitution.specs.declared.Substitution.{Substitution}
+use Rattle.syntax_substitution.specs.Pairs.{pair_of, parts_of, pairs_in, pairs_of, HoldsPairs}
 
 -- ── one pair ──
 
@@ -26,10 +27,9 @@ pub stored-pair : (l : List FlatPair) (n : ℕ) (f : FlatPair) (p : Pair) → pa
 stored-pair l n f p e h = ap (map parts_of) (seen_stored pair_of l n f p e (rw (length-map l pair_of) h)) ∙ map-append parts_of (take n (map pair_of l)) (p ∷ [])
 
 -- the first n of an array are the pairs of a substitution
-pub holds-pairs : {l : List FlatPair} {n : ℕ} {ps : List (ContextBinding × Identifier)} → n ≤ length l → map parts_of (take n (map pair_of l)) ≡ ps
-    → HoldsPairs (record { pairs = l; len = n }) ps
-holds-pairs {l} {n} h e =
-    let k = length-map (take n (map pair_of l)) parts_of ∙ counted (map pair_of l) n (rw (length-map l pair_of) h) in
+pub holds-pairs : {s : Substitution} {ps : List (ContextBinding × Identifier)} → pairs_of s ≡ ps → HoldsPairs s ps
+holds-pairs {s} e =
+    let k = length-map (take s.len (pairs_in s)) parts_of ∙ length-take-le s.len (pairs_in s) (omega (arith, length-map s.pairs pair_of, s.size, s.fits)) in
     record { count = sym (ap length (sym e) ∙ k); list = e }
 
 -- ── two lists side by side ──
@@ -60,18 +60,19 @@ zipped-start T W l h e k = record { size = h; same = e; within = k; below = omeg
 pub zipped-next : {T W : Context} {l : List FlatPair} {i : ℕ} (d t v : ContextBinding) (q : FlatPair) → pair_of q ≡ record { target = t; source = v.var }
     → i < length T → t ≡ get_or T i d → v ≡ get_or W i d → Zipped T W l i → Zipped T W (set l i q) (i + 1)
 zipped-next {T} {W} {l} {i} d t v q g h e f p =
-    let m : length (take i T) ≡ length (take i W) = counted T i (omega arith) ∙ sym (counted W i (omega (arith, p.same))) in
+    let m : length (take i T) ≡ length (take i W) = length-take-le i T (omega arith) ∙ sym (length-take-le i W (omega (arith, p.same))) in
+    let z = zip_snoc (take i T) (take i W) (get_or T i d) (get_or W i d) m in
     record {
       size = rw length-set p.size;
       same = p.same;
       within = p.within;
       below = omega arith;
-      front = rw (stored-pair l i q (record { target = t; source = v.var }) g (omega (arith, p.size, p.within)), p.front, e, f, take_next T i d h, take_next W i d (omega (arith, p.same)), zip_snoc (take i T) (take i W) (get_or T i d) (get_or W i d) m);
+      front = rw (stored-pair l i q (record { target = t; source = v.var }) g (omega (arith, p.size, p.within)), p.front, e, f, take_more T i d h, take_more W i d (omega (arith, p.same)), z);
     }
 
 -- the loop has ended
-pub zipped-done : {T W : Context} {l : List FlatPair} {i : ℕ} (n : ℕ) → n ≡ length T → n ≤ i → Zipped T W l i → HoldsPairs (record { pairs = l; len = n }) (zip T (vars W))
-zipped-done {T} {W} {l} {i} n q h p =
+pub zipped-done : {T W : Context} {s : Substitution} {i : ℕ} → s.len ≡ length T → s.len ≤ i → Zipped T W s.pairs i → HoldsPairs s (zip T (vars W))
+zipped-done {T} {W} {s} {i} q h p =
     let e : i ≡ length T = omega (arith, p.below) in
-    let f : n ≡ i = omega arith in
-    holds-pairs (omega (arith, p.size, p.within)) (rw (f, p.front, e, take-length T, p.same, take-length W) refl)
+    let f : s.len ≡ i = omega arith in
+    holds-pairs (rw (f, p.front, e, take-length T, p.same, take-length W) refl)

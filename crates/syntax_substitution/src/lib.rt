@@ -1,9 +1,8 @@
 // substitute.rs: the rearrangement of a context, up to 128 pairs in an order.
 #![tactic(auto)]
 
-ghost use Rattle.std.specs.Prelude.{◌≡◌};
+ghost use Rattle.std.specs.Prelude.{◌≡◌, ◌≤◌, length};
 ghost use Rattle.syntax.specs.Flat.{binding_of};
-ghost use Rattle.syntax_substitution.specs.Pairs.{empty_flat_pair, pair_of};
 
 use syntax::context::{Chirality, ContextBinding, FlatBinding};
 use syntax::names::{Identifier, Name, VarId};
@@ -25,18 +24,22 @@ pub struct FlatPair {
     pub ty_name: Name,
     pub source_name: Name,
     pub chi: Chirality,
-    // Whether the target's type is declared. I64 has no identifier. A flag, as in `FlatBinding`.
+    // Whether the target's type is declared. I64 has no identifier. A flag and no Option: 20 bytes and not 28.
     pub declared: bool,
 }
 
-// By value with a count, as `TypingContext`: nothing below the programs takes memory.
+// By value with a count, as `IdSet`, which says why: nothing below the programs takes memory.
 #[derive(Clone, Copy)]
 pub struct Substitution {
     pub pairs: [FlatPair; Substitution::MAX],
     pub len: usize,
+    pub ghost size: { length pairs ≡ 128 },
+    pub ghost fits: { len ≤ 128 },
 }
 
 impl FlatPair {
+    ghost use Rattle.syntax_substitution.specs.Pairs.{empty_flat_pair, pair_of};
+
     // What stands in the unused places of an array.
     pub fn empty() -> Self
         ensures { result ≡ empty_flat_pair }
@@ -57,50 +60,40 @@ impl FlatPair {
     pub fn of(target: FlatBinding, wanted: FlatBinding) -> Self
         ensures { pair_of result ≡ record { target = binding_of target; source = (binding_of wanted).var } }
     {
-        let id = target.id;
-        let ty_id = target.ty_id;
-        let source = wanted.id;
-        let name = target.name;
-        let ty_name = target.ty_name;
-        let source_name = wanted.name;
-        let chi = target.chi;
-        let declared = target.declared;
         FlatPair {
-            id,
-            ty_id,
-            source,
-            name,
-            ty_name,
-            source_name,
-            chi,
-            declared,
+            id: target.id,
+            ty_id: target.ty_id,
+            source: wanted.id,
+            name: target.name,
+            ty_name: target.ty_name,
+            source_name: wanted.name,
+            chi: target.chi,
+            declared: target.declared,
         }
     }
+}
 
-    pub fn pair(self) -> Pair
-        ensures { result ≡ pair_of self }
-    {
-        let id = self.id;
-        let ty_id = self.ty_id;
-        let name = self.name;
-        let ty_name = self.ty_name;
-        let chi = self.chi;
-        let declared = self.declared;
-        let flat = FlatBinding {
-            id,
-            ty_id,
-            name,
-            ty_name,
-            chi,
-            declared,
+impl From<FlatPair> for Pair {
+    ghost use Rattle.syntax_substitution.specs.Pairs.{pair_of};
+
+    ghost from_gives = { λ flat pair. pair ≡ pair_of flat };
+
+    fn from(flat: FlatPair) -> Self {
+        let target = FlatBinding {
+            id: flat.id,
+            ty_id: flat.ty_id,
+            name: flat.name,
+            ty_name: flat.ty_name,
+            chi: flat.chi,
+            declared: flat.declared,
             unused: 0,
         };
-        let target = flat.binding();
-        let name = self.source_name;
-        let id = self.source;
         Pair {
-            target,
-            source: Identifier { name, id },
+            target: target.binding(),
+            source: Identifier {
+                name: flat.source_name,
+                id: flat.source,
+            },
         }
     }
 }

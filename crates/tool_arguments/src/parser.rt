@@ -1,11 +1,13 @@
 // The command line, word by word.
 use crate::command::{Action, Command};
 use crate::fault::{Fault, Wrong};
-use crate::request::{Input, Request, Step, Target, Task};
+use crate::machine::Machine;
+use crate::request::{Form, Input, Request, Step, Target, Task};
 use crate::values::{Value, number};
 use crate::word::Word;
 use std::alloc::Global;
 use tool_listing::line::View;
+use tool_listing::names::Typing;
 
 type Result<'a, T> = std::result::Result<T, Wrong<'a>>;
 
@@ -29,13 +31,13 @@ struct Parser<'a> {
     output: Option<&'a [u8]>,
     names: Option<&'a [u8]>,
     store: Option<&'a [u8]>,
-    // The record that annotate is asked for, the definition that a start is of, or how many steps a run makes.
+    // The record that annotate is asked for, the definition that a start is of, or how many steps a run makes. (One field: a command asks for
+    // one of the three at most.)
     number: Option<usize>,
     values: Vec<Value>,
     view: View,
-    // Options that were given or not, and have no value.
-    raw: bool,
-    linear: bool,
+    form: Form,
+    machine: Machine,
 }
 
 impl<'a> Parser<'a> {
@@ -50,12 +52,12 @@ impl<'a> Parser<'a> {
             number: None,
             values: Vec::new(alloc),
             view: View {
-                types: false,
+                uses: Typing::Bare,
                 records: false,
                 annotations: false,
             },
-            raw: false,
-            linear: false,
+            form: Form::Text,
+            machine: Machine::Source,
         }
     }
 
@@ -114,8 +116,8 @@ impl<'a> Parser<'a> {
             (Command::Linearize | Command::Annotate | Command::Dump, b"-o") => {
                 self.next = Next::Output;
             }
-            (Command::Annotate, b"--raw") => self.raw = true,
-            (Command::Dump, b"--types") => self.view.types = true,
+            (Command::Annotate, b"--raw") => self.form = Form::Bytes,
+            (Command::Dump, b"--types") => self.view.uses = Typing::Typed,
             (Command::Dump, b"--records") => self.view.records = true,
             (Command::Dump, b"--annotations") => self.view.annotations = true,
             (Command::Dump, b"--names") => self.next = Next::Names,
@@ -127,7 +129,7 @@ impl<'a> Parser<'a> {
 
     fn step_option(&mut self, action: Action, word: &'a [u8]) -> Result<'a, ()> {
         match (action, word) {
-            (_, b"--linear") => self.linear = true,
+            (_, b"--linear") => self.machine = Machine::Linear,
             (Action::Start, b"--definition") => self.next = Next::Number,
             (Action::Run, b"--steps") => self.next = Next::Number,
             (Action::Run | Action::Show, b"--names") => self.next = Next::Names,
@@ -175,9 +177,9 @@ impl<'a> Parser<'a> {
     }
 
     fn step(self, action: Action) -> Result<'a, Task<'a>> {
-        let linear = self.linear;
+        let machine = self.machine;
         let store = self.store.ok_or(Wrong::from(Fault::NoStore))?;
-        let names = self.names.map(Input::of);
+        let names = self.names.map(Input::from);
         let step = match action {
             Action::Start => Step::Start {
                 definition: self.number.unwrap_or(0),
@@ -190,7 +192,7 @@ impl<'a> Parser<'a> {
             Action::Show => Step::Show { names },
         };
         Ok(Task::Step {
-            linear,
+            machine,
             store,
             step,
         })
@@ -199,8 +201,8 @@ impl<'a> Parser<'a> {
     // What all words together ask for.
     fn request(self) -> Result<'a, Request<'a>> {
         self.check()?;
-        let image = self.image.map_or(Input::Standard, Input::of);
-        let target = Target::of(self.output);
+        let image = self.image.map_or(Input::Standard, Input::from);
+        let target = Target::from(self.output);
         let task = match self.command {
             Command::Help => return Ok(Request::Help),
             Command::Version => return Ok(Request::Version),
@@ -209,12 +211,12 @@ impl<'a> Parser<'a> {
             Command::Linearize => Task::Linearize { target },
             Command::Annotate => Task::Annotate {
                 record: self.number.ok_or(Wrong::from(Fault::NoRecord))?,
-                raw: self.raw,
+                form: self.form,
                 target,
             },
             Command::Dump => Task::Dump {
                 view: self.view,
-                names: self.names.map(Input::of),
+                names: self.names.map(Input::from),
                 target,
             },
             Command::Step(None) => return Err(Wrong::from(Fault::NoAction)),
@@ -226,11 +228,7 @@ impl<'a> Parser<'a> {
 
 // The first word; one that is too long counts as empty.
 fn command<'a>(word: &'a Word) -> Result<'a, Command> {
-    let word = match word {
-        Some(word) => word.as_slice(),
-        None => b"",
-    };
-    Command::try_from(word)
+    Command::try_from(word.as_deref().unwrap_or(b""))
 }
 
 // What the words behind the program's own name ask for.
@@ -248,8 +246,5 @@ pub fn parse<'a>(words: &'a [Word], alloc: Global) -> Result<'a, Request<'a>> {
 
 // A - alone is no option: it stands for standard input or output. With a digit behind it, it is a number.
 fn is_option(word: &[u8]) -> bool {
-    match word {
-        [b'-', next, ..] => !next.is_ascii_digit(),
-        _ => false,
-    }
+    matches!(word, [b'-', next, ..] if !next.is_ascii_digit())
 }

@@ -1,4 +1,5 @@
 // What a command line asks for.
+use crate::machine::Machine;
 use crate::values::Value;
 use tool_listing::line::View;
 
@@ -9,9 +10,9 @@ pub enum Input<'a> {
     File(&'a [u8]),
 }
 
-impl<'a> Input<'a> {
-    // The file of this name; - is standard input.
-    pub fn of(name: &'a [u8]) -> Input<'a> {
+// The file of this name; - is standard input.
+impl<'a> From<&'a [u8]> for Input<'a> {
+    fn from(name: &'a [u8]) -> Input<'a> {
         match name {
             b"-" => Input::Standard,
             _ => Input::File(name),
@@ -19,22 +20,30 @@ impl<'a> Input<'a> {
     }
 }
 
-// Where bytes go to: a file, by its name, or standard output, asked for or not.
+// Where bytes go to: a file, by its name, or standard output, asked for or because nothing else was.
 #[derive(Clone, Copy, Debug)]
 pub enum Target<'a> {
-    Standard { asked: bool },
+    Unasked,
+    Standard,
     File(&'a [u8]),
 }
 
-impl<'a> Target<'a> {
-    // The file of this name; - is standard output.
-    pub fn of(name: Option<&'a [u8]>) -> Target<'a> {
+// The file of this name; - is standard output.
+impl<'a> From<Option<&'a [u8]>> for Target<'a> {
+    fn from(name: Option<&'a [u8]>) -> Target<'a> {
         match name {
-            None => Target::Standard { asked: false },
-            Some(b"-") => Target::Standard { asked: true },
+            None => Target::Unasked,
+            Some(b"-") => Target::Standard,
             Some(name) => Target::File(name),
         }
     }
+}
+
+// How an annotation is written.
+#[derive(Clone, Copy, Debug, PartialEq, Eq)]
+pub enum Form {
+    Text,
+    Bytes,
 }
 
 // What is asked of an image.
@@ -47,7 +56,7 @@ pub enum Task<'a> {
     },
     Annotate {
         record: usize,
-        raw: bool,
+        form: Form,
         target: Target<'a>,
     },
     Dump {
@@ -56,7 +65,7 @@ pub enum Task<'a> {
         target: Target<'a>,
     },
     Step {
-        linear: bool,
+        machine: Machine,
         store: &'a [u8],
         step: Step<'a>,
     },

@@ -1,6 +1,7 @@
 // The values that a start gives to parameters: a word for each, a signed integer, or outside: and a number up to 255.
 
 use crate::fault::{Fault, Wrong};
+use try_building::sort::Sort;
 
 // The most digits of a number, and the greatest one.
 const DIGITS: usize = 20;
@@ -18,7 +19,7 @@ fn numeral<'a>(word: &'a [u8], digits: &[u8]) -> Option<&'a str> {
 // The number that a word is.
 pub fn number(word: &[u8]) -> Option<usize> {
     let n = numeral(word, word)?.parse::<usize>().ok()?;
-    if n <= GREATEST { Some(n) } else { None }
+    (n <= GREATEST).then_some(n)
 }
 
 #[derive(Clone, Copy, Debug, PartialEq, Eq)]
@@ -31,14 +32,14 @@ impl Value {
     // The bytes of a slot.
     pub const SLOT: usize = 16;
 
-    // It as a slot: its sort, and in the last eight bytes what it is.
-    pub fn slot(self) -> [u8; 16] {
+    // It as a slot: its sort, and in the last eight bytes what it is. (A method, as std's `to_le_bytes`, since a slot is no type but its bytes.)
+    pub fn slot(self) -> [u8; Value::SLOT] {
         let (sort, bits) = match self {
-            Value::Integer(n) => (0, n.cast_unsigned()),
-            Value::Outside(n) => (2, u64::from(n)),
+            Value::Integer(n) => (Sort::Integer, n.cast_unsigned()),
+            Value::Outside(n) => (Sort::Outside, u64::from(n)),
         };
         let mut slot = [0u8; Value::SLOT];
-        slot[0] = sort;
+        slot[0] = sort as u8;
         slot[8..].copy_from_slice(&bits.to_le_bytes());
         slot
     }

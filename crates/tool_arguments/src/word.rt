@@ -5,7 +5,8 @@ use std::env::{Env, FillError};
 // A word; none where it is longer than 4,096 bytes.
 pub type Word = Option<Vec<u8>>;
 
-// The words behind the program's own name.
+// The words behind the program's own name. (Not std's `env::args`, which refuses them all where one is not UTF-8. Counted as there, since of a
+// `loop` it would have to be proved that it ends.)
 pub fn words<R: Env + AllocGlobal>(rt: &R) -> Result<Vec<Word>, AllocError> {
     let mut text = io::buffer();
     let mut words = Vec::new(rt.alloc());

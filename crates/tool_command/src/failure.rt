@@ -6,7 +6,7 @@ use std::process::ExitCode;
 use tool_arguments::fault::{Fault, Wrong};
 use tool_arguments::request::Input;
 use tool_finding::place::Place;
-use tool_finding::refusal::Refusal;
+use try_building::refusal::Refusal;
 
 // What a call of the system was about.
 #[derive(Clone, Copy, Debug)]
@@ -51,6 +51,7 @@ impl<'a> From<AllocError> for Failure<'a> {
     }
 }
 
+// No Display, here and below: the name of a file is bytes, and need be no text.
 fn say_input<W: Write>(to: &mut W, input: Input<'_>) -> std::io::Result<()> {
     match input {
         Input::Standard => to.write_all(b"standard input"),
@@ -72,10 +73,8 @@ fn say_subject<W: Write>(to: &mut W, subject: Subject<'_>) -> std::io::Result<()
 
 // The text of an error, without the number of the system's error.
 fn reason(text: &str) -> &str {
-    match text.split_once(" (os error ") {
-        Some((reason, _)) => reason,
-        None => text,
-    }
+    text.split_once(" (os error ")
+        .map_or(text, |(reason, _)| reason)
 }
 
 // Why a call failed.
@@ -103,7 +102,7 @@ fn say_refused<W: Write>(
     place: Option<Place>,
 ) -> std::io::Result<()> {
     say_input(to, file)?;
-    write!(to, ": refused {}: {refusal}", refusal.number())?;
+    write!(to, ": refused {}: {refusal}", u32::from(refusal))?;
     match place {
         Some(place) => write!(to, " ({place})"),
         None => Ok(()),
@@ -114,6 +113,7 @@ impl<'a> Failure<'a> {
     fn status(self) -> ExitCode {
         match self {
             Failure::Refused { .. } => ExitCode::from(1),
+            // Any other is one of the command line or of the system.
             _ => ExitCode::from(2),
         }
     }

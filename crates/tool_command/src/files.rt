@@ -34,10 +34,8 @@ fn read_input(
 // The bytes of a file or of standard input, at most so many.
 pub fn read<'a>(rt: &HostRuntime, input: Input<'a>, most: usize) -> Result<Vec<u8>, Failure<'a>> {
     let mut bytes = Vec::new(rt.alloc());
-    match read_input(rt, input, most, &mut bytes) {
-        Ok(()) => Ok(bytes),
-        Err(e) => Err(Failure::Call(Subject::Input(input), e)),
-    }
+    read_input(rt, input, most, &mut bytes).map_err(|e| Failure::Call(Subject::Input(input), e))?;
+    Ok(bytes)
 }
 
 // `rt` and `path`, here, below and in stores.rt: the system, and the name of a file; std takes them side by side too.
@@ -51,18 +49,22 @@ pub fn create(rt: &HostRuntime, path: &[u8]) -> io::Result<File> {
 
 // What is known of an output beside where it goes.
 #[derive(Clone, Copy)]
-pub struct Known<'a> {
-    // The name of its file, where there was no such file before.
-    made: Option<&'a [u8]>,
-    // Is it standard output, and was asked for?
-    asked: bool,
+pub enum Known<'a> {
+    // Its file was made for it, under this name.
+    Made(&'a [u8]),
+    // Its file was there before.
+    Found,
+    // It is standard output, which was asked for.
+    Asked,
+    // It is standard output, since nothing was asked for.
+    Unasked,
 }
 
 impl<'a> Known<'a> {
     // Ends an output. Where it was not written whole, a file that was made for it goes.
     pub fn close(self, rt: &HostRuntime, written: io::Result<()>) -> Result<(), Failure<'a>> {
         let Err(e) = written else { return Ok(()) };
-        if let Some(path) = self.made {
+        if let Known::Made(path) = self {
             let _ = remove(rt, path);
         }
         Err(Failure::Call(Subject::Output, e))
@@ -76,23 +78,23 @@ pub struct Opened<'a> {
 }
 
 impl<'a> Opened<'a> {
-    fn standard(rt: &HostRuntime, asked: bool) -> Opened<'a> {
+    fn standard(rt: &HostRuntime, known: Known<'a>) -> Opened<'a> {
         Opened {
             output: Output::Standard(rt.stdout()),
-            known: Known { made: None, asked },
+            known,
         }
     }
 
-    fn file(file: File, made: Option<&'a [u8]>) -> Opened<'a> {
+    fn file(file: File, known: Known<'a>) -> Opened<'a> {
         Opened {
             output: Output::File(file),
-            known: Known { made, asked: false },
+            known,
         }
     }
 
     // May an image go to it? To a terminal only as standard output that was asked for.
     pub fn takes_images(&self) -> bool {
-        self.known.asked || !self.output.is_terminal()
+        matches!(self.known, Known::Asked) || !self.output.is_terminal()
     }
 
     // Writes an image or an annotation, and ends the output.
@@ -108,15 +110,16 @@ impl<'a> Opened<'a> {
 
 fn open_file<'a>(rt: &HostRuntime, path: &'a [u8]) -> io::Result<Opened<'a>> {
     match create(rt, path) {
-        Ok(file) => Ok(Opened::file(file, Some(path))),
+        Ok(file) => Ok(Opened::file(file, Known::Made(path))),
         // It is there already.
-        Err(_) => Ok(Opened::file(File::create(rt, name(path)?)?, None)),
+        Err(_) => Ok(Opened::file(File::create(rt, name(path)?)?, Known::Found)),
     }
 }
 
 pub fn open<'a>(rt: &HostRuntime, target: Target<'a>) -> Result<Opened<'a>, Failure<'a>> {
     match target {
-        Target::Standard { asked } => Ok(Opened::standard(rt, asked)),
+        Target::Unasked => Ok(Opened::standard(rt, Known::Unasked)),
+        Target::Standard => Ok(Opened::standard(rt, Known::Asked)),
         Target::File(path) => {
             open_file(rt, path).map_err(|e| Failure::Call(Subject::File(path), e))
         }

@@ -19,7 +19,7 @@ use std::process::ExitCode;
 use step::Stepping;
 use texts::{USAGE, VERSION};
 use tool_arguments::parser::parse;
-use tool_arguments::request::{Input, Request, Target, Task};
+use tool_arguments::request::{Form, Input, Request, Target, Task};
 use tool_arguments::word::{Word, words};
 use tool_listing::book::Book;
 use tool_listing::line::View;
@@ -67,21 +67,23 @@ fn annotate<'a>(
     rt: &HostRuntime,
     program: &Program<'a>,
     record: usize,
-    raw: bool,
+    form: Form,
     target: Target<'a>,
 ) -> Result<(), Failure<'a>> {
     let mut out = io::large_buffer();
     let found = program.annotate(record, &mut out)?;
     let opened = files::open(rt, target)?;
-    if raw {
-        return opened.write(rt, found);
+    match form {
+        Form::Bytes => opened.write(rt, found),
+        Form::Text => {
+            let book = Book::empty(rt.alloc());
+            let Opened { output, known } = opened;
+            known.close(
+                rt,
+                write_annotation(rt, program, record, output, &book, found),
+            )
+        }
     }
-    let book = Book::empty(rt.alloc());
-    let Opened { output, known } = opened;
-    known.close(
-        rt,
-        write_annotation(rt, program, record, output, &book, found),
-    )
 }
 
 fn write_listing(
@@ -124,19 +126,19 @@ fn carry_out<'a>(
         Task::Linearize { target } => linearize(rt, program, target),
         Task::Annotate {
             record,
-            raw,
+            form,
             target,
-        } => annotate(rt, program, record, raw, target),
+        } => annotate(rt, program, record, form, target),
         Task::Dump {
             view,
             names,
             target,
         } => dump(rt, program, view, names, target),
         Task::Step {
-            linear,
+            machine,
             store,
             step,
-        } => Stepping::new(program, linear, store).carry_out(rt, step),
+        } => Stepping::new(program, machine, store).carry_out(rt, step),
     }
 }
 

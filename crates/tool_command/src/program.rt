@@ -4,7 +4,7 @@ use crate::files;
 use std::alloc::Global;
 use tool_arguments::request::Input;
 use tool_finding::finding::find;
-use tool_finding::refusal::Refusal;
+use try_building::refusal::Refusal;
 
 // An image has fewer bytes.
 const MOST: usize = 65536;
@@ -29,8 +29,8 @@ impl<'a> Program<'a> {
         *self.bytes.allocator()
     }
 
-    // A refusal of it, with its place; that of question 13 is the record that was asked for.
-    pub fn refused(&self, refusal: Refusal, record: usize) -> Failure<'a> {
+    // A refusal of it, with its place; that of question 13 is the record that was asked for, where one was.
+    pub fn refused(&self, refusal: Refusal, record: Option<usize>) -> Failure<'a> {
         match find(self.bytes(), refusal, record, self.alloc()) {
             Ok(place) => Failure::Refused {
                 file: self.file,
@@ -41,16 +41,17 @@ impl<'a> Program<'a> {
         }
     }
 
-    fn accepted(&self, number: u32, record: usize) -> Result<(), Failure<'a>> {
+    fn accepted(&self, number: u32, record: Option<usize>) -> Result<(), Failure<'a>> {
         Refusal::check(number).map_err(|refusal| self.refused(refusal, record))
     }
 
     // Questions 1 to 5, and its max_id.
+    // (A function for each call, here and below: of a call that is handed in it would be asked that it can be made with whatever it is lent.)
     pub fn read(&self) -> Result<u32, Failure<'a>> {
         let mut length = 0;
         let mut max_id = 0;
         let number = axcut::axcut_read(self.bytes(), &mut length, &mut max_id);
-        self.accepted(number, 0)?;
+        self.accepted(number, None)?;
         Ok(max_id)
     }
 
@@ -59,7 +60,7 @@ impl<'a> Program<'a> {
         let mut length = 0;
         let mut max_id = 0;
         let number = axcut::axcut_check(self.bytes(), &mut length, &mut max_id);
-        self.accepted(number, 0)?;
+        self.accepted(number, None)?;
         Ok(max_id)
     }
 
@@ -68,7 +69,7 @@ impl<'a> Program<'a> {
         let mut length = 0;
         let mut max_id = 0;
         let number = axcut::axcut_linearize(self.bytes(), out, &mut length, &mut max_id);
-        self.accepted(number, 0)?;
+        self.accepted(number, None)?;
         Ok(&out[..length.min(out.len())])
     }
 
@@ -77,7 +78,7 @@ impl<'a> Program<'a> {
         let mut length = 0;
         let mut max_id = 0;
         let number = axcut::axcut_annotate(self.bytes(), record, out, &mut length, &mut max_id);
-        self.accepted(number, record)?;
+        self.accepted(number, Some(record))?;
         Ok(&out[..length.min(out.len())])
     }
 
@@ -95,7 +96,7 @@ impl<'a> Program<'a> {
         );
         match Refusal::check(number) {
             Ok(()) | Err(Refusal::Place) => Ok(()),
-            Err(refusal) => Err(self.refused(refusal, 0)),
+            Err(refusal) => Err(self.refused(refusal, None)),
         }
     }
 }

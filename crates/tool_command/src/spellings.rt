@@ -17,7 +17,7 @@ pub fn read<'a>(rt: &HostRuntime, names: Option<Input<'a>>) -> Result<Vec<u8>, F
     }
 }
 
-// The book of these spellings.
+// The book of these spellings. (A call of its own behind `read`, at three places: a book borrows from its text, so no function could give both.)
 pub fn book<'a, 't>(
     rt: &HostRuntime,
     names: Option<Input<'a>>,

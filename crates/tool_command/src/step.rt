@@ -3,17 +3,17 @@ use crate::failure::{Failure, Subject};
 use crate::program::Program;
 use crate::{files, spellings, stores};
 use std::io::Write;
+use tool_arguments::machine::Machine;
 use tool_arguments::request::{Input, Step};
 use tool_arguments::values::Value;
-use tool_finding::refusal::Refusal;
 use tool_listing::book::Book;
 use tool_listing::output::Output;
 use tool_listing::page::Page;
-use tool_steps::machine::Machine;
 use tool_steps::run::{Ran, run};
 use tool_steps::standing::Standing;
-use tool_steps::state;
 use tool_steps::store::{BYTES, Store};
+use tool_steps::{machine, state};
+use try_building::refusal::Refusal;
 
 // A store in its file, and the machine whose states it has.
 #[derive(Clone, Copy)]
@@ -24,12 +24,7 @@ pub struct Stepping<'a, 'p> {
 }
 
 impl<'a, 'p> Stepping<'a, 'p> {
-    pub fn new(program: &'p Program<'a>, linear: bool, file: &'a [u8]) -> Stepping<'a, 'p> {
-        let machine = if linear {
-            Machine::Linear
-        } else {
-            Machine::Source
-        };
+    pub fn new(program: &'p Program<'a>, machine: Machine, file: &'a [u8]) -> Stepping<'a, 'p> {
         Stepping {
             program,
             machine,
@@ -66,14 +61,14 @@ impl<'a, 'p> Stepping<'a, 'p> {
             slots.extend_from_slice(&value.slot())?;
         }
         let mut store = io::buffer();
-        self.machine
-            .start(
-                self.program.bytes(),
-                definition,
-                slots.as_slice(),
-                &mut store,
-            )
-            .map_err(|refusal| self.program.refused(refusal, 0))?;
+        machine::start(
+            self.machine,
+            self.program.bytes(),
+            definition,
+            slots.as_slice(),
+            &mut store,
+        )
+        .map_err(|refusal| self.program.refused(refusal, None))?;
         self.keep(rt, &store)
     }
 
@@ -93,7 +88,7 @@ impl<'a, 'p> Stepping<'a, 'p> {
                 refusal,
                 place: None,
             },
-            _ => self.program.refused(refusal, 0),
+            _ => self.program.refused(refusal, None),
         }
     }
 
@@ -103,9 +98,9 @@ impl<'a, 'p> Stepping<'a, 'p> {
         if BYTES < store.len() {
             return Err(Failure::LargeStore(self.file));
         }
-        self.machine
-            .ask(self.program.bytes(), store.as_mut_slice())
-            .map_err(|refusal| self.refused(refusal))?;
+        machine::ask(self.machine, self.program.bytes(), store.as_mut_slice()).map_err(
+            |refusal| self.refused(refusal),
+        )?;
         Ok(store)
     }
 
@@ -127,10 +122,7 @@ impl<'a, 'p> Stepping<'a, 'p> {
         }
         self.write_standing(rt, ran.made, store.as_mut_slice())
             .map_err(|e| Failure::Call(Subject::Output, e))?;
-        match ran.refusal {
-            Some(refusal) => Err(self.refused(refusal)),
-            None => Ok(()),
-        }
+        ran.end.map_err(|refusal| self.refused(refusal))
     }
 
     // `steps` and `store`: a number that was asked for, and the bytes of a file.

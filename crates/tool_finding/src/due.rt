@@ -40,17 +40,18 @@ impl Due {
     pub fn binds(self) -> Option<u16> {
         match self {
             Due::Statement { binds, .. } => binds,
-            _ => None,
+            Due::Definition | Due::Clauses { .. } => None,
         }
     }
 
     // Can this record be it?
     pub fn takes(self, record: Record<'_>) -> bool {
-        match (self, record) {
-            (Due::Definition, Record::Definition { .. }) => true,
-            (Due::Clauses { .. }, Record::Clause { .. }) => true,
-            (_, Record::Definition { .. } | Record::Clause { .. }) => false,
-            _ => matches!(self, Due::Statement { .. }),
+        match self {
+            Due::Definition => matches!(record, Record::Definition { .. }),
+            Due::Clauses { .. } => matches!(record, Record::Clause { .. }),
+            Due::Statement { .. } => {
+                !matches!(record, Record::Definition { .. } | Record::Clause { .. })
+            }
         }
     }
 
@@ -62,7 +63,7 @@ impl Due {
                 scope,
                 left: left - 1,
             }),
-            _ => None,
+            Due::Clauses { .. } | Due::Definition | Due::Statement { .. } => None,
         }
     }
 }

@@ -4,6 +4,5 @@
 pub mod due;
 pub mod finding;
 pub mod place;
-pub mod refusal;
 pub mod scan;
 pub mod walk;

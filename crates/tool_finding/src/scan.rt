@@ -1,19 +1,19 @@
 // Questions 3, 4 and 6: the first record that is the no by itself.
 use crate::place::Place;
-use crate::refusal::Refusal;
 use std::alloc::{AllocError, Global};
 use try_building::image::{HEADER, Image, PAIR, Pair, body, header};
 use try_building::record::Record;
+use try_building::refusal::Refusal;
 
 // Question 3: the first record whose pair is cut off, or does not begin where the one before it ends; the last one where it ends elsewhere
-// than the image.
+// than the image. (A `for` that returns: `due` goes on.)
 pub fn astray(image: Image<'_>) -> Option<Place> {
     let records = image.records();
     let mut due = body(records);
     for k in 0..records {
         match image.pair(k) {
             Some(pair) if usize::from(pair.offset) == due => due = pair.end(),
-            _ => return Some(Place::from(usize::from(k))),
+            Some(_) | None => return Some(Place::from(usize::from(k))),
         }
     }
     if due == image.bytes.len() {
@@ -42,7 +42,7 @@ fn is_malformed(record: &[u8], alloc: Global) -> Result<bool, AllocError> {
     Ok(Refusal::check(number) == Err(Refusal::RecordForm))
 }
 
-// Question 4: the first record that is refused with 4 alone in an image.
+// Question 4: the first record that is refused with 4 alone in an image. (A `for` that returns: so does `?`, where memory is out.)
 pub fn malformed(image: Image<'_>, alloc: Global) -> Result<Option<Place>, AllocError> {
     for k in 0..image.records() {
         if let Some(record) = image.record_bytes(k) {
@@ -54,19 +54,20 @@ pub fn malformed(image: Image<'_>, alloc: Global) -> Result<Option<Place>, Alloc
     Ok(None)
 }
 
+fn is_linearized(record: Record<'_>) -> bool {
+    matches!(
+        record,
+        Record::Substitute { .. }
+            | Record::Create {
+                environment: Some(_),
+                ..
+            }
+    )
+}
+
 // Question 6: the first Substitute, or Create with an environment.
 pub fn linearized(image: Image<'_>) -> Option<Place> {
-    for k in 0..image.records() {
-        match image.record(k) {
-            Some(
-                Record::Substitute { pairs: _ }
-                | Record::Create {
-                    environment: Some(_),
-                    ..
-                },
-            ) => return Some(Place::from(usize::from(k))),
-            _ => {}
-        }
-    }
-    None
+    (0..image.records())
+        .find(|k| image.record(*k).is_some_and(is_linearized))
+        .map(|k| Place::from(usize::from(k)))
 }

@@ -1,11 +1,11 @@
 // Questions 5 and 7 to 10: the records in their order, each with what is in scope there, up to the first that is the no.
 use crate::due::Due;
 use crate::place::Place;
-use crate::refusal::Refusal;
 use std::alloc::{AllocError, Global};
 use try_building::image::Image;
 use try_building::lists::{Bindings, Identifier};
 use try_building::record::Record;
+use try_building::refusal::Refusal;
 
 // The most statements in depth, for questions 5 and 7.
 const DEEPEST: usize = 128;
@@ -19,6 +19,7 @@ const BINDINGS: usize = 64;
 
 #[derive(Drop)]
 struct Walk {
+    // (The question is kept, and looked at in three functions: a closure in its place would be three.)
     question: Refusal,
     // The record at hand.
     record: usize,
@@ -45,6 +46,7 @@ impl Walk {
             Refusal::Binders => self.scope.contains(&id),
             Refusal::Scope => !self.scope.contains(&id),
             Refusal::MaxId => self.max_id < id,
+            // No other question is about a variable.
             _ => false,
         };
         is_no.then_some(Place {
@@ -56,10 +58,9 @@ impl Walk {
     // `due` and `record`, here and below: what may come next, from the list of dues, and what does come, from the image.
     // Question 5: is it not what is due, or one definition too many, or too deep?
     fn is_misplaced(&self, due: Due, record: Record<'_>) -> bool {
-        if !due.takes(record) || DEEPEST < due.depth() {
-            return true;
-        }
-        due == Due::Definition && self.definitions <= self.before
+        !due.takes(record)
+            || DEEPEST < due.depth()
+            || (due == Due::Definition && self.definitions <= self.before)
     }
 
     // Question 7: is it too deep, or has a count that is too great, or more binders than there is room for in scope?
@@ -80,18 +81,12 @@ impl Walk {
     // The first variable that is used and is the no.
     fn used(&self, record: Record<'_>) -> Option<Place> {
         let (first, second) = record.uses();
-        let single = [first, second];
-        for variable in single.into_iter().flatten() {
-            if let Some(place) = self.variable(variable) {
-                return Some(place);
-            }
-        }
-        for binding in record.arguments() {
-            if let Some(place) = self.variable(binding.variable) {
-                return Some(place);
-            }
-        }
-        None
+        let arguments = record.arguments().map(|binding| binding.variable);
+        [first, second]
+            .into_iter()
+            .flatten()
+            .chain(arguments)
+            .find_map(|variable| self.variable(variable))
     }
 
     // The no of a record, but for its parameters.
@@ -101,6 +96,7 @@ impl Walk {
             Refusal::Limits if self.is_large(due, record) => Some(self.here()),
             Refusal::Scope => self.used(record),
             Refusal::Binders | Refusal::MaxId => self.variable(record.variable()?),
+            // It is no no to the first two, and no other question is asked so.
             _ => None,
         }
     }

@@ -5,15 +5,15 @@ use try_building::reader::Reader;
 use try_building::record::Record;
 
 pub fn is_annotated(record: Record<'_>) -> bool {
-    match record {
+    matches!(
+        record,
         Record::Let { .. }
-        | Record::Switch { .. }
-        | Record::Create { .. }
-        | Record::Literal { .. }
-        | Record::Op { .. }
-        | Record::PrintI64 { .. } => true,
-        _ => false,
-    }
+            | Record::Switch { .. }
+            | Record::Create { .. }
+            | Record::Literal { .. }
+            | Record::Op { .. }
+            | Record::PrintI64 { .. }
+    )
 }
 
 impl Page<'_> {
@@ -26,6 +26,7 @@ impl Page<'_> {
                 self.set("clauses", &mut reader)?;
                 self.set(", next", &mut reader)
             }
+            // The others that have one.
             _ => self.set("next", &mut reader),
         }
     }

@@ -26,10 +26,7 @@ impl<T: Drop> From<AllocFailed<T>> for BookError {
 }
 
 fn is_remark(line: &[u8]) -> bool {
-    match line.first() {
-        None | Some(b'\r') | Some(b'#') => true,
-        _ => false,
-    }
+    matches!(line.first(), None | Some(b'\r' | b'#'))
 }
 
 // The name number of a line and its spelling, which ends before a carriage return.
@@ -60,6 +57,7 @@ impl<'a> Book<'a> {
         }
     }
 
+    // The book of a text. (No TryFrom: it takes the allocator beside the text.)
     pub fn of(alloc: Global, text: &'a [u8]) -> Result<Book<'a>, BookError> {
         let mut book = Book::empty(alloc);
         for (i, line) in text.split(|b| *b == b'\n').enumerate() {

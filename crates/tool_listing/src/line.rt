@@ -1,56 +1,35 @@
 // The line of a record.
+use crate::names::Typing;
 use crate::page::Page;
 use std::io::{self, Write};
-use try_building::codes::{Comparison, Operator};
 use try_building::lists::{Bindings, Identifier, Substitutions, Ty};
 use try_building::record::Record;
 
-// What is asked of a listing.
+// What is asked of a listing: three things, each of which is asked for or not, whatever is asked for beside.
 #[derive(Clone, Copy, PartialEq, Eq)]
 pub struct View {
-    // Chirality and type also where a variable is used.
-    pub types: bool,
+    // How a variable is written where it is used.
+    pub uses: Typing,
     // The index of each record.
     pub records: bool,
     // The free variables of each record that has an annotation.
     pub annotations: bool,
 }
 
-fn operator_sign(operator: Operator) -> &'static str {
-    match operator {
-        Operator::Div => "/",
-        Operator::Prod => "*",
-        Operator::Rem => "%",
-        Operator::Sum => "+",
-        Operator::Sub => "-",
-    }
-}
-
-fn comparison_sign(comparison: Comparison) -> &'static str {
-    match comparison {
-        Comparison::Equal => "==",
-        Comparison::NotEqual => "!=",
-        Comparison::Less => "<",
-        Comparison::LessOrEqual => "<=",
-        Comparison::Greater => ">",
-        Comparison::GreaterOrEqual => ">=",
-    }
-}
-
 impl Page<'_> {
-    // The line of a record, with all types or not.
-    pub fn line(&mut self, record: Record<'_>, types: bool) -> io::Result<()> {
+    // The line of a record, with the variables that it uses written so.
+    pub fn line(&mut self, record: Record<'_>, uses: Typing) -> io::Result<()> {
         match record {
             Record::Definition { label, parameters } => {
                 self.say("def ")?;
                 self.label(label)?;
-                self.list(parameters, true)?;
+                self.list(parameters, Typing::Typed)?;
                 self.say(" {")
             }
-            Record::Substitute { pairs } => self.substitute(pairs, types),
+            Record::Substitute { pairs } => self.substitute(pairs, uses),
             Record::Call { label, arguments } => {
                 self.label(label)?;
-                self.list(arguments, types)
+                self.list(arguments, uses)
             }
             Record::Let {
                 variable,
@@ -61,7 +40,7 @@ impl Page<'_> {
                 self.typed("let ", variable, ty)?;
                 self.say(" = ")?;
                 self.label(tag)?;
-                self.list(arguments, types)?;
+                self.list(arguments, uses)?;
                 self.say(";")
             }
             Record::Switch { variable, ty, .. } => {
@@ -75,7 +54,7 @@ impl Page<'_> {
                 ..
             } => {
                 self.typed("create ", variable, ty)?;
-                self.environment(environment, types)
+                self.environment(environment, uses)
             }
             Record::Invoke {
                 variable,
@@ -86,14 +65,18 @@ impl Page<'_> {
                 self.typed("invoke ", variable, ty)?;
                 self.say(" ")?;
                 self.label(tag)?;
-                self.list(arguments, types)
+                self.list(arguments, uses)
             }
             Record::Clause { tag, parameters } => {
                 self.label(tag)?;
-                self.list(parameters, true)?;
+                self.list(parameters, Typing::Typed)?;
                 self.say(" => {")
             }
-            _ => self.integer_line(record),
+            Record::Literal { .. }
+            | Record::Op { .. }
+            | Record::IfC { .. }
+            | Record::PrintI64 { .. }
+            | Record::Exit { .. } => self.integer_line(record),
         }
     }
 
@@ -114,7 +97,7 @@ impl Page<'_> {
                 self.variable(variable)?;
                 self.say(" <- ")?;
                 self.variable(first)?;
-                write!(self, " {} ", operator_sign(operator))?;
+                write!(self, " {operator} ")?;
                 self.variable(second)?;
                 self.say(";")
             }
@@ -125,7 +108,7 @@ impl Page<'_> {
             } => {
                 self.say("if ")?;
                 self.variable(first)?;
-                write!(self, " {} ", comparison_sign(comparison))?;
+                write!(self, " {comparison} ")?;
                 self.variable_or_zero(second)?;
                 self.say(" {")
             }
@@ -142,6 +125,7 @@ impl Page<'_> {
                 self.say("exit ")?;
                 self.variable(variable)
             }
+            // The line of any other is not asked of it.
             _ => Ok(()),
         }
     }
@@ -155,21 +139,21 @@ impl Page<'_> {
     }
 
     // What a Create begins with: its environment, where there is one.
-    fn environment(&mut self, environment: Option<Bindings<'_>>, types: bool) -> io::Result<()> {
+    fn environment(&mut self, environment: Option<Bindings<'_>>, uses: Typing) -> io::Result<()> {
         self.say(" = ")?;
         if let Some(list) = environment {
-            self.list(list, types)?;
+            self.list(list, uses)?;
             self.say(" ")?;
         }
         self.say("{")
     }
 
-    fn substitute(&mut self, pairs: Substitutions<'_>, types: bool) -> io::Result<()> {
+    fn substitute(&mut self, pairs: Substitutions<'_>, uses: Typing) -> io::Result<()> {
         self.say("substitute")?;
         if 0 < pairs.len() {
             self.say(" ")?;
         }
-        self.pairs(pairs, types)?;
+        self.pairs(pairs, uses)?;
         self.say(";")
     }
 

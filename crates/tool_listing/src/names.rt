@@ -1,8 +1,14 @@
 // Identifiers, types, bindings and lists of them.
 use crate::page::Page;
 use std::io::{self, Write};
-use try_building::codes::Chirality;
 use try_building::lists::{Binding, Bindings, Identifier, Substitutions, Ty};
+
+// How a binding is written: the variable alone, or with its chirality and its type.
+#[derive(Clone, Copy, Debug, PartialEq, Eq)]
+pub enum Typing {
+    Bare,
+    Typed,
+}
 
 impl Page<'_> {
     // A variable: its name and its ID.
@@ -27,34 +33,31 @@ impl Page<'_> {
         }
     }
 
-    // A binding: the variable alone, or with its chirality and its type.
-    pub fn binding(&mut self, binding: Binding, whole: bool) -> io::Result<()> {
+    pub fn binding(&mut self, binding: Binding, typing: Typing) -> io::Result<()> {
         self.variable(binding.variable)?;
-        if !whole {
-            return Ok(());
+        match typing {
+            Typing::Bare => Ok(()),
+            Typing::Typed => {
+                write!(self, ": {} ", binding.chirality)?;
+                self.ty(binding.ty)
+            }
         }
-        self.say(match binding.chirality {
-            Chirality::Producer => ": prd ",
-            Chirality::Consumer => ": cns ",
-            Chirality::External => ": ext ",
-        })?;
-        self.ty(binding.ty)
     }
 
-    pub fn list(&mut self, list: Bindings<'_>, whole: bool) -> io::Result<()> {
+    pub fn list(&mut self, list: Bindings<'_>, typing: Typing) -> io::Result<()> {
         self.say("(")?;
         for (j, binding) in list.enumerate() {
             self.comma(j)?;
-            self.binding(binding, whole)?;
+            self.binding(binding, typing)?;
         }
         self.say(")")
     }
 
     // The pairs of a Substitute.
-    pub fn pairs(&mut self, pairs: Substitutions<'_>, whole: bool) -> io::Result<()> {
+    pub fn pairs(&mut self, pairs: Substitutions<'_>, typing: Typing) -> io::Result<()> {
         for (j, pair) in pairs.enumerate() {
             self.comma(j)?;
-            self.binding(pair.target, whole)?;
+            self.binding(pair.target, typing)?;
             self.say(" := ")?;
             self.variable(pair.source)?;
         }

@@ -1,4 +1,5 @@
-// Where text or an image goes to: a file, or the standard output.
+// Where text or an image goes to: a file, or the standard output. (An enum and no `Box<dyn Write>`: that would have no `is_terminal`, and rt
+// refuses a function that makes one and hands it out.)
 use std::fs::File;
 use std::io::{self, IsTerminal, Stdout, Write};
 

@@ -25,6 +25,7 @@ impl Block {
             Record::Create { clauses, .. } => Some(Block::Create(clauses)),
             Record::IfC { .. } => Some(Block::Then),
             Record::Clause { .. } => Some(Block::Clause),
+            // The others open none.
             _ => None,
         }
     }
@@ -34,7 +35,7 @@ impl Block {
         match self {
             Block::Then => "} else {",
             Block::Create(_) => "};",
-            _ => "}",
+            Block::Definition | Block::Switch(_) | Block::Clause | Block::Else => "}",
         }
     }
 
@@ -51,7 +52,7 @@ impl Block {
     fn is_done(self) -> bool {
         match self {
             Block::Switch(left) | Block::Create(left) => left == 0,
-            _ => true,
+            Block::Definition | Block::Clause | Block::Then | Block::Else => true,
         }
     }
 }
@@ -61,6 +62,7 @@ fn is_ended(record: Record<'_>) -> bool {
     match record {
         Record::Call { .. } | Record::Invoke { .. } | Record::Exit { .. } => true,
         Record::Switch { clauses, .. } | Record::Create { clauses, .. } => clauses == 0,
+        // Behind the others their body, their branches or their next comes.
         _ => false,
     }
 }
@@ -90,7 +92,7 @@ impl Walk {
             Record::Definition { .. } => page.say("\n")?,
             _ => page.indent(self.open.len())?,
         }
-        page.line(record, view.types)?;
+        page.line(record, view.uses)?;
         if view.records {
             write!(page, "  // {k}")?;
         }
@@ -109,7 +111,8 @@ impl Walk {
         Ok(())
     }
 
-    // Closes each block that the statement at hand ends.
+    // Closes each block that the statement at hand ends. Turns are counted, since of a `while let` it would have to be proved that it
+    // ends, though a block is put back.
     fn settle(&mut self, page: &mut Page<'_>) -> io::Result<()> {
         for _ in 0..self.open.len() {
             let Some(block) = self.open.pop() else { break };
@@ -123,6 +126,7 @@ impl Walk {
     }
 
     // Has the statement around a block ended with it? Behind a then-branch the else-branch comes, behind a Create its next.
+    // (A yes or no: what is pushed stays, whatever is answered.)
     fn ends_outer(&mut self, block: Block) -> io::Result<bool> {
         match block {
             Block::Then => {
@@ -131,18 +135,15 @@ impl Walk {
             }
             Block::Create(_) => Ok(false),
             Block::Clause => Ok(self.clause_done()),
-            _ => Ok(true),
+            Block::Definition | Block::Switch(_) | Block::Else => Ok(true),
         }
     }
 
     // A clause has ended: its Switch or Create has one less to come, and with the last one it has ended.
     fn clause_done(&mut self) -> bool {
-        match self.open.last_mut() {
-            Some(block) => {
-                *block = block.clause_done();
-                block.is_done()
-            }
-            None => true,
-        }
+        self.open.last_mut().is_none_or(|block| {
+            *block = block.clause_done();
+            block.is_done()
+        })
     }
 }

@@ -16,7 +16,6 @@ pub mod event;
 pub mod machine;
 pub mod run;
 pub mod scope;
-pub mod sort;
 pub mod standing;
 pub mod state;
 pub mod store;

@@ -1,15 +1,16 @@
 // Runs: calls until all steps that are asked for are made, and the lines of their events.
 use crate::event::lines;
-use crate::machine::Machine;
-use tool_finding::refusal::Refusal;
+use crate::machine;
+use tool_arguments::machine::Machine;
 use tool_listing::page::Page;
+use try_building::refusal::Refusal;
 
 #[derive(Clone, Copy, Debug, PartialEq, Eq)]
 pub struct Ran {
     // How many steps were made.
     pub made: u64,
     // Why the next step that is asked for is refused, if it is.
-    pub refusal: Option<Refusal>,
+    pub end: Result<(), Refusal>,
 }
 
 // Makes at most so many steps and writes a line for each event. An event has at most 65,536 bytes. A call that made steps and had no room for
@@ -26,12 +27,12 @@ pub fn run(
     let mut left = steps;
     // no range: how many steps a call makes is the library's to say
     while 0 < left {
-        let made = match machine.step(image, left, store, &mut events) {
+        let made = match machine::step(machine, image, left, store, &mut events) {
             Ok(made) => made,
             Err(refusal) => {
                 return Ok(Ran {
                     made: steps - left,
-                    refusal: Some(refusal),
+                    end: Err(refusal),
                 });
             }
         };
@@ -43,6 +44,6 @@ pub fn run(
     }
     Ok(Ran {
         made: steps - left,
-        refusal: None,
+        end: Ok(()),
     })
 }

@@ -1,7 +1,8 @@
 // How a run stands: what its last line says.
-use crate::machine::{Machine, Made};
+use crate::machine::{self, Made};
 use crate::store::Store;
 use std::fmt;
+use tool_arguments::machine::Machine;
 
 #[derive(Clone, Copy, Debug, PartialEq, Eq)]
 pub enum Standing {
@@ -18,9 +19,9 @@ impl Standing {
         match Store::of(store) {
             Some(state) if state.has_ended => return Standing::Ended,
             Some(state) if state.has_stopped => return Standing::Stopped,
-            _ => {}
+            Some(_) | None => {}
         }
-        match machine.step(image, 1, store, &mut io::large_buffer()) {
+        match machine::step(machine, image, 1, store, &mut io::large_buffer()) {
             Ok(Made { steps: 0, .. }) => Standing::Stuck,
             Ok(_) => Standing::GoesOn,
             Err(_) => Standing::NoRoom,

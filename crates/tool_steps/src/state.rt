@@ -2,6 +2,7 @@
 use crate::scope::innermost;
 use crate::store::{Slot, Store};
 use std::io::{self, Write};
+use tool_listing::names::Typing;
 use tool_listing::page::Page;
 use try_building::image::Image;
 use try_building::record::Record;
@@ -18,7 +19,7 @@ impl State<'_, '_, '_> {
     fn statement(&mut self) -> io::Result<()> {
         let position = self.store.position;
         if let Some(record) = record_at(self.image, position) {
-            self.page.line(record, false)?;
+            self.page.line(record, Typing::Bare)?;
         }
         writeln!(self.page, "  // {position}")
     }
@@ -56,13 +57,10 @@ impl State<'_, '_, '_> {
 
     fn environment(&mut self) -> io::Result<()> {
         self.page.say("environment:\n")?;
-        let entries = self.store.entries;
-        for k in 0..entries.len() {
-            if let Some(slot) = entries.get(k) {
-                self.page.say("  ")?;
-                self.entry(slot, self.store.position)?;
-                self.page.say("\n")?;
-            }
+        for slot in self.store.entries {
+            self.page.say("  ")?;
+            self.entry(slot, self.store.position)?;
+            self.page.say("\n")?;
         }
         Ok(())
     }
@@ -87,15 +85,16 @@ impl State<'_, '_, '_> {
 
     // What a cell holds: the slots from a place on, up to the next cell's own. That of a Create has entries.
     fn contents(&mut self, own: Slot, from: usize) -> io::Result<()> {
-        let cells = self.store.cells;
-        for k in from..cells.len() {
-            let Some(slot @ Slot::Held { .. }) = cells.get(k) else {
-                break;
-            };
-            self.page.comma(k - from)?;
+        let held = self
+            .store
+            .cells
+            .from(from)
+            .take_while(|slot| matches!(slot, Slot::Held { .. }));
+        for (j, slot) in held.enumerate() {
+            self.page.comma(j)?;
             match own {
                 Slot::Create { record, .. } => self.entry(slot, record)?,
-                _ => self.held(slot)?,
+                Slot::Let { .. } | Slot::Held { .. } => self.held(slot)?,
             }
         }
         Ok(())
@@ -118,10 +117,10 @@ impl State<'_, '_, '_> {
 
     fn cells(&mut self) -> io::Result<()> {
         self.page.say("cells:\n")?;
-        let cells = self.store.cells;
-        for k in 0..cells.len() {
-            if let Some(own @ (Slot::Let { .. } | Slot::Create { .. })) = cells.get(k) {
-                self.cell(own, k + 1)?;
+        for (k, own) in self.store.cells.enumerate() {
+            match own {
+                Slot::Let { .. } | Slot::Create { .. } => self.cell(own, k + 1)?,
+                Slot::Held { .. } => {}
             }
         }
         Ok(())

@@ -1,7 +1,10 @@
 // Stores, and their slots.
-use crate::sort::Sort;
+ghost use Rattle.std.specs.Iterator.{at_most};
+ghost use Rattle.std.specs.Prelude.{length};
+
 use crate::value::Value;
 use try_building::reader::Reader;
+use try_building::sort::Sort;
 
 // The most bytes of a store that is shown, and of one that is lent to a run.
 pub const BYTES: usize = 983040;
@@ -45,19 +48,27 @@ impl Slot {
     }
 }
 
-// Slots, one after the other.
+// Slots, one after the other: those that are still to come.
 #[derive(Clone, Copy)]
 pub struct Slots<'a> {
     bytes: &'a [u8],
 }
 
 impl<'a> Slots<'a> {
-    pub fn len(self) -> usize {
-        self.bytes.len() / SLOT
+    // The slots from a place on.
+    pub fn from(self, k: usize) -> Slots<'a> {
+        let bytes = self.bytes.get(SLOT.saturating_mul(k)..).unwrap_or(&[]);
+        Slots { bytes }
     }
+}
 
-    pub fn get(self, k: usize) -> Option<Slot> {
-        Slot::read(&mut Reader::at(self.bytes, SLOT.checked_mul(k)?)?)
+impl Iterator for Slots<'_> {
+    type Item = Slot;
+
+    ghost remaining = { λ s. at_most (length s.bytes.now) };
+
+    fn next(&mut self) -> Option<Slot> {
+        Slot::read(&mut Reader::new(self.bytes.split_off(..SLOT)?))
     }
 }
 
@@ -65,7 +76,7 @@ impl<'a> Slots<'a> {
 pub struct Store<'a> {
     // The place of the record of the statement at hand.
     pub position: u32,
-    // The two flags of document 02.
+    // The two flags of document 02, a byte each, and any of the four pairs can stand there.
     pub has_ended: bool,
     pub has_stopped: bool,
     pub cells: Slots<'a>,
@@ -82,7 +93,7 @@ fn take_slots<'a>(reader: &mut Reader<'a>, n: u64) -> Option<Slots<'a>> {
 }
 
 impl<'a> Store<'a> {
-    // The state that these bytes begin with.
+    // The state that these bytes begin with. No TryFrom: why they are none is not told.
     pub fn of(bytes: &'a [u8]) -> Option<Store<'a>> {
         let mut reader = Reader::new(bytes);
         let position = reader.word()?;
@@ -120,10 +131,12 @@ impl<'a> Store<'a> {
 
     // The number of the cell whose own slot is at a place, 0 where none is.
     fn number_of(self, place: u64) -> u64 {
-        let slot = usize::try_from(place).ok().and_then(|k| self.cells.get(k));
+        let slot = usize::try_from(place)
+            .ok()
+            .and_then(|k| self.cells.from(k).next());
         match slot {
             Some(Slot::Let { cell, .. } | Slot::Create { cell, .. }) => cell,
-            _ => 0,
+            Some(Slot::Held { .. }) | None => 0,
         }
     }
 }

@@ -1,6 +1,6 @@
 // Values as text.
-use crate::sort::Sort;
 use std::fmt;
+use try_building::sort::Sort;
 
 // A cell is shown by its number.
 #[derive(Clone, Copy, Debug, PartialEq, Eq)]

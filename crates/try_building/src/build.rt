@@ -90,7 +90,8 @@ impl<'a> Builder<'a> {
         }
     }
 
-    // All that the line has. Each turn reads a byte or more.
+    // All that the line has. Each turn reads a byte or more; turns are counted, here and below, since of a `while let` it would have to be
+    // proved that it ends.
     fn line(&mut self) -> Result<(), BuildError> {
         for _ in 0..self.text.len() {
             match self.text.next() {
@@ -115,7 +116,8 @@ impl<'a> Builder<'a> {
         Ok(())
     }
 
-    // All that stands in a group. Each turn reads a byte or more.
+    // All that stands in a group. (No call of `line`: a group has no groups in it, and of functions that call one another it would have to
+    // be proved that they end.)
     fn items(&mut self) -> Result<(), BuildError> {
         for _ in 0..self.text.len() {
             match self.text.next() {
@@ -158,7 +160,9 @@ impl<'a> Builder<'a> {
         if letter == b'x' {
             self.raw()?;
         } else {
-            for part in layout(letter).ok_or(BuildError::Notation)? {
+            let (kind, parts) = layout(letter).ok_or(BuildError::Notation)?;
+            self.put(kind as u8)?;
+            for part in parts {
                 self.part(*part)?;
             }
         }
@@ -232,7 +236,7 @@ impl<'a> Builder<'a> {
         Ok(())
     }
 
-    // A count and the pairs of a list.
+    // A count and the pairs of a list. (No one function for this and `bindings`: a run and a repetition are of bindings alone.)
     fn pairs(&mut self) -> Result<(), BuildError> {
         let mut list = Vec::new(self.alloc);
         for item in self.text.inside()?.split(|b| *b == b' ') {

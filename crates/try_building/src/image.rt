@@ -23,6 +23,7 @@ pub struct Pair {
 }
 
 impl Pair {
+    // (A method, as `to_le_bytes` of the two.)
     pub fn bytes(self) -> [u8; PAIR] {
         let [o0, o1] = self.offset.to_le_bytes();
         let [l0, l1] = self.length.to_le_bytes();
@@ -50,25 +51,22 @@ impl<'a> Image<'a> {
         Image { bytes }
     }
 
-    // A number of the header, 0 where the image ends before.
-    fn number(self, place: usize) -> u16 {
-        match Reader::at(self.bytes, place) {
-            Some(mut reader) => reader.half().unwrap_or(0),
-            None => 0,
-        }
+    // A number of the header. Those below are 0 where the image ends before.
+    fn number(self, place: usize) -> Option<u16> {
+        Reader::at(self.bytes, place)?.half()
     }
 
     pub fn definitions(self) -> u16 {
-        self.number(2)
+        self.number(2).unwrap_or(0)
     }
 
     pub fn max_id(self) -> u16 {
-        self.number(4)
+        self.number(4).unwrap_or(0)
     }
 
     // How many records it has.
     pub fn records(self) -> u16 {
-        self.number(6)
+        self.number(6).unwrap_or(0)
     }
 
     pub fn pair(self, k: u16) -> Option<Pair> {
@@ -85,6 +83,8 @@ impl<'a> Image<'a> {
         Reader::at(self.bytes, usize::from(pair.offset))?.take(usize::from(pair.length))
     }
 
+    // (No iterator of records, which would be a struct of its own: of those who go over them three want each with its index, one goes
+    // backwards, and two want the bytes.)
     pub fn record(self, k: u16) -> Option<Record<'a>> {
         Record::of(self.record_bytes(k)?)
     }

@@ -1,4 +1,5 @@
 // What stands in a record, by its letter.
+use crate::codes::{Comparison, Kind, Operator};
 
 // The name of a variable that is written with none, and of a declared type in a list.
 pub const NAME: u16 = 2;
@@ -11,6 +12,11 @@ const LABEL: Part = Part::Named(1);
 const SORT: Part = Part::Named(TYPE);
 
 const TAG: Part = Part::Named(6);
+
+// The operator of an Op, and the comparison of an IfC.
+const SUM: Part = Part::Byte(Operator::Sum as u8);
+
+const EQUAL: Part = Part::Byte(Comparison::Equal as u8);
 
 #[derive(Clone, Copy, PartialEq, Eq)]
 pub enum Part {
@@ -25,37 +31,46 @@ pub enum Part {
     Space,
 }
 
-// The parts of the record of a letter.
-pub fn layout(letter: u8) -> Option<&'static [Part]> {
+// The kind of the record of a letter, and what stands behind the kind. (A mark, 0 or 1, is a byte: the builder writes what stands here and
+// `Saying` compares it, byte by byte.)
+pub fn layout(letter: u8) -> Option<(Kind, &'static [Part])> {
     use Part::{Bindings, Byte, Count, Pairs, Space, Variable};
     match letter {
-        b'd' => Some(&[Byte(1), LABEL, Bindings]),
-        b'u' => Some(&[Byte(2), Pairs]),
-        b'c' => Some(&[Byte(3), LABEL, Bindings]),
-        b't' => Some(&[Byte(4), Variable, Byte(1), SORT, TAG, Bindings]),
-        b's' => Some(&[Byte(5), Variable, Byte(1), SORT, Space, Count]),
-        b'n' => Some(&[Byte(6), Variable, Byte(1), SORT, Byte(0), Space, Count]),
-        b'e' => Some(&[Byte(6), Variable, Byte(1), SORT, Byte(1), Bindings, Count]),
-        b'v' => Some(&[Byte(7), Variable, TAG, Byte(1), SORT, Bindings]),
-        b'l' => Some(&[
-            Byte(8),
-            Byte(7),
-            Byte(0),
-            Byte(0),
-            Byte(0),
-            Byte(0),
-            Byte(0),
-            Byte(0),
-            Byte(0),
-            Variable,
-        ]),
-        b'o' => Some(&[Byte(9), Variable, Byte(3), Space, Variable, Space, Variable]),
-        b'i' => Some(&[Byte(10), Byte(0), Variable, Byte(0)]),
-        b'j' => Some(&[Byte(10), Byte(0), Variable, Byte(1), Space, Variable]),
-        b'k' => Some(&[Byte(11), TAG, Bindings]),
-        b'p' => Some(&[Byte(12), Byte(0), Variable]),
-        b'q' => Some(&[Byte(12), Byte(1), Variable]),
-        b'z' => Some(&[Byte(13), Variable]),
+        b'd' => Some((Kind::Definition, &[LABEL, Bindings])),
+        b'u' => Some((Kind::Substitute, &[Pairs])),
+        b'c' => Some((Kind::Call, &[LABEL, Bindings])),
+        b't' => Some((Kind::Let, &[Variable, Byte(1), SORT, TAG, Bindings])),
+        b's' => Some((Kind::Switch, &[Variable, Byte(1), SORT, Space, Count])),
+        b'n' => Some((
+            Kind::Create,
+            &[Variable, Byte(1), SORT, Byte(0), Space, Count],
+        )),
+        b'e' => Some((
+            Kind::Create,
+            &[Variable, Byte(1), SORT, Byte(1), Bindings, Count],
+        )),
+        b'v' => Some((Kind::Invoke, &[Variable, TAG, Byte(1), SORT, Bindings])),
+        b'l' => Some((
+            Kind::Literal,
+            &[
+                Byte(7),
+                Byte(0),
+                Byte(0),
+                Byte(0),
+                Byte(0),
+                Byte(0),
+                Byte(0),
+                Byte(0),
+                Variable,
+            ],
+        )),
+        b'o' => Some((Kind::Op, &[Variable, SUM, Space, Variable, Space, Variable])),
+        b'i' => Some((Kind::IfC, &[EQUAL, Variable, Byte(0)])),
+        b'j' => Some((Kind::IfC, &[EQUAL, Variable, Byte(1), Space, Variable])),
+        b'k' => Some((Kind::Clause, &[TAG, Bindings])),
+        b'p' => Some((Kind::PrintI64, &[Byte(0), Variable])),
+        b'q' => Some((Kind::PrintI64, &[Byte(1), Variable])),
+        b'z' => Some((Kind::Exit, &[Variable])),
         _ => None,
     }
 }

@@ -1,5 +1,5 @@
-// Images built from lines of text, images printed as such lines, records read, and answers printed. A case is a line: a name, a colon, a space,
-// max_id, and the records.
+// Images built from lines of text, images printed as such lines, records read, answers printed, and what the bytes and
+// numbers of the library's interface say. A case is a line: a name, a colon, a space, max_id, and the records.
 //
 //   d(1 2)    a definition with these parameters    s1 2      a Switch on 1 with two clauses
 //   c(1 2)    a Call with these args                n3 2      a Create of 3 with two clauses
@@ -18,6 +18,7 @@
 // !2 7 makes its byte 2 a 7. The image has as many definitions and records as the line.
 #![tactic(auto)]
 
+pub mod answer;
 pub mod build;
 pub mod codes;
 pub mod image;
@@ -26,5 +27,7 @@ pub mod lists;
 pub mod notation;
 pub mod reader;
 pub mod record;
+pub mod refusal;
+pub mod sort;
 pub mod sum;
 pub mod text;

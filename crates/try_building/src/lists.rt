@@ -5,6 +5,15 @@ use crate::codes::Chirality;
 use crate::reader::Reader;
 use std::marker::PhantomData;
 
+// A mark of 0 or 1.
+pub fn mark(reader: &mut Reader<'_>) -> Option<bool> {
+    match reader.byte()? {
+        0 => Some(false),
+        1 => Some(true),
+        _ => None,
+    }
+}
+
 // A name and an ID: a variable, a label, a tag or a declared type.
 #[derive(Clone, Copy, PartialEq, Eq)]
 pub struct Identifier {
@@ -29,13 +38,13 @@ pub enum Ty {
 
 impl Ty {
     pub fn read(reader: &mut Reader<'_>) -> Option<Ty> {
-        let mark = reader.byte()?;
+        let declared = mark(reader)?;
         let identifier = Identifier::read(reader)?;
-        match mark {
-            0 => Some(Ty::I64),
-            1 => Some(Ty::Declared(identifier)),
-            _ => None,
-        }
+        Some(if declared {
+            Ty::Declared(identifier)
+        } else {
+            Ty::I64
+        })
     }
 }
 
@@ -129,8 +138,7 @@ impl<'a, T: Item> Iterator for List<'a, T> {
             return None;
         }
         self.left -= 1;
-        let (first, rest) = self.rest.split_at_checked(usize::from(T::SIZE))?;
-        self.rest = rest;
+        let first = self.rest.split_off(..usize::from(T::SIZE))?;
         T::read(&mut Reader::new(first))
     }
 }

@@ -1,9 +1,11 @@
 // An image in the notation of its lines. A record that the notation cannot say is there as x and its bytes.
+use crate::codes::Chirality;
 use crate::image::Image;
 use crate::layout::{NAME, Part, TYPE, layout};
 use crate::reader::Reader;
+use crate::record::Record;
 use crate::sum::adler32;
-use std::alloc::{AllocError, AllocFailed, Global};
+use std::alloc::{AllocError, Global};
 
 // The most bytes of an image whose records are told.
 const TOLD: usize = 8192;
@@ -21,30 +23,40 @@ impl From<AllocError> for Unsaid {
     }
 }
 
-// Fails where a record has something else than the notation says.
+// Fails where a record has something else than the notation says: `so` is a condition, as an assertion has.
 fn only(so: bool) -> Result<(), Unsaid> {
     if so { Ok(()) } else { Err(Unsaid::Otherwise) }
 }
 
-// The letter of a record, by its kind and the mark of a Create, an IfC or a PrintI64.
-fn letter(record: &[u8]) -> Option<u8> {
-    let marked = |at: usize| record.get(at) == Some(&1);
-    Some(match *record.first()? {
-        1 => b'd',
-        2 => b'u',
-        3 => b'c',
-        4 => b't',
-        5 => b's',
-        6 => if marked(10) { b'e' } else { b'n' },
-        7 => b'v',
-        8 => b'l',
-        9 => b'o',
-        10 => if marked(6) { b'j' } else { b'i' },
-        11 => b'k',
-        12 => if marked(1) { b'q' } else { b'p' },
-        13 => b'z',
-        _ => return None,
-    })
+// The letter of a record. Of Create, IfC and PrintI64 there are two each.
+fn letter(record: Record<'_>) -> u8 {
+    match record {
+        Record::Definition { .. } => b'd',
+        Record::Substitute { .. } => b'u',
+        Record::Call { .. } => b'c',
+        Record::Let { .. } => b't',
+        Record::Switch { .. } => b's',
+        Record::Create {
+            environment: None,
+            ..
+        } => b'n',
+        Record::Create {
+            environment: Some(_),
+            ..
+        } => b'e',
+        Record::Invoke { .. } => b'v',
+        Record::Literal { .. } => b'l',
+        Record::Op { .. } => b'o',
+        Record::IfC { second: None, .. } => b'i',
+        Record::IfC {
+            second: Some(_),
+            ..
+        } => b'j',
+        Record::Clause { .. } => b'k',
+        Record::PrintI64 { newline: false, .. } => b'p',
+        Record::PrintI64 { newline: true, .. } => b'q',
+        Record::Exit { .. } => b'z',
+    }
 }
 
 // A record that is read and said.
@@ -106,11 +118,11 @@ impl<'a> Saying<'a> {
 
     fn binding(&mut self) -> Result<(), Unsaid> {
         self.variable()?;
-        match self.byte()? {
-            0 => self.declared("p"),
-            1 => self.declared("c"),
-            2 => self.integer(),
-            _ => Err(Unsaid::Otherwise),
+        match Chirality::try_from(self.byte()?) {
+            Ok(Chirality::Producer) => self.declared("p"),
+            Ok(Chirality::Consumer) => self.declared("c"),
+            Ok(Chirality::External) => self.integer(),
+            Err(_) => Err(Unsaid::Otherwise),
         }
     }
 
@@ -162,14 +174,16 @@ impl<'a> Saying<'a> {
 
 // A record in the notation, and the ID of labels, tags and types in it, which is told where it is another than before.
 fn say(alloc: Global, record: &[u8], before: u16) -> Result<(String, u16), Unsaid> {
-    let letter = letter(record).ok_or(Unsaid::Otherwise)?;
+    let letter = letter(Record::of(record).ok_or(Unsaid::Otherwise)?);
+    let (kind, parts) = layout(letter).ok_or(Unsaid::Otherwise)?;
     let mut saying = Saying {
         record: Reader::new(record),
         said: String::new(alloc),
         before,
         own: None,
     };
-    for part in layout(letter).ok_or(Unsaid::Otherwise)? {
+    only(saying.byte()? == kind as u8)?;
+    for part in parts {
         saying.part(*part)?;
     }
     only(saying.record.rest().is_empty())?;

@@ -22,9 +22,7 @@ impl<'a> Reader<'a> {
     }
 
     pub fn take(&mut self, n: usize) -> Option<&'a [u8]> {
-        let (first, rest) = self.rest.split_at_checked(n)?;
-        self.rest = rest;
-        Some(first)
+        self.rest.split_off(..n)
     }
 
     fn array<const N: usize>(&mut self) -> Option<[u8; N]> {
@@ -32,9 +30,7 @@ impl<'a> Reader<'a> {
     }
 
     pub fn byte(&mut self) -> Option<u8> {
-        let (first, rest) = self.rest.split_first()?;
-        self.rest = rest;
-        Some(*first)
+        self.rest.split_off_first().copied()
     }
 
     pub fn half(&mut self) -> Option<u16> {

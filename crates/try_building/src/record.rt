@@ -1,6 +1,6 @@
-// Records, by their kinds.
-use crate::codes::{Comparison, Operator};
-use crate::lists::{Bindings, Identifier, List, Substitutions, Ty};
+// Records, by their kinds. Under `_`, here and below, are the other kinds, which have nothing of what is asked, where no line says what they have.
+use crate::codes::{Comparison, Kind, Operator};
+use crate::lists::{Bindings, Identifier, List, Substitutions, Ty, mark};
 use crate::reader::Reader;
 
 #[derive(Clone, Copy)]
@@ -60,6 +60,7 @@ pub enum Record<'a> {
         parameters: Bindings<'a>,
     },
     PrintI64 {
+        // The record's mark, a yes or no.
         newline: bool,
         variable: Identifier,
     },
@@ -68,34 +69,24 @@ pub enum Record<'a> {
     },
 }
 
-// A mark of 0 or 1.
-fn mark(reader: &mut Reader<'_>) -> Option<bool> {
-    match reader.byte()? {
-        0 => Some(false),
-        1 => Some(true),
-        _ => None,
-    }
-}
-
 impl<'a> Record<'a> {
-    // The record that these bytes are, by the kind in the first one.
+    // The record that these bytes are, by the kind in the first one. No TryFrom: why they are none is not told.
     pub fn of(bytes: &'a [u8]) -> Option<Record<'a>> {
         let mut reader = Reader::new(bytes);
-        match reader.byte()? {
-            1 => Record::read_definition(&mut reader),
-            2 => Record::read_substitute(&mut reader),
-            3 => Record::read_call(&mut reader),
-            4 => Record::read_let(&mut reader),
-            5 => Record::read_switch(&mut reader),
-            6 => Record::read_create(&mut reader),
-            7 => Record::read_invoke(&mut reader),
-            8 => Record::read_literal(&mut reader),
-            9 => Record::read_op(&mut reader),
-            10 => Record::read_ifc(&mut reader),
-            11 => Record::read_clause(&mut reader),
-            12 => Record::read_print(&mut reader),
-            13 => Record::read_exit(&mut reader),
-            _ => None,
+        match Kind::try_from(reader.byte()?).ok()? {
+            Kind::Definition => Record::read_definition(&mut reader),
+            Kind::Substitute => Record::read_substitute(&mut reader),
+            Kind::Call => Record::read_call(&mut reader),
+            Kind::Let => Record::read_let(&mut reader),
+            Kind::Switch => Record::read_switch(&mut reader),
+            Kind::Create => Record::read_create(&mut reader),
+            Kind::Invoke => Record::read_invoke(&mut reader),
+            Kind::Literal => Record::read_literal(&mut reader),
+            Kind::Op => Record::read_op(&mut reader),
+            Kind::IfC => Record::read_ifc(&mut reader),
+            Kind::Clause => Record::read_clause(&mut reader),
+            Kind::PrintI64 => Record::read_print(&mut reader),
+            Kind::Exit => Record::read_exit(&mut reader),
         }
     }
 
@@ -166,6 +157,7 @@ impl<'a> Record<'a> {
     fn read_create(reader: &mut Reader<'a>) -> Option<Record<'a>> {
         let variable = Identifier::read(reader)?;
         let ty = Ty::read(reader)?;
+        // (No `then`, here and in `read_ifc`: in a closure `?` cannot end the function where the bytes are cut off.)
         let environment = if mark(reader)? {
             Some(List::read(reader)?)
         } else {
@@ -270,6 +262,7 @@ impl<'a> Record<'a> {
             | Record::Invoke { .. }
             | Record::Exit { .. } => 0,
             Record::IfC { .. } => 2,
+            // Each of the others has one.
             _ => 1,
         }
     }

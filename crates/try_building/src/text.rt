@@ -27,19 +27,17 @@ impl<'a> Text<'a> {
     }
 
     pub fn next(&mut self) -> Option<u8> {
-        let (first, rest) = self.rest.split_first()?;
-        self.rest = rest;
-        Some(*first)
+        self.rest.split_off_first().copied()
     }
 
-    // Reads this byte, where it is the next one.
+    // Reads this byte, where it is the next one. (A yes or no: the byte is gone past where it is there.)
     pub fn eat(&mut self, b: u8) -> bool {
-        match self.rest.split_first() {
-            Some((first, rest)) if *first == b => {
+        match self.rest.strip_prefix(&[b]) {
+            Some(rest) => {
                 self.rest = rest;
                 true
             }
-            _ => false,
+            None => false,
         }
     }
 

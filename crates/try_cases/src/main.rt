@@ -6,10 +6,11 @@
 #![tactic(auto)]
 
 use std::alloc::Global;
-use std::fmt;
 use std::io::{self, BufWriter, Error, ErrorKind, Write};
+use try_building::answer::Answer;
 use try_building::build::build;
 use try_building::notation::notation;
+use try_building::refusal::{NoRefusal, Refusal};
 
 // The bytes that are lent where the name says nothing.
 const LENT: usize = 65535;
@@ -40,9 +41,11 @@ fn malformed(what: &'static str) -> Error {
     Error::new(ErrorKind::InvalidData, what)
 }
 
-impl Function {
-    // The function that a line names behind its =.
-    fn named(name: &str) -> io::Result<Function> {
+// The function that a line names behind its =.
+impl<'a> TryFrom<&'a str> for Function {
+    type Error = Error;
+
+    fn try_from(name: &'a str) -> io::Result<Function> {
         match name {
             "read" => Ok(Function::Read),
             "check" => Ok(Function::Check),
@@ -86,7 +89,8 @@ impl Call {
     }
 
     // `image` and `out`: one is read, the other written, as in the library's function.
-    // Makes the call. Before it length and max_id hold numbers that no answer has.
+    // Makes the call. Before it length and max_id hold numbers that no answer has. (`ask` of try_vectors and this: each takes a `Call` of its
+    // own input.)
     fn make(self, image: &[u8], out: &mut [u8]) -> Answer {
         let mut length: usize = 99;
         let mut max_id: u32 = 99;
@@ -101,30 +105,13 @@ impl Call {
         Answer {
             number,
             length,
-            max_id,
+            max_id: u64::from(max_id),
         }
     }
 }
 
-// What a call answered.
-#[derive(Clone, Copy)]
-struct Answer {
-    number: u32,
-    length: usize,
-    max_id: u32,
-}
-
-impl fmt::Display for Answer {
-    fn fmt<W: fmt::Write>(&self, f: &mut fmt::Formatter<W>) -> fmt::Result {
-        write!(f, "{} {} {}", self.number, self.length, self.max_id)
-    }
-}
-
 fn is_full(buffer: Option<&[u8]>, byte: u8) -> bool {
-    match buffer {
-        Some(buffer) => buffer.iter().all(|b| *b == byte),
-        None => false,
-    }
+    buffer.is_some_and(|bytes| bytes.iter().all(|b| *b == byte))
 }
 
 // Whether the bytes from a place on are as they were.
@@ -136,16 +123,16 @@ fn rest(buffer: &[u8], from: usize) -> &'static str {
     }
 }
 
-// After acceptance the bytes past the length stay; 11 and 12 set all that was lent to zero; after another number all stays.
+// After acceptance the bytes past the length stay; two refusals set all that was lent to zero; after another all stays.
 fn left(out: &mut impl Write, answer: Answer, buffer: &[u8], lent: usize) -> io::Result<()> {
-    match answer.number {
-        0 => write!(out, "{}", rest(buffer, answer.length)),
-        11 | 12 => {
+    match Refusal::try_from(answer.number) {
+        Err(NoRefusal) => write!(out, "{}", rest(buffer, answer.length)),
+        Ok(Refusal::Draws | Refusal::Room) => {
             let zero = is_full(buffer.get(..lent), 0);
             write!(out, "{}", if zero { ", zero" } else { ", NOT ZERO" })?;
             write!(out, "{}", rest(buffer, lent))
         }
-        _ => {
+        Ok(_) => {
             let kept = is_full(Some(buffer), MARK);
             write!(
                 out,
@@ -208,7 +195,7 @@ fn case(
                     ", IMAGE NOT KEPT"
                 }
             )?;
-            if answer.number == 0 {
+            if Refusal::check(answer.number).is_ok() {
                 let written = buffer.get(..answer.length).unwrap_or(&[]);
                 read(out, alloc, written)?;
             }
@@ -225,7 +212,7 @@ fn cases(out: &mut impl Write, alloc: Global, text: &str) -> io::Result<()> {
             continue;
         }
         if let Some(name) = line.strip_prefix('=') {
-            function = Function::named(name)?;
+            function = Function::try_from(name)?;
         } else {
             let (name, rest) = line
                 .split_once(": ")

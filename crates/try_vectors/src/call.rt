@@ -1,8 +1,11 @@
 // A call of the input, and the answer that is expected. Numbers are little-endian.
 use std::fmt;
+use try_building::answer::Answer;
+use try_building::codes::UnknownCode;
 use try_building::reader::Reader;
+use try_building::refusal::Refusal;
 
-#[derive(Clone, Copy, PartialEq, Eq)]
+#[derive(Clone, Copy, PartialEq, Eq, PartialOrd, Ord)]
 pub enum Function {
     Read,
     Check,
@@ -26,13 +29,20 @@ impl Function {
         Function::LinearStep,
     ];
 
-    fn of(number: u8) -> Option<Function> {
-        Function::ALL.get(usize::from(number)).copied()
-    }
-
     // Does it start a stepper?
     pub fn starts(self) -> bool {
         self == Function::SourceStart || self == Function::LinearStart
+    }
+}
+
+impl TryFrom<u8> for Function {
+    type Error = UnknownCode;
+
+    fn try_from(code: u8) -> Result<Function, UnknownCode> {
+        Function::ALL
+            .get(usize::from(code))
+            .copied()
+            .ok_or(UnknownCode(code))
     }
 }
 
@@ -51,24 +61,11 @@ impl fmt::Display for Function {
     }
 }
 
-// What a call answers: its number, its length, of a stepper the event bytes; and its max_id, of a stepper the steps made.
-#[derive(Clone, Copy, PartialEq, Eq)]
-pub struct Answer {
-    pub number: u32,
-    pub length: usize,
-    pub max_id: u64,
-}
-
-impl fmt::Display for Answer {
-    fn fmt<W: fmt::Write>(&self, f: &mut fmt::Formatter<W>) -> fmt::Result {
-        write!(f, "{} {} {}", self.number, self.length, self.max_id)
-    }
-}
-
 #[derive(Clone, Copy)]
 pub struct Call<'a> {
     pub function: Function,
-    // The record that is annotated, the definition that is started, or the steps that are asked for.
+    // The record that is annotated, the definition that is started, or the steps that are asked for. (One number, as the input has it for
+    // every function; `ask` takes it for what its function needs.)
     pub index: u64,
     // The length of the lent buffer, of a stepper that of the store.
     pub room: usize,
@@ -83,7 +80,7 @@ pub struct Call<'a> {
 
 impl<'a> Call<'a> {
     pub fn read(input: &mut Reader<'a>) -> Option<Call<'a>> {
-        let function = Function::of(input.byte()?)?;
+        let function = Function::try_from(input.byte()?).ok()?;
         let index = input.double()?;
         let room = usize::try_from(input.word()?).ok()?;
         let old = input.byte()?;
@@ -106,11 +103,19 @@ impl<'a> Call<'a> {
         })
     }
 
-    // What stands past the length: 11 and 12 set the whole buffer to zero, the others leave it.
+    // What stands past the length: two refusals set the whole buffer to zero, the other answers leave it.
     pub fn rest(self) -> u8 {
-        match self.expected.number {
-            11 | 12 => 0,
-            _ => self.old,
+        match Refusal::try_from(self.expected.number) {
+            Ok(Refusal::Draws | Refusal::Room) => 0,
+            Ok(_) | Err(_) => self.old,
         }
+    }
+
+    // Is the expected number one that the library answers?
+    pub fn is_known(self) -> bool {
+        !matches!(
+            Refusal::try_from(self.expected.number),
+            Ok(Refusal::Unknown(_))
+        )
     }
 }

@@ -17,7 +17,7 @@ use tally::Tally;
 use trouble::Trouble;
 use try_building::reader::Reader;
 
-// `out` and `alloc`, here and below: where it is written and where memory comes from; `Tally` takes one, `Left` the other.
+// `out` and `alloc`, here and below: where it is written and where memory comes from; `add` takes one, `replay` the other.
 // An image and its calls. A copy of the image is kept, since no call may change it.
 fn image(
     out: &mut impl Write,
@@ -38,7 +38,10 @@ fn image(
             Function::Read | Function::Check | Function::Linearize | Function::Annotate => {
                 replay(alloc, call, image, &kept)?
             }
-            _ => left.replay(alloc, call, image, &kept)?,
+            Function::SourceStart
+            | Function::SourceStep
+            | Function::LinearStart
+            | Function::LinearStep => left.replay(alloc, call, image, &kept)?,
         };
         tally.add(out, call, seen)?;
     }
@@ -81,7 +84,7 @@ fn main(rt: HostRuntime) -> io::Result<()> {
     let mut input = Vec::new(alloc);
     rt.reader().read_to_end(&mut input)?;
     let mut out = BufWriter::new(alloc, rt.stdout())?;
-    let mut tally = Tally::new();
+    let mut tally = Tally::new(alloc);
     let ended = all(&mut out, alloc, &input, &mut tally);
     tally.show(&mut out)?;
     match ended {

@@ -1,7 +1,8 @@
 // Making a call again, and what it leaves.
-use crate::call::{Answer, Call, Function};
+use crate::call::{Call, Function};
 use crate::trouble::Trouble;
 use std::alloc::Global;
+use try_building::answer::Answer;
 
 // No image and no lent buffer has more bytes.
 pub const LARGEST: usize = 65536;
@@ -16,7 +17,7 @@ pub struct Outcome {
     // The first place at which the lent buffer is not as expected, and of a stepper the same of the event buffer.
     pub buffer: Option<usize>,
     pub events: Option<usize>,
-    // Whether the image is as it was.
+    // Whether the image is as it was: a yes or no, since no place in it is told.
     pub image: bool,
 }
 
@@ -28,16 +29,14 @@ impl Outcome {
 
 // The first place at which a buffer has another byte than expected: the text, and behind it the rest byte.
 pub fn differs(buffer: &[u8], text: &[u8], rest: u8) -> Option<usize> {
-    for (i, b) in buffer.iter().enumerate() {
-        if *b != text.get(i).copied().unwrap_or(rest) {
-            return Some(i);
-        }
-    }
-    None
+    buffer
+        .iter()
+        .enumerate()
+        .position(|(i, b)| *b != text.get(i).copied().unwrap_or(rest))
 }
 
 // `call` and `image`, also in steppers.rt: an image comes once, and its calls behind it. `out` is written, as in the library's function.
-// Before the call length and max_id hold numbers that no answer has.
+// Before the call length and max_id hold numbers that no answer has. (`Call::make` of try_cases and this: each takes a `Call` of its own input.)
 fn ask(call: Call<'_>, image: &[u8], out: &mut [u8]) -> Answer {
     let mut length: usize = 99999;
     let mut max_id: u32 = 99999;
@@ -45,6 +44,7 @@ fn ask(call: Call<'_>, image: &[u8], out: &mut [u8]) -> Answer {
         Function::Read => axcut::axcut_read(image, &mut length, &mut max_id),
         Function::Check => axcut::axcut_check(image, &mut length, &mut max_id),
         Function::Linearize => axcut::axcut_linearize(image, out, &mut length, &mut max_id),
+        // Annotate: no call of a stepper comes here.
         _ => {
             let record = call.index as usize;
             axcut::axcut_annotate(image, record, out, &mut length, &mut max_id)

@@ -1,8 +1,9 @@
 // Making a call of a stepper again, and what it leaves.
-use crate::call::{Answer, Call, Function};
+use crate::call::{Call, Function};
 use crate::replay::{GUARD, LARGEST, Outcome, differs};
 use crate::trouble::Trouble;
 use std::alloc::{AllocError, Global};
+use try_building::answer::Answer;
 use try_building::reader::Reader;
 
 // What the calls of steppers on an image are expected to leave in the array that their stores are the beginning of.
@@ -41,6 +42,7 @@ fn ask(call: Call<'_>, image: &[u8], values: &[u8], store: &mut [u8], events: &m
         Function::SourceStep => {
             axcut::axcut_source_step(image, index, store, events, &mut made, &mut length)
         }
+        // LinearStep: no call but one of a stepper comes here.
         _ => axcut::axcut_linear_step(image, index, store, events, &mut made, &mut length),
     };
     Answer {
@@ -95,6 +97,7 @@ impl Left {
             .get_mut(..room)
             .ok_or(Trouble::Broken)?;
         let answer = ask(call, image, lent.values, store, shown);
+        // (Compared first: `differs` goes byte by byte.)
         let buffer = if array == self.array {
             None
         } else {

@@ -1,15 +1,15 @@
 // How many calls agree.
 use crate::call::{Call, Function};
 use crate::replay::Outcome;
+use crate::trouble::Trouble;
+use std::alloc::Global;
+use std::collections::BTreeMap;
 use std::io::{self, Write};
 
-// The answers are 0 to 15.
-const ANSWERS: usize = 16;
-
-#[derive(Clone, Copy)]
+#[derive(Drop)]
 pub struct Tally {
     // The calls that agree, by function and answer.
-    agree: [[u32; ANSWERS]; 8],
+    agree: BTreeMap<(Function, u32), u32>,
     // The images before the one at hand, and its calls before the one at hand.
     images: u32,
     own: u32,
@@ -46,9 +46,9 @@ fn mismatch(
 }
 
 impl Tally {
-    pub fn new() -> Tally {
+    pub fn new(alloc: Global) -> Tally {
         Tally {
-            agree: [[0; ANSWERS]; 8],
+            agree: BTreeMap::new(alloc),
             images: 0,
             own: 0,
             calls: 0,
@@ -62,31 +62,32 @@ impl Tally {
         self.own = 0;
     }
 
-    // Where calls like this are counted.
-    fn count(&mut self, call: Call<'_>) -> Option<&mut u32> {
-        let number = call.expected.number as usize;
-        self.agree.get_mut(call.function as usize)?.get_mut(number)
-    }
-
-    // With what the call at hand answered.
-    pub fn add(&mut self, out: &mut impl Write, call: Call<'_>, seen: Outcome) -> io::Result<()> {
+    // With what the call at hand answered. One whose expected number the library does not answer is a mismatch.
+    pub fn add(
+        &mut self,
+        out: &mut impl Write,
+        call: Call<'_>,
+        seen: Outcome,
+    ) -> Result<(), Trouble> {
         let own = self.own;
         self.own = own.saturating_add(1);
         self.calls = self.calls.saturating_add(1);
-        if seen.agrees(call) {
-            if let Some(count) = self.count(call) {
-                *count = count.saturating_add(1);
-                return Ok(());
-            }
+        if call.is_known() && seen.agrees(call) {
+            let count = self
+                .agree
+                .entry((call.function, call.expected.number))?
+                .or_insert(0);
+            *count = count.saturating_add(1);
+            return Ok(());
         }
         self.mismatches = self.mismatches.saturating_add(1);
-        mismatch(out, self.images, own, call, seen)
+        Ok(mismatch(out, self.images, own, call, seen)?)
     }
 
     // A line for each function and answer of which there are calls, and the sums.
     pub fn show(&self, out: &mut impl Write) -> io::Result<()> {
-        for (function, counts) in Function::ALL.iter().zip(self.agree.iter()) {
-            agreeing(out, *function, counts)?;
+        for ((function, answer), n) in self.agree.iter() {
+            writeln!(out, "{function} {answer}: {n}")?;
         }
         writeln!(
             out,
@@ -94,13 +95,4 @@ impl Tally {
             self.images, self.calls, self.mismatches
         )
     }
-}
-
-fn agreeing(out: &mut impl Write, function: Function, counts: &[u32; ANSWERS]) -> io::Result<()> {
-    for (answer, n) in counts.iter().enumerate() {
-        if 0 < *n {
-            writeln!(out, "{function} {answer}: {n}")?;
-        }
-    }
-    Ok(())
 }

@@ -15,6 +15,12 @@ impl From<io::Error> for Trouble {
     }
 }
 
+impl<T: Drop> From<AllocFailed<T>> for Trouble {
+    fn from(_: AllocFailed<T>) -> Trouble {
+        Trouble::from(AllocError)
+    }
+}
+
 impl From<AllocError> for Trouble {
     fn from(error: AllocError) -> Trouble {
         Trouble::Output(io::Error::from(error))

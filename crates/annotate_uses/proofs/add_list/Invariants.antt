@@ -11,5 +11,5 @@ use Rattle.annotate_uses.proofs.add_list.Given as goal
 
 abbrev pub invariant-loop-j : goal.invariant-loop-j
 invariant-loop-j l =
-    let Γ = list_of (record_in l.node) in
+    let Γ = list_of (record_in l.list.node.now) in
     Room l.all (length Γ - l.j) × (set_of l.initial.all ++ ids Γ ≡ set_of l.all ++ drop l.j (ids Γ))

@@ -6,7 +6,7 @@ use Rattle.image_read_parts.specs.Standing.{Stands}
 use Rattle.image_read_parts.specs.Parts.{list_of}
 use Rattle.image_read_parts.specs.Indexed.{record_at}
 use Rattle.image_kinds.specs.Codes.{code_of}
-use Rattle.image_read_nodes.proofs.ListLaws.{list-there, list-run}
+use Rattle.image_read_nodes.proofs.ListLaws.{list-there, list-run, list-to}
 use Rattle.image_read_nodes.proofs.list_at.Goals as goal
 use Rattle.image_read_nodes.proofs.list_at.Goals.{After-fixed}
 
@@ -20,8 +20,8 @@ there c =
 pub fixed-requires : goal.fixed-requires
 fixed-requires c = omega (arith, c.args.node.now.image.ready.id)
 
-pub overflow_add-result : goal.overflow_add-result
-overflow_add-result c = omega (arith, (list-run c.args.node.now.image.frame.id (there (goal.at.overflow_add-result c).After-fixed)).inside)
+pub overflow_add-start : goal.overflow_add-start
+overflow_add-start c = omega (arith, (list-run c.args.node.now.image.frame.id (there (goal.at.overflow_add-start c).After-fixed)).inside)
 
-pub returns : goal.returns
-returns c = there (goal.at.returns c).After-fixed
+pub invariant_of-result : goal.invariant_of-result
+invariant_of-result c = record { stands = list-to c.args.node.now c.requires (there (goal.at.invariant_of-result c).After-fixed) }

@@ -13,7 +13,7 @@ pub overflow_add-offset : goal.overflow_add-offset
 overflow_add-offset c = omega (arith, (room (goal.at.overflow_add-offset c).After-offset).inside)
 
 pub identifier_at-requires : goal.identifier_at-requires
-identifier_at-requires c = room (goal.at.identifier_at-requires c).After-offset
+identifier_at-requires c = rw (c.fields.ensures.id, c.fields.ensures.bytes) (room (goal.at.identifier_at-requires c).After-offset)
 
 pub returns : goal.returns
-returns c = part-reads c.offset.ensures c.requires.1 c.identifier_at.ensures
+returns c = part-reads c.offset.ensures c.requires.1 (rw (c.fields.ensures.id, c.fields.ensures.bytes) at c.identifier_at.ensures)

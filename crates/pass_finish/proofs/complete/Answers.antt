@@ -25,8 +25,13 @@ put_directory-requires c =
     let o = a.output.now in
     let f = c.requires.0 in
     let head = header-ends a.layout _ _ _ (header (goal.at.put_directory-requires c).After-put_header) in
-    let same : take o.count c.take-lengths.result.now ≡ take o.count o.lengths.now = search rules in
-    (omega (arith, f.known.place.1), (omega (arith, head, ap length same, length-take-le o.count o.lengths.now f.noted, f.few, f.known.place.1, f.known.id.1), omega (arith, ap total same, c.body_at-body.ensures, body-small a.layout o.count f.known f.few, f.ends, f.near)))
+    let same : take o.count c.take-lengths.result.now ≡ take o.count o.lengths.now = search rules in (
+      omega (arith, f.known.place.1),
+      (
+        omega (arith, head, ap length same, length-take-le o.count o.lengths.now f.noted, f.few, f.known.place.1, f.known.id.1),
+        omega (arith, ap total same, c.records_at-body.ensures, body-small a.layout o.count f.known f.few, f.ends, f.near),
+      ),
+    )
 
 pub returns : goal.returns
 returns c =
@@ -36,9 +41,11 @@ returns c =
     let d = c.put_directory.ensures in
     let h = c.put_header.ensures in
     let s = c.shift.ensures in
+    let from = c.put_header.new.writer in
+    let to = c.put_directory.new.writer in
     let same : take o.count c.take-lengths.result.now ≡ take o.count o.lengths.now = search rules in (
-      completes a.layout a.defs o.max_id o.count a.start (o.writer.at - a.start) (take o.count o.lengths.now) o.writer.out.now f.up c.body_at-body.ensures refl refl
+      completes a.layout a.defs o.max_id o.count a.start (o.writer.at - a.start) (take o.count o.lengths.now) o.writer.out.now f.up c.records_at-body.ensures refl refl
           s.0 (header (goal.at.returns c).After-put_header)
-          (subst (λ (z : List ℕ). Puts c.put_header.new.writer.out.now c.put_directory.new.writer.out.now c.put_header.new.writer.at c.put_directory.new.writer.at (each (entry_bytes a.layout.place) (entries_from c.body_at-body.result z))) same d.puts),
+          (subst (λ (z : List ℕ). Puts from.out.now to.out.now from.at to.at (each (entry_bytes a.layout.place) (entries_from c.records_at-body.result z))) same d.puts),
       search rules,
     )

@@ -18,12 +18,12 @@ pub overflow_add-length : goal.overflow_add-length
 overflow_add-length c =
     let a = c.args in
     let f = c.requires in
-    record { fits = omega (arith, c.body_at.ensures, body-small a.layout a.output.now.count f.known f.few, f.near) }
+    record { fits = omega (arith, c.records_at.ensures, body-small a.layout a.output.now.count f.known f.few, f.near) }
 
 pub returns-then-output-length : goal.returns-then-output-length
 returns-then-output-length c =
     let a = c.args in
-    let b = c.body_at in
+    let b = c.records_at in
     let n = b.result + (a.output.now.writer.at - a.start) in
     let no : leb n (length a.output.now.writer.out.now) && leb n a.layout.largest ≡ false = elim c.then-output-length.branch [
       | then-output-length-via-then-output-length w ↦ rw (lt-leb n (length a.output.now.writer.out.now) w.if-output-length.true) refl
@@ -34,6 +34,9 @@ returns-then-output-length c =
 pub returns : goal.returns
 returns c =
     let a = c.args in
-    let b = c.body_at in
+    let b = c.records_at in
     let n = b.result + (a.output.now.writer.at - a.start) in
-    (finishes-image n (ap (λ (z : ℕ). z + (a.output.now.writer.at - a.start)) b.ensures) (omega (arith, c.if-max_id-gt-MAX_ID.false)) (omega (arith, c.if-output-length.false)) (omega (arith, c.if-layout-length.false)) c.requires c.complete.ensures.0 refl, c.complete.ensures.1)
+    let size = ap (λ (z : ℕ). z + (a.output.now.writer.at - a.start)) b.ensures in (
+      finishes-image n size (omega (arith, c.if-max_id-gt-MAX_ID.false)) (omega (arith, c.if-output-length.false)) (omega (arith, c.if-layout-length.false)) c.requires c.complete.ensures.0 refl,
+      c.complete.ensures.1,
+    )

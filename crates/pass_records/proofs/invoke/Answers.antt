@@ -10,26 +10,26 @@ use Rattle.pass_records.proofs.invoke.Goals as goal
 use Rattle.pass_records.proofs.invoke.Goals.{After-offset-start}
 
 -- where the parts stand
-there : (c : After-offset-start) → let m = c.args.node.now.image in let w = m.frame.id in TaggedThere w m.bytes.now c.offset-start.result (record_of m c.args.node.now.index) (λ v t g Γ. invoke v g t Γ) (5 + (w + w)) (3 + w)
-there c = invoke-there _ _ _ _ (at-kind c.args.node.now c.requires.0).kind c.offset-start.ensures
+there : (c : After-offset-start) → let f = c.fields-fields.result in let r = record_of c.args.node.now.image c.args.node.now.index in TaggedThere f.id f.bytes.now c.offset-start.result r (λ v t g Γ. invoke v g t Γ) (5 + (f.id + f.id)) (3 + f.id)
+there c = rw (c.fields-fields.ensures.id, c.fields-fields.ensures.bytes) (invoke-there _ _ _ _ (at-kind c.args.node.now c.requires.0).kind c.offset-start.ensures)
 
 pub overflow_add-start : goal.overflow_add-start
 overflow_add-start c = omega (arith, (there (goal.at.overflow_add-start c).After-offset-start).inside)
 
 pub identifier_at-var-requires : goal.identifier_at-var-requires
-identifier_at-var-requires c = record { width = c.args.node.now.image.ready.id.1; inside = omega (arith, (there (goal.at.identifier_at-var-requires c).After-offset-start).inside) }
+identifier_at-var-requires c = record { width = rw c.fields-fields.ensures.id c.args.node.now.image.ready.id.1; inside = omega (arith, (there (goal.at.identifier_at-var-requires c).After-offset-start).inside) }
 
 pub overflow_add-start-2 : goal.overflow_add-start-2
 overflow_add-start-2 c = omega (arith, (there (goal.at.overflow_add-start-2 c).After-offset-start).inside)
 
 pub identifier_at-tag-requires : goal.identifier_at-tag-requires
-identifier_at-tag-requires c = record { width = c.args.node.now.image.ready.id.1; inside = omega (arith, (there (goal.at.identifier_at-tag-requires c).After-offset-start).inside) }
+identifier_at-tag-requires c = record { width = rw c.fields-fields.ensures.id c.args.node.now.image.ready.id.1; inside = omega (arith, (there (goal.at.identifier_at-tag-requires c).After-offset-start).inside) }
 
 pub overflow_add-start-3 : goal.overflow_add-start-3
 overflow_add-start-3 c = omega (arith, (there (goal.at.overflow_add-start-3 c).After-offset-start).inside)
 
 pub type_at-ty-requires : goal.type_at-ty-requires
-type_at-ty-requires c = record { width = c.args.node.now.image.ready.id.1; inside = omega (arith, (there (goal.at.type_at-ty-requires c).After-offset-start).inside) }
+type_at-ty-requires c = record { width = rw c.fields-fields.ensures.id c.args.node.now.image.ready.id.1; inside = omega (arith, (there (goal.at.type_at-ty-requires c).After-offset-start).inside) }
 
 pub overflow_add-start-4 : goal.overflow_add-start-4
 overflow_add-start-4 c = omega (arith, (there (goal.at.overflow_add-start-4 c).After-offset-start).inside)
@@ -37,7 +37,7 @@ overflow_add-start-4 c = omega (arith, (there (goal.at.overflow_add-start-4 c).A
 pub list-args-requires : goal.list-args-requires
 list-args-requires c =
     let t = there (goal.at.list-args-requires c).After-offset-start in
-    list_at c.args.node.now.image.ready.id.1 t.args_at (sym (ap small_record_lem t.is) ∙ c.requires.1)
+    list_at (rw c.fields-fields.ensures.id c.args.node.now.image.ready.id.1) t.args_at (sym (ap small_record_lem t.is) ∙ c.requires.1)
 
 pub returns : goal.returns
 returns c =

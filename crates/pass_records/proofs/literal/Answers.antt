@@ -5,15 +5,15 @@ use mir.Syntax.{w64}
 use mir.Val.{of_z, to_z}
 use mir.ValLaws.{to_z-of_z}
 use Rattle.image_spec.specs.Records.{literal}
-use Rattle.image_read_parts.specs.Indexed.{record_at}
+use Rattle.image_read_parts.specs.Indexed.{record_of}
 use Rattle.image_read_parts.proofs.Indexing.{at-kind}
 use Rattle.pass_records.proofs.FieldPlaces.{LiteralThere, literal-there}
 use Rattle.pass_records.proofs.literal.Goals as goal
 use Rattle.pass_records.proofs.literal.Goals.{After-offset-start}
 
 -- where the parts stand
-there : (c : After-offset-start) → LiteralThere c.args.node.now.image.frame.id c.args.node.now.image.bytes.now c.offset-start.result (record_at c.args.node.now.image.frame c.args.node.now.image.bytes.now c.args.node.now.index)
-there c = literal-there _ _ _ _ (at-kind c.args.node.now c.requires).kind c.offset-start.ensures
+there : (c : After-offset-start) → let f = c.fields-fields.result in let r = record_of c.args.node.now.image c.args.node.now.index in LiteralThere f.id f.bytes.now c.offset-start.result r
+there c = rw (c.fields-fields.ensures.id, c.fields-fields.ensures.bytes) (literal-there _ _ _ _ (at-kind c.args.node.now c.requires).kind c.offset-start.ensures)
 
 pub overflow_add-start : goal.overflow_add-start
 overflow_add-start c = omega (arith, (there (goal.at.overflow_add-start c).After-offset-start).inside)
@@ -25,7 +25,7 @@ pub overflow_add-start-2 : goal.overflow_add-start-2
 overflow_add-start-2 c = omega (arith, (there (goal.at.overflow_add-start-2 c).After-offset-start).inside)
 
 pub identifier_at-var-requires : goal.identifier_at-var-requires
-identifier_at-var-requires c = record { width = c.args.node.now.image.ready.id.1; inside = omega (arith, (there (goal.at.identifier_at-var-requires c).After-offset-start).inside) }
+identifier_at-var-requires c = record { width = rw c.fields-fields.ensures.id c.args.node.now.image.ready.id.1; inside = omega (arith, (there (goal.at.identifier_at-var-requires c).After-offset-start).inside) }
 
 pub returns : goal.returns
 returns c =

@@ -2,33 +2,33 @@ use Prim.Native.Nat.{◌+◌}
 use mathlib.Core.Path.{sym, ◌∙◌}
 use native.Mathlib.Omega.{arith}
 use Rattle.image_spec.specs.Records.{switch}
-use Rattle.image_read_parts.specs.Indexed.{record_at}
+use Rattle.image_read_parts.specs.Indexed.{record_of}
 use Rattle.image_read_parts.proofs.Indexing.{at-kind}
 use Rattle.pass_records.proofs.FieldPlaces.{HeadThere, switch-there}
 use Rattle.pass_records.proofs.switch.Goals as goal
 use Rattle.pass_records.proofs.switch.Goals.{After-offset-start}
 
 -- where the parts stand
-there : (c : After-offset-start) → HeadThere c.args.node.now.image.frame.id c.args.node.now.image.bytes.now c.offset-start.result (record_at c.args.node.now.image.frame c.args.node.now.image.bytes.now c.args.node.now.index) switch (6 + (c.args.node.now.image.frame.id + c.args.node.now.image.frame.id))
-there c = switch-there _ _ _ _ (at-kind c.args.node.now c.requires).kind c.offset-start.ensures
+there : (c : After-offset-start) → let f = c.fields-fields.result in let r = record_of c.args.node.now.image c.args.node.now.index in HeadThere f.id f.bytes.now c.offset-start.result r switch (6 + (f.id + f.id))
+there c = rw (c.fields-fields.ensures.id, c.fields-fields.ensures.bytes) (switch-there _ _ _ _ (at-kind c.args.node.now c.requires).kind c.offset-start.ensures)
 
 pub overflow_add-start : goal.overflow_add-start
 overflow_add-start c = omega (arith, (there (goal.at.overflow_add-start c).After-offset-start).inside)
 
 pub identifier_at-var-requires : goal.identifier_at-var-requires
-identifier_at-var-requires c = record { width = c.args.node.now.image.ready.id.1; inside = omega (arith, (there (goal.at.identifier_at-var-requires c).After-offset-start).inside) }
+identifier_at-var-requires c = record { width = rw c.fields-fields.ensures.id c.args.node.now.image.ready.id.1; inside = omega (arith, (there (goal.at.identifier_at-var-requires c).After-offset-start).inside) }
 
 pub overflow_add-start-2 : goal.overflow_add-start-2
 overflow_add-start-2 c = omega (arith, (there (goal.at.overflow_add-start-2 c).After-offset-start).inside)
 
 pub type_at-ty-requires : goal.type_at-ty-requires
-type_at-ty-requires c = record { width = c.args.node.now.image.ready.id.1; inside = omega (arith, (there (goal.at.type_at-ty-requires c).After-offset-start).inside) }
+type_at-ty-requires c = record { width = rw c.fields-fields.ensures.id c.args.node.now.image.ready.id.1; inside = omega (arith, (there (goal.at.type_at-ty-requires c).After-offset-start).inside) }
 
 pub overflow_add-clauses-3 : goal.overflow_add-clauses-3
 overflow_add-clauses-3 c = omega (arith, (there (goal.at.overflow_add-clauses-3 c).After-offset-start).inside)
 
-pub bounds-image-start : goal.bounds-image-start
-bounds-image-start c = omega (arith, (there (goal.at.bounds-image-start c).After-offset-start).inside)
+pub bounds-fields-start : goal.bounds-fields-start
+bounds-fields-start c = omega (arith, (there (goal.at.bounds-fields-start c).After-offset-start).inside)
 
 pub returns : goal.returns
 returns c =

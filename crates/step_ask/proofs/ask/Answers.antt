@@ -5,7 +5,6 @@ use Rattle.std.proofs.Common.{rules, Result}
 use Rattle.image_spec.specs.declared.Refusal.{Refusal}
 use Rattle.image_open.specs.declared.opened.Opened.{Opened}
 use Rattle.image_open.proofs.OpenedLaws.{IsOpened, opened-image, opened-bytes, opened-refused}
-use Rattle.scope_check.proofs.CheckLaws.{opened-defined}
 use Rattle.step_spec.specs.declared.MachineKind.{MachineKind}
 use Rattle.step_spec.specs.declared.MachineKind.TheVariants.{Source, Linear}
 use Rattle.step_ask.specs.Asking.{Asks}
@@ -21,9 +20,6 @@ opened c = opened-image c.requires c.in_ok-opened.ensures
 -- what is said of its bytes is said of the given ones
 given : (c : In_ok-opened) (kind : MachineKind) (r : Result Opened Refusal) → Asks c.args.layout kind c.in_ok-opened.opened.image.bytes.now r → Asks c.args.layout kind c.args.image.now r
 given c kind r a = subst (λ (s : List ℕ). Asks c.args.layout kind s r) (opened-bytes c.in_ok-opened.ensures) a
-
-pub check_image-requires : goal.check_image-requires
-check_image-requires c = opened-defined (opened (goal.at.check_image-requires c).In_ok-opened)
 
 pub returns-in_err-opened : goal.returns-in_err-opened
 returns-in_err-opened c =

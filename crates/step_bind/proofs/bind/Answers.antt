@@ -13,6 +13,6 @@ returns c = (
       let h = a.work.now.header in
       let k = c.moving-kept.ensures in
       binds_as (ap (λ (i : ℕ). 64 + 16 * (h.heap + (h.entries - i))) k)
-      (ap (take 16) c.put_slot.ensures.holds ∙ taken-put a.scratch.now (slot_bytes (slot 0 a.id a.payload)) 16 refl c.requires.1.1) k c.finish.ensures.0,
+      (ap (take 16) c.put_slot.ensures.holds ∙ taken-put a.scratch.now (slot_bytes (slot 0 a.id a.payload)) 16 refl c.requires.1.1) k (rw c.of_payload-event.ensures at c.finish.ensures.0),
   search rules,
 )

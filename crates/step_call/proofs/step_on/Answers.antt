@@ -36,8 +36,8 @@ returns-then-is_forged c =
 
 pub run-requires : goal.run-requires
 run-requires c = (
-  record { place = omega arith; room = search rules },
-  (opened-lives c.open_store.ensures (search rules) c.is_forged.ensures c.if-is_forged.false (short (goal.at.run-requires c).Start) c.requires, c.is_sure-sure.ensures),
+  opened-lives c.open_store.ensures (search rules) c.is_forged.ensures c.if-is_forged.false (short (goal.at.run-requires c).Start) c.requires,
+  c.is_sure-sure.ensures,
 )
 
 pub returns : goal.returns

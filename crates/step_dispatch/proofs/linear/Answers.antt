@@ -11,7 +11,7 @@ returns-in_default c = (
       no-statement c.requires.0.record' (λ k. absurd (omega (
         arith,
         k.0,
-        c.requires.1.1,
+        c.requires.1,
         other_byte _ Substitute d.not-Substitute,
         other_byte _ Call d.not-Call,
         other_byte _ Let d.not-Let,

@@ -9,6 +9,6 @@ pub returns-in_default : goal.returns-in_default
 returns-in_default c = (
   let d = c.in_default in
       no-source-rule c.requires.0.record'
-      (omega (arith, c.requires.1.1, other_byte _ Call d.not-Call, other_byte _ Let d.not-Let, other_byte _ Switch d.not-Switch, other_byte _ Create d.not-Create, other_byte _ Invoke d.not-Invoke)),
+      (omega (arith, c.requires.1, other_byte _ Call d.not-Call, other_byte _ Let d.not-Let, other_byte _ Switch d.not-Switch, other_byte _ Create d.not-Create, other_byte _ Invoke d.not-Invoke)),
   search rules,
 )

@@ -9,7 +9,7 @@ use Rattle.step_dispatch.proofs.statement.Goals as goal
 
 pub returns-in-Definition : goal.returns-in-Definition
 returns-in-Definition c = (
-  no-statement c.requires.0.record' (λ k.
+  no-statement c.requires.record' (λ k.
       elim c.in-Definition.is [
         | inl e ↦ omega (arith, k.0, ap code_of e)
         | inr e ↦ k.1 (ap code_of e)

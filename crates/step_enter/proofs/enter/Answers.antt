@@ -8,7 +8,7 @@ use Rattle.step_enter.proofs.enter.Goals as goal
 
 pub returns : goal.returns
 returns c = (
-  let row = c.args.row.now in
-      enters_as (ids_of row) c.args.scratch.now refl (ids-length row.bytes.now row.places) c.requires.1.0 c.rename.ensures refl c.finish.ensures.0,
+  let row = c.args.entered.now.row in
+      enters_as (ids_of row) c.args.scratch.now refl (ids-length row.bytes.now row.places) c.requires.1.0 c.rename.ensures refl (rw c.after-next.ensures at c.finish.ensures.0),
   search rules,
 )

@@ -16,4 +16,4 @@ pub returns-in-None : goal.returns-in-None
 returns-in-None c =
     let a = c.args in
     let H = slots_at a.heap.now.store.now 64 a.heap.now.count in
-    c.put_parts.ensures.holds ∙ ap (λ (t : Slot). sets a.events.now a.to (slot_bytes (shown_as H t))) c.in-None.ensures
+    c.put_none.ensures.holds ∙ ap (λ (t : Slot). sets a.events.now a.to (slot_bytes (shown_as H t))) c.in-None.ensures

@@ -17,9 +17,9 @@ returns-in_err-slot c = ap option_of c.from_residual.ensures ∙ no-integer {u =
 
 pub returns-in-Integer : goal.returns-in-Integer
 returns-in-Integer c =
-    let z = c.from_bits.result in
+    let z = c.cast_signed.result in
     let b : to_z w64 (of_z w64 z) ≡ z = search rules in
-    integer_is {u = as_slot c.in_ok-slot.slot} c.in_ok-slot.ensures (ap sort_code c.in-Integer.is) (b ∙ c.from_bits.ensures)
+    integer_is {u = as_slot c.in_ok-slot.slot} c.in_ok-slot.ensures (ap sort_code c.in-Integer.is) (b ∙ c.cast_signed.ensures)
 
 pub returns-in_default : goal.returns-in_default
 returns-in_default c = no-integer {u = as_slot c.in_ok-slot.slot} c.in_ok-slot.ensures (sort-differs c.in_ok-slot.slot.sort Integer c.in_default.not-Integer)

@@ -30,6 +30,7 @@ loop-made-preserved c =
 pub returns : goal.returns
 returns c = (
   let a = c.args in
-      going-all (lawful_in a.stepper.now.machine) a.stepper.now a.stepper.now.image.bytes.now a.steps a.work.now.store.now a.work.now.events.now a.work.now.header _ (omega (arith, c.loop-made.auto.made-end, c.loop-made-test.false)) c.loop-made-test.false c.loop-made.invariant.0,
+      going-all (lawful_in a.stepper.now.machine) a.stepper.now a.stepper.now.image.bytes.now a.steps a.work.now.store.now a.work.now.events.now a.work.now.header _
+      (omega (arith, c.loop-made.auto.made-end, c.loop-made-test.false)) c.loop-made-test.false c.loop-made.invariant.0,
   search rules,
 )

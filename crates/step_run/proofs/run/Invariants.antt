@@ -1,6 +1,4 @@
 -- `run` meets its contract. Assumes nothing.
-use mathlib.Core.Path.{◌≡◌}
-use lib.ListN.{length}
 use Rattle.step_write.specs.Working.{Keeps}
 use Rattle.step_order.specs.Sure.{SureIn}
 use Rattle.step_turn.proofs.RestLaws.{lawful_in}
@@ -10,4 +8,4 @@ use Rattle.step_run.proofs.run.Given as goal
 abbrev pub invariant-loop-made : goal.invariant-loop-made
 invariant-loop-made l =
     Going (lawful_in l.stepper.machine) l.stepper l.stepper.image.bytes.now l.steps l.initial.work.store.now l.initial.work.events.now l.initial.work.header l.made l.work.store.now l.work.events.now l.work.header l.work.at
-    × (SureIn l.stepper l.sure l.work.store.now l.work.header × ((length l.scratch ≡ length l.initial.scratch) × Keeps l.initial.work l.work))
+    × (SureIn l.stepper l.sure l.work.store.now l.work.header × Keeps l.initial.work l.work)

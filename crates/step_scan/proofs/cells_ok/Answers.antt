@@ -49,11 +49,15 @@ loop-i-preserved c =
     let l = c.loop-i in
     let t = as_slot c.in-Some.t in
     elim c.if-begins_cell.branch [
-      | then-begins_cell+else-t-k+else-not-head_ok w ↦ rw (w.k-is, w.own-is) (left-next a.image.now.frame a.image.now.bytes.now a.heap.now.store.now a.cells a.heap.now.count l.k (own_code l.own) l.i _ _ t (omega arith) c.in-Some.ensures l.invariant (omega (arith, l.invariant.numbered))
-          (λ P o. pass-cell P (slots_at a.heap.now.store.now 64 a.heap.now.count) a.cells l.k (own_code l.own) t _ true (sort-below c.in-Some.t.sort) (leb-true 3 t.sort (sym c.begins_cell.ensures ∙ w.if-begins_cell.true)) w.if-t-k.false
+      | then-begins_cell+else-t-k+else-not-head_ok w ↦ rw (w.k-is, w.own-is) (left-next a.image.now.frame a.image.now.bytes.now a.heap.now.store.now
+          a.cells a.heap.now.count l.k (own_code l.own) l.i _ _ t (omega arith) c.in-Some.ensures l.invariant (omega (arith, l.invariant.numbered))
+          (λ P o. pass-cell P (slots_at a.heap.now.store.now 64 a.heap.now.count) a.cells l.k (own_code l.own) t _ true (sort-below c.in-Some.t.sort)
+          (leb-true 3 t.sort (sym c.begins_cell.ensures ∙ w.if-begins_cell.true)) w.if-t-k.false
           (sym (w.head_ok.ensures P (slots_at a.heap.now.store.now 64 a.heap.now.count) o) ∙ w.if-not-head_ok.false)))
-      | else-begins_cell+else-not-held_ok w ↦ rw (w.k-is, w.own-is) (left-next a.image.now.frame a.image.now.bytes.now a.heap.now.store.now a.cells a.heap.now.count l.k (own_code l.own) l.i _ _ t (omega arith) c.in-Some.ensures l.invariant (omega (arith, l.invariant.numbered))
-          (λ P o. pass-held P (slots_at a.heap.now.store.now 64 a.heap.now.count) a.cells l.k (own_code l.own) t _ true (leb-false 3 t.sort (sym c.begins_cell.ensures ∙ w.if-begins_cell.false)) (sym (w.held_ok.ensures P) ∙ w.if-not-held_ok.false)))
+      | else-begins_cell+else-not-held_ok w ↦ rw (w.k-is, w.own-is) (left-next a.image.now.frame a.image.now.bytes.now a.heap.now.store.now
+          a.cells a.heap.now.count l.k (own_code l.own) l.i _ _ t (omega arith) c.in-Some.ensures l.invariant (omega (arith, l.invariant.numbered))
+          (λ P o. pass-held P (slots_at a.heap.now.store.now 64 a.heap.now.count) a.cells l.k (own_code l.own) t _ true
+          (leb-false 3 t.sort (sym c.begins_cell.ensures ∙ w.if-begins_cell.false)) (sym (w.held_ok.ensures P) ∙ w.if-not-held_ok.false)))
     ]
 
 pub returns : goal.returns

@@ -18,4 +18,5 @@ returns-in_default-sort c = λ P. let a = c.args in
     let s = c.in-Some.sort in
     let e = ap own_code c.in-Some.is in
     c.value_ok-in_default-sort.ensures P
-    ∙ sym (held-entry P (slots_at a.heap.now.store.now 64 a.heap.now.count) (own_code a.own) (as_slot a.t) (λ q. sort-differs s Integer c.in_default-sort.not-Integer (sym e ∙ q)) (λ q. sort-differs s LetCell c.in_default-sort.not-LetCell (sym e ∙ q)))
+    ∙ sym (held-entry P (slots_at a.heap.now.store.now 64 a.heap.now.count) (own_code a.own) (as_slot a.t)
+    (λ q. sort-differs s Integer c.in_default-sort.not-Integer (sym e ∙ q)) (λ q. sort-differs s LetCell c.in_default-sort.not-LetCell (sym e ∙ q)))

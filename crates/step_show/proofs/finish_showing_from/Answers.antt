@@ -1,5 +1,7 @@
 -- `finish_showing_from` meets its contract. Assumes nothing.
 use mathlib.Core.Path.{◌≡◌, refl}
+use Prim.Native.Nat.{◌/◌}
+use lib.ListN.{length}
 use borrow.Author.Rules.{rules}
 use Rattle.step_show.proofs.ShownLaws.{showing_full, showing_finishes}
 use Rattle.step_show.proofs.finish_showing_from.Goals as goal
@@ -7,7 +9,7 @@ use Rattle.step_show.proofs.finish_showing_from.Goals as goal
 pub returns-then-not-fits : goal.returns-then-not-fits
 returns-then-not-fits c = (
   let a = c.args in
-      showing_full a.work.now.store.now a.work.now.events.now a.work.now.at a.event a.header a.scratch.now 0 a.n c.fits.result c.fits.ensures c.if-not-fits.true,
+      showing_full a.work.now.store.now a.work.now.events.now a.work.now.at a.event a.header a.slots.now 0 (length a.slots.now / 16) c.fits.result c.fits.ensures c.if-not-fits.true,
   search rules,
 )
 
@@ -17,7 +19,7 @@ returns c = (
       let e : c.take-events.result.now ≡ c.put_event-values.new.events = search rules in
       let s : c.store_of.result.now ≡ a.work.now.store.now = search rules in
       let p = rw (e, s) at c.show-end.ensures in
-      showing_finishes a.work.now.store.now a.work.now.events.now a.work.now.at a.event a.header a.scratch.now 0 a.n c.fits.result c.fits.ensures c.if-not-fits.false
+      showing_finishes a.work.now.store.now a.work.now.events.now a.work.now.at a.event a.header a.slots.now 0 (length a.slots.now / 16) c.fits.result c.fits.ensures c.if-not-fits.false
       refl c.put_event-values.ensures p c.put_header.ensures.holds,
   search rules,
 )

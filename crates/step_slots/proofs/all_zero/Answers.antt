@@ -1,31 +1,18 @@
-use native.Mathlib.Omega.{arith}
-use mathlib.Core.Path.{◌≡◌, ap, ◌∙◌}
-use Prim.Native.Nat.{ℕ, ◌+◌, ◌-◌}
-use lib.ListN.{drop}
-use native.Mathlib.Nat.{add-zero}
-use Rattle.image_spec.specs.Parse.{zeros, got}
-use Rattle.step_slots.proofs.SlotReads.{zero_turn, zero_stop}
+use Rattle.std.proofs.Common.{rules, tests, ◌≡◌, ℕ, ◌+◌, ◌-◌, ◌≤◌, length, nat_eq, take, drop, ap, ap₂, sym, ◌∙◌, arith, length-drop}
+use lib.Seq.{drop-drop}
+use Rattle.std.specs.List.{list_all}
+use Rattle.std.proofs.lemmas.Iterator.{YieldsList-from_slice}
+use Rattle.std.proofs.lemmas.Iterator.Search.{all_from_yields_List}
+use Rattle.image_spec.specs.Parse.{got, only_if}
+use Rattle.step_slots.proofs.SlotReads.{zeros-tested}
 use Rattle.step_slots.proofs.all_zero.Goals as goal
-
-pub loop-i-init : goal.loop-i-init
-loop-i-init c = let z : c.args.n - 0 ≡ c.args.n = omega arith in (omega arith, rw (z, add-zero))
-
-pub returns-then-s-at-ne0 : goal.returns-then-s-at-ne0
-returns-then-s-at-ne0 c =
-    let a = c.args in
-    let l = c.loop-i in
-    l.invariant.1 ∙ zero_stop a.s.now a.at a.n l.i (omega arith) (omega arith) c.if-s-at-ne0.true
-
-pub loop-i-preserved : goal.loop-i-preserved
-loop-i-preserved c =
-    let a = c.args in
-    let l = c.loop-i in
-    (omega arith, l.invariant.1 ∙ zero_turn a.s.now a.at a.n l.i (omega arith) (omega arith) (omega (arith, c.if-s-at-ne0.false)))
 
 pub returns : goal.returns
 returns c =
     let a = c.args in
-    let l = c.loop-i in
-    let z : a.n - l.i ≡ 0 = omega arith in
-    let k : a.at + l.i ≡ a.at + a.n = omega arith in
-    l.invariant.1 ∙ (ap (λ (m : ℕ). zeros m (drop (a.at + l.i) a.s.now)) z ∙ ap (λ (m : ℕ). got tt (drop m a.s.now)) k)
+    let rest = drop a.at a.s.now in
+    let size : a.at + a.n - a.at ≡ a.n = omega arith in
+    let room : a.n ≤ length rest = omega (arith, length-drop a.at a.s.now) in
+    let tested = all_from_yields_List (λ (b : ℕ). nat_eq b 0) _ _ c.all.result c.all.ensures.ran (YieldsList-from_slice (take (a.at + a.n - a.at) rest) cc) (λ x b q k. search (rules, tests)) in
+    let result : c.all.result ≡ list_all (λ (b : ℕ). nat_eq b 0) (take a.n rest) = tested ∙ ap (λ i. list_all (λ (b : ℕ). nat_eq b 0) (take i rest)) size in
+    zeros-tested a.n rest room ∙ ap₂ (λ t l. only_if t (got tt l)) (sym result) (drop-drop a.n a.at a.s.now)

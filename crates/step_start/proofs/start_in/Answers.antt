@@ -46,15 +46,17 @@ begin-requires c =
 pub flag-requires : goal.flag-requires
 flag-requires c =
     let h = c.requires in
-    let o = begun-reads h.defined c.list_row-row.result c.list_row-row.ensures h.accepted.readable c.args.values.now (given (goal.at.flag-requires c).Else-not-are_given) c.args.store.now c.if-store-len.false (short (goal.at.flag-requires c).Start) (header_is (goal.at.flag-requires c).After-first_header-header)
-    c.begin.ensures in
+    let at = goal.at.flag-requires c in
+    let o = begun-reads h.defined c.list_row-row.result c.list_row-row.ensures h.accepted.readable c.args.values.now (given at.Else-not-are_given)
+    c.args.store.now c.if-store-len.false (short at.Start) (header_is at.After-first_header-header) c.begin.ensures in
     (reads-inside o c.args.stepper.now.image.ready h.accepted.is, reads-holds o)
 
 pub returns : goal.returns
 returns c = record {
   starts = λ P n p o d.
-      room-starts d c.list_row-row.result c.list_row-row.ensures o c.args.values.now (given (goal.at.returns c).Else-not-are_given) c.args.store.now c.if-store-len.false (short (goal.at.returns c).Start) (header_is (goal.at.returns c).After-first_header-header) c.begin.ensures p
-      c.flag.ensures;
+      let at = goal.at.returns c in
+      room-starts d c.list_row-row.result c.list_row-row.ensures o c.args.values.now (given at.Else-not-are_given)
+      c.args.store.now c.if-store-len.false (short at.Start) (header_is at.After-first_header-header) c.begin.ensures p c.flag.ensures;
 }
 
 pub returns-then-not-are_given : goal.returns-then-not-are_given

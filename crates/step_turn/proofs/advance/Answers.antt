@@ -26,7 +26,7 @@ parts_of-follows-requires c =
 pub statement-requires : goal.statement-requires
 statement-requires c =
     let p = c.requires in
-    (record { record' = c.parts_of-follows.ensures.at; fit = record { holds = reads-holds p.1.0.living.reads; place = p.0.place } }, p.0.room)
+    record { record' = c.parts_of-follows.ensures.at; fit = record { holds = reads-holds p.1.0.living.reads; place = p.0 } }
 
 pub returns-in_err-step : goal.returns-in_err-step
 returns-in_err-step c = (

@@ -1,31 +1,14 @@
-use mathlib.Core.Path.{refl}
-use mathlib.Core.Bool.{false}
-use native.Mathlib.Omega.{arith}
-use Rattle.step_slots.specs.Slots.{as_slot}
-use Rattle.step_slots.specs.Views.{no_slot}
-use Rattle.step_values.proofs.ValueLaws.{tested_none, tested-next, tested-no, tested-all}
+use Rattle.std.proofs.Common.{rules, tests, ℕ, ◌*◌, ◌∙◌, arith}
+use Rattle.std.proofs.lemmas.Iterator.{YieldsList-from_range}
+use Rattle.std.proofs.lemmas.Iterator.Search.{all_from_yields_List}
+use Rattle.step_slots.specs.Views.{slot_at}
+use Rattle.step_values.specs.Values.{given_ok_lem}
+use Rattle.step_values.proofs.ValueLaws.{given-listed}
 use Rattle.step_values.proofs.every_given.Goals as goal
 
-pub loop-i-init : goal.loop-i-init
-loop-i-init c = let a = c.args in tested_none a.values.now a.n
-
-pub loop-i-preserved : goal.loop-i-preserved
-loop-i-preserved c =
-    let o = c.loop-i in
-    let a = c.args in
-    tested-next a.values.now a.n o.i (omega arith) o.invariant (as_slot c.in-Some.value) c.in-Some.ensures c.given_ok.result c.given_ok.ensures c.if-not-given_ok.false
-
-pub returns-in_default : goal.returns-in_default
-returns-in_default c =
-    let o = c.loop-i in
-    let a = c.args in
-    tested-no a.values.now a.n o.i (omega arith) o.invariant no_slot c.in_default.ensures false refl refl
-
-pub returns-then-not-given_ok : goal.returns-then-not-given_ok
-returns-then-not-given_ok c =
-    let o = c.loop-i in
-    let a = c.args in
-    tested-no a.values.now a.n o.i (omega arith) o.invariant (as_slot c.in-Some.value) c.in-Some.ensures c.given_ok.result c.given_ok.ensures c.if-not-given_ok.true
-
 pub returns : goal.returns
-returns c = let a = c.args in tested-all a.values.now a.n c.loop-i.i (omega arith) c.loop-i.invariant
+returns c =
+    let s = c.args.values.now in
+    let n = c.args.n in
+    all_from_yields_List (λ (j : ℕ). given_ok_lem (slot_at s (16 * j))) _ _ c.all.result c.all.ensures.ran (YieldsList-from_range 0 n n (cc) (omega arith)) (λ x b q k. search (rules, tests))
+    ∙ given-listed s 0 n

@@ -1,10 +1,10 @@
 use borrow.Author.Rules.{rules}
-use mathlib.Core.Path.{◌≡◌, sym, ap, ◌∙◌}
+use mathlib.Core.Path.{◌≡◌, refl, sym, ap, ◌∙◌}
 use mathlib.Core.List.{List}
 use Prim.Native.Nat.{ℕ, ◌+◌, ◌-◌, ◌*◌}
 use native.Mathlib.Omega.{arith}
-use lib.ListN.{take, drop}
-use lib.Seq.{sets, length-take-le}
+use lib.ListN.{length, take, drop}
+use lib.Seq.{sets}
 use Rattle.image_write_parts.proofs.Putting.{sets_reserved}
 use Rattle.step_write.specs.Writing.{finished-full}
 use Rattle.step_write.proofs.FinishLaws.{finishes}
@@ -16,12 +16,13 @@ returns-then-not-fits c = (finished-full (sym c.fits.ensures ∙ c.if-not-fits.t
 pub returns : goal.returns
 returns c = (
   let a = c.args in
-      let front = take (16 * a.k) a.scratch.now in
-      let held = take (16 * a.n) (drop a.entries a.work.now.store.now) in
-      let k : a.entries + (a.from + 16 * a.k - a.entries) ≡ a.from + 16 * a.k = omega (arith, c.requires.1.1.0) in
+      let s = a.work.now.store.now in
+      let front = a.slots.now in
+      let held = take (16 * a.n) (drop a.entries s) in
+      let k : a.entries + (a.from + length front - a.entries) ≡ a.from + length front = omega (arith, c.requires.1.1) in
       let e = c.copy.ensures.holds
-      ∙ (ap (λ (z : List ℕ). sets z a.from front) (c.move_up.ensures ∙ ap (λ (i : ℕ). sets a.work.now.store.now i held) k)
-      ∙ sets_reserved front a.work.now.store.now a.from (16 * a.k) held (length-take-le (16 * a.k) a.scratch.now c.requires.1.1.1)) in
+      ∙ (ap (λ (z : List ℕ). sets z a.from front) (c.move_up.ensures ∙ ap (λ (i : ℕ). sets s i held) k)
+      ∙ sets_reserved front s a.from (length front) held refl) in
       finishes c.fits.result c.fits.ensures c.if-not-fits.false e c.seal.ensures.0,
   search rules,
 )

@@ -1,8 +1,8 @@
+use mathlib.Core.Path.{refl, ap, ◌∙◌}
 use Prim.Native.Nat.{ℕ, ◌*◌}
-use mathlib.Core.Path.{ap, ◌∙◌}
 use mathlib.Core.List.{List}
-use lib.ListN.{take, drop}
-use lib.Seq.{sets, length-take-le}
+use lib.ListN.{length, take, drop}
+use lib.Seq.{sets}
 use Rattle.image_write_parts.proofs.Putting.{sets_reserved}
 use Rattle.step_write.proofs.insert.Goals as goal
 
@@ -10,8 +10,7 @@ pub returns : goal.returns
 returns c =
     let a = c.args in
     let s = a.store.now in
-    let X = take (16 * a.n) (drop a.at s) in
-    let Y = take (16 * a.k) a.slots.now in
+    let held = take (16 * a.n) (drop a.at s) in
     c.copy.ensures.holds
-    ∙ (ap (λ (z : List ℕ). sets z a.at Y) c.move_up.ensures
-    ∙ sets_reserved Y s a.at (16 * a.k) X (length-take-le (16 * a.k) a.slots.now c.requires.1))
+    ∙ (ap (λ (z : List ℕ). sets z a.at a.slots.now) c.move_up.ensures
+    ∙ sets_reserved a.slots.now s a.at (length a.slots.now) held refl)

@@ -8,7 +8,6 @@ use Rattle.std.proofs.Common.{rules}
 use Rattle.image_directory.specs.declared.Frame.{Frame}
 use Rattle.image_open.specs.Opens.{Opens}
 use Rattle.image_open.proofs.OpenedLaws.{opened-image, opened-bytes, opened-refused}
-use Rattle.scope_check.proofs.CheckLaws.{opened-defined}
 use Rattle.scope_spec.specs.Calls.{annotate_of, Replies}
 use Rattle.annotate.proofs.AnnotateLaws.{opened_reply, closed_reply}
 use Rattle.annotate.proofs.annotate.annotate.Goals as goal
@@ -21,7 +20,7 @@ opens c = subst (Opens c.args.layout c.args.image.now) c.in_ok-opened.was c.open
 pub annotate_image-requires : goal.annotate_image-requires
 annotate_image-requires c =
     let o = opened-image c.requires.0 (opens (goal.at.annotate_image-requires c).In_ok-opened) in
-    (opened-defined o, omega (arith, c.requires.1, ap (λ (g : Frame). g.id) o.frame))
+    omega (arith, c.requires.1, ap (λ (g : Frame). g.id) o.frame)
 
 pub returns : goal.returns
 returns c =

@@ -11,11 +11,9 @@ use Rattle.image_places_spec.proofs.PlaceLaws.{stmt-parts}
 use Rattle.image_places_spec.proofs.Steps.{head-inside, clause-next, body-next}
 use Rattle.scope_spec.specs.Flat.{small_record_lem}
 use Rattle.scope_spec.specs.Marking.{mark_all_lem}
-use Rattle.image_read_parts.specs.Indexed.{record_at}
 use Rattle.image_read_nodes.proofs.StepLaws.{above_at, below_at, clause-kind}
 use Rattle.annotate_uses.proofs.BindLaws.{binders-room, clause-bound}
 use Rattle.scope_records.proofs.FlatLaws.{record_at_lem}
-use Rattle.annotate_uses.proofs.CountLaws.{uses-few}
 use Rattle.annotate.proofs.MarkSteps.{clauses-room, bodies-room, marked-stmt, clause-room, clause-marked, marked-clauses, body-marked, marked-bodies}
 use Rattle.annotate.proofs.walk.+bodies_clauses_statement.Goals as goal
 
@@ -90,15 +88,6 @@ statement-uses-used-requires t c =
     let rs = records_of a.source.now.image in
     let f = c.parts_of-f.ensures in
     (record_at_lem small_record_lem rs a.i a.source.now.small.small (head-inside a.depth rs a.i h.0))
-
-pub statement-mark_all-requires : goal.statement-mark_all-requires
-statement-mark_all-requires t c =
-    let a = c.args in
-    let h = c.requires in
-    let rs = records_of a.source.now.image in
-    let f = c.parts_of-f.ensures in
-    let m = record_at_lem small_record_lem rs a.i a.source.now.small.small (head-inside a.depth rs a.i h.0) in
-    (omega (arith, h.1.0.small), omega (arith, c.uses-used.ensures.count, uses-few (record_at a.source.now.image.frame a.source.now.image.bytes.now a.i) m))
 
 pub statement-overflow_sub-depth : goal.statement-overflow_sub-depth
 statement-overflow_sub-depth t c = omega (arith, (stmt-parts c.requires.0).positive)

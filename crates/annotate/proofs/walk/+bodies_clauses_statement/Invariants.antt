@@ -20,8 +20,16 @@ decreases-statement l = 2 * l.depth
 
 abbrev pub invariant-bodies-loop : goal.invariant-bodies-loop
 invariant-bodies-loop l =
-    (length l.row ≡ length l.initial.row) × BodiesLeft l.depth (records_of l.source.image) (l.i + length (each flatten (bodies_at l.depth l.n (records_of l.source.image) l.i))) (l.n - l.counter) l.here (MarksBodies (set_of l.bound) (mark_bodies (bodies_at l.depth l.n (records_of l.source.image) l.i) (set_of l.bound) l.initial.row) l.row)
+    let rs = records_of l.source.image in
+    let ts = bodies_at l.depth l.n rs l.i in
+    let whole = mark_bodies ts (set_of l.bound) l.initial.row in
+    (length l.row ≡ length l.initial.row)
+    × BodiesLeft l.depth rs (l.i + length (each flatten ts)) (l.n - l.counter) l.here (MarksBodies (set_of l.bound) whole l.row)
 
 abbrev pub invariant-clauses-loop : goal.invariant-clauses-loop
 invariant-clauses-loop l =
-    (length l.row ≡ length l.initial.row) × ClausesLeft l.depth (records_of l.source.image) (l.i + length (flatten_clauses (clauses_at l.depth l.n (records_of l.source.image) l.i))) (l.n - l.counter) l.here (MarksClauses (set_of l.bound) (mark_clauses (clauses_at l.depth l.n (records_of l.source.image) l.i) (set_of l.bound) l.initial.row) l.row)
+    let rs = records_of l.source.image in
+    let cs = clauses_at l.depth l.n rs l.i in
+    let whole = mark_clauses cs (set_of l.bound) l.initial.row in
+    (length l.row ≡ length l.initial.row)
+    × ClausesLeft l.depth rs (l.i + length (flatten_clauses cs)) (l.n - l.counter) l.here (MarksClauses (set_of l.bound) whole l.row)

@@ -1,11 +1,10 @@
-use Rattle.std.proofs.Common.{ℕ, arith, sym, subst, eqb-true, length, ◌<◌, ◌≡◌, ap, ◌∙◌}
+use Rattle.std.proofs.Common.{ℕ, arith, sym, eqb-true, length, ◌<◌, ◌≡◌, ap, ◌∙◌}
 use Rattle.std.proofs.lemmas.Bool.Decides.{nat_tests}
 use lib.ListN.{get_or}
-use Rattle.image_spec.specs.Kinds.{fixed}
 use Rattle.image_spec.specs.Records.{content}
 use Rattle.image_fields.specs.Found.{stop}
 use Rattle.image_kinds.specs.Codes.{code_of}
-use Rattle.image_kinds.proofs.RecordStops.{formed-empty, formed-other, formed-short, formed}
+use Rattle.image_kinds.proofs.RecordStops.{formed-empty, formed-other, formed}
 use Rattle.image_kinds.proofs.form.record_formed.Goals as goal
 use Rattle.image_kinds.proofs.form.record_formed.Goals.{In-Ok}
 
@@ -18,12 +17,6 @@ returns-then-is_empty c = let f = c.args.fields.now in sym (formed-empty f.id f.
 
 pub returns-in_default : goal.returns-in_default
 returns-in_default c = let f = c.args.fields.now in sym (formed-other f.id f.bytes.now (c.in_default.ensures).1)
-
-pub returns-then-bytes-fixed : goal.returns-then-bytes-fixed
-returns-then-bytes-fixed c =
-    let f = c.args.fields.now in
-    let k = first (goal.at.returns-then-bytes-fixed c).In-Ok in
-    sym (formed-short f.id f.bytes.now (subst (λ n. length f.bytes.now < n) (c.fixed.ensures ∙ ap (fixed f.id) k) c.if-bytes-fixed.true))
 
 pub returns : goal.returns
 returns c =

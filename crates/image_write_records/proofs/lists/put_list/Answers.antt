@@ -1,4 +1,3 @@
-use borrow.Author.Rules.{rules}
 use mathlib.Core.Path.{◌≡◌, refl, sym, ap, ◌∙◌}
 use native.Mathlib.Omega.{arith}
 use lib.ListN.{length, take, get_or, length-map, length-take}
@@ -27,7 +26,7 @@ pub binding-requires-in-loop-b : goal.binding-requires-in-loop-b
 binding-requires-in-loop-b c =
     let n = length-take c.args.context.len c.args.context.bindings in
     let w = c.loop-b.writer in
-    omega (arith, n, c.loop-b.invariant.0.far, c.byte.ensures.puts.ends, w.narrow, c.requires)
+    omega (arith, n, c.loop-b.invariant.0.far, c.byte.ensures.puts.ends, w.narrow, c.args.context.fits, c.requires)
 
 pub loop-b-preserved : goal.loop-b-preserved
 loop-b-preserved c =
@@ -49,12 +48,11 @@ returns c =
     let m = c.args.context in
     let w = c.byte.new.self in
     let p = c.byte.ensures in
-    let h : length m.bindings ≡ 64 = search rules in
     let n = length-take m.len m.bindings in
     let all = take_all l.b-index (context_of m) (omega (arith, count m)) in
     let list = rw (all, p.id) at l.invariant.0.puts in
     record {
-      puts = counted-put (binding_bytes c.args.writer.now.id) (context_of m) p.puts (omega (arith, h, n, count m, c.requires.1)) list;
+      puts = counted-put (binding_bytes c.args.writer.now.id) (context_of m) p.puts (omega (arith, m.size, m.fits, n, count m)) list;
       id = l.invariant.1.0 ∙ p.id;
       same = l.invariant.1.1 ∙ p.same;
     }

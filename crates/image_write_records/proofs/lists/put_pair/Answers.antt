@@ -11,11 +11,11 @@ use Rattle.image_write_records.proofs.lists.put_pair.Goals as goal
 pub identifier-requires : goal.identifier-requires
 identifier-requires c =
     let w = c.args.writer.now in
-    omega (arith, w.narrow, binding-length w.id c.pair-p.result.target)
+    omega (arith, w.narrow, binding-length w.id c.from-p.result.target)
 
 pub returns : goal.returns
 returns c =
     let w = c.args.writer.now in
-    let p = c.pair-p in
+    let p = c.from-p in
     wrote_as (ap (stored_bytes w.id) p.ensures)
     (wrote_next {xs = binding_bytes w.id p.result.target} (λ (k : ℕ). identifier_bytes k p.result.source) c.binding.ensures c.identifier.ensures)

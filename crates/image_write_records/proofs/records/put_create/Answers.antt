@@ -13,12 +13,12 @@ pub byte-requires : goal.byte-requires
 byte-requires c = omega (arith, typed-length c.args.writer.now.id c.args.var c.args.ty)
 
 pub put_list-requires : goal.put_list-requires
-put_list-requires c = (omega (arith, typed-length c.args.writer.now.id c.args.var c.args.ty), c.requires.1)
+put_list-requires c = omega (arith, typed-length c.args.writer.now.id c.args.var c.args.ty)
 
 pub byte-requires-2 : goal.byte-requires-2
 byte-requires-2 c =
     let w = c.byte.new.self in
-    omega (arith, list_length w.id c.args.environment w.narrow c.requires.1, typed-length c.args.writer.now.id c.args.var c.args.ty)
+    omega (arith, list_length w.id c.args.environment w.narrow, typed-length c.args.writer.now.id c.args.var c.args.ty)
 
 pub returns : goal.returns
 unfolding record_bytes

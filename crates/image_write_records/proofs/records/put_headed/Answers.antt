@@ -10,7 +10,7 @@ use Rattle.image_kinds.specs.Codes.{code_of}
 use Rattle.image_write_records.proofs.records.put_headed.Goals as goal
 
 pub put_list-requires : goal.put_list-requires
-put_list-requires c = (omega (arith, identifier-length), c.requires.1)
+put_list-requires c = omega (arith, identifier-length)
 
 pub returns : goal.returns
 returns c =

@@ -14,7 +14,7 @@ pub identifier-requires : goal.identifier-requires
 identifier-requires c = omega (arith, typed-length c.args.writer.now.id c.args.var c.args.ty)
 
 pub put_list-requires : goal.put_list-requires
-put_list-requires c = (omega (arith, typed-length c.args.writer.now.id c.args.var c.args.ty, identifier-length), c.requires.1)
+put_list-requires c = omega (arith, typed-length c.args.writer.now.id c.args.var c.args.ty, identifier-length)
 
 pub returns : goal.returns
 unfolding record_bytes

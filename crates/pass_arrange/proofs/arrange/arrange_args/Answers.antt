@@ -1,21 +1,14 @@
 -- `arrange_args` meets its contract. Assumes nothing.
 use mathlib.Core.Path.{ap}
-use native.Mathlib.Omega.{arith}
 use Rattle.syntax.specs.Arrays.{context_of}
 use Rattle.pass_work_spec.specs.Work.{bindings}
 use Rattle.pass_arrange.proofs.PairLaws.{behind_none}
-use Rattle.pass_step.proofs.StepLaws.{held-workable}
 use Rattle.image_write_directory.proofs.EmitLaws.{keeps_same}
 use Rattle.pass_arrange.proofs.ArrangeLaws.{arranges_nothing, arranges_as}
 use Rattle.pass_arrange.proofs.arrange.arrange_args.Goals as goal
 
 pub returns-then-right : goal.returns-then-right
 returns-then-right c = (arranges_nothing (context_of c.args.targets) (context_of c.args.wanted) c.if-right.true, keeps_same _)
-
-pub arrange-requires : goal.arrange-requires
-arrange-requires c =
-    let h = c.empty-none.ensures in
-    (c.requires.0, (held-workable h (omega (arith, h.count)), c.requires.1))
 
 pub returns : goal.returns
 returns c =

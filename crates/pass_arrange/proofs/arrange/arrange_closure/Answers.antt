@@ -1,23 +1,16 @@
 -- `arrange_closure` meets its contract. Assumes nothing.
 use mathlib.Core.Path.{ap}
 use mathlib.Core.List.{[], ◌∷◌, ◌++◌}
-use native.Mathlib.Omega.{arith}
 use Rattle.syntax.specs.Context.{Context}
 use Rattle.syntax.specs.Arrays.{context_of}
 use Rattle.pass_work_spec.specs.Work.{bindings}
 use Rattle.pass_arrange.proofs.PairLaws.{work_one}
-use Rattle.pass_step.proofs.StepLaws.{held-workable}
 use Rattle.image_write_directory.proofs.EmitLaws.{keeps_same}
 use Rattle.pass_arrange.proofs.ArrangeLaws.{arranges_nothing, arranges_as}
 use Rattle.pass_arrange.proofs.arrange.arrange_closure.Goals as goal
 
 pub returns-then-right : goal.returns-then-right
 returns-then-right c = (arranges_nothing (context_of c.args.targets ++ (c.args.closure ∷ [])) (context_of c.args.wanted ++ (c.args.closure ∷ [])) c.if-right.true, keeps_same _)
-
-pub arrange-requires : goal.arrange-requires
-arrange-requires c =
-    let h = work_one c.empty.ensures c.own-last.ensures in
-    (c.requires.0, (held-workable h (omega (arith, h.count)), c.requires.1))
 
 pub returns : goal.returns
 returns c =

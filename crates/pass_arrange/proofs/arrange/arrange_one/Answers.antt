@@ -1,11 +1,9 @@
 -- `arrange_one` meets its contract. Assumes nothing.
-use mathlib.Core.Path.{refl, ap}
+use mathlib.Core.Path.{sym, ap, ◌∙◌}
 use mathlib.Core.List.{[], ◌∷◌, ◌++◌}
-use native.Mathlib.Omega.{arith}
 use Rattle.syntax.specs.Context.{Context}
 use Rattle.pass_work_spec.specs.Work.{bindings}
 use Rattle.pass_context.specs.Holding.{work_of}
-use Rattle.pass_arrange.proofs.PairLaws.{holds-paired}
 use Rattle.pass_step.proofs.StepLaws.{holds-one}
 use Rattle.image_write_directory.proofs.EmitLaws.{keeps_same}
 use Rattle.pass_arrange.proofs.ArrangeLaws.{arranges_nothing, arranges_as}
@@ -18,7 +16,7 @@ pub arrange-requires : goal.arrange-requires
 arrange-requires c =
     let t = holds-one c.empty.ensures c.push-targets.ensures in
     let v = holds-one c.empty-2.ensures c.push-sources.ensures in
-    (holds-paired t v refl (omega arith), c.requires)
+    (t.count ∙ sym v.count, c.requires)
 
 pub returns : goal.returns
 returns c =

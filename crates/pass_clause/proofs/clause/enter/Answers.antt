@@ -29,14 +29,15 @@ module _ (c : After-named-record) where
   places = omega (arith, c.named-record.ensures.list.count, c.requires.1.0.places)
 
 -- its kind, its identifier and its list were written, and their length noted
-written : (c : After-note) → Recorded c.args.output.now c.args.output.now c.note.new.output c.put_headed.new.writer.at (λ (w : ℕ). code_of c.args.source.now.node.kind ∷ (identifier_bytes w c.named-record.result.name ++ list_bytes w (context_of c.named-record.result.list)))
+written : (c : After-note) → let r = c.named-record.result in let o = c.args.output.now in
+    Recorded o o c.note.new.output c.put_headed.new.writer.at (λ (w : ℕ). code_of c.args.source.now.node.kind ∷ (identifier_bytes w r.name ++ list_bytes w (context_of r.list)))
 written c = recorded_bytes _ (keeps_same c.args.output.now) c.put_headed.ensures c.note.ensures
 
 pub named-record-requires : goal.named-record-requires
 named-record-requires c = enters-named c.requires.0 (source-at c.args.source.now)
 
 pub put_headed-requires : goal.put_headed-requires
-put_headed-requires c = (omega (arith, c.requires.1.1.at), omega (arith, room (goal.at.put_headed-requires c).After-named-record))
+put_headed-requires c = omega (arith, c.requires.1.1.at)
 
 pub overflow_cast-in_scope : goal.overflow_cast-in_scope
 overflow_cast-in_scope c = record { fits = omega (arith, room (goal.at.overflow_cast-in_scope c).After-named-record) }
@@ -44,18 +45,18 @@ overflow_cast-in_scope c = record { fits = omega (arith, room (goal.at.overflow_
 pub overflow_add-in_scope : goal.overflow_add-in_scope
 overflow_add-in_scope c = record { fits = omega (arith, places (goal.at.overflow_add-in_scope c).After-named-record) }
 
-pub under-requires : goal.under-requires
-under-requires c = (omega (arith, room (goal.at.under-requires c).After-named-record), omega (arith, places (goal.at.under-requires c).After-named-record))
+pub under-context-requires : goal.under-context-requires
+under-context-requires c = (omega (arith, room (goal.at.under-context-requires c).After-named-record), omega (arith, places (goal.at.under-context-requires c).After-named-record))
 
 pub returns-then-before : goal.returns-then-before
 returns-then-before c =
     let z = written (goal.at.returns-then-before c).After-note in
-    (enters true (work_of c.args.here.now.context) c.args.here.now.in_scope c.requires.0 c.args.source.now.node.there.kind c.named-record.ensures c.if-before.true z.puts z.noted c.under.ensures refl, z.keeps)
+    (enters true (work_of c.args.here.now.context) c.args.here.now.in_scope c.requires.0 c.args.source.now.node.there.kind c.named-record.ensures c.if-before.true z.puts z.noted c.under-context.ensures refl, z.keeps)
 
-pub owns-requires : goal.owns-requires
-owns-requires c = (omega (arith, room (goal.at.owns-requires c).After-named-record), omega (arith, places (goal.at.owns-requires c).After-named-record))
+pub owns-context-requires : goal.owns-context-requires
+owns-context-requires c = (omega (arith, room (goal.at.owns-context-requires c).After-named-record), omega (arith, places (goal.at.owns-context-requires c).After-named-record))
 
-pub returns : goal.returns
-returns c =
-    let z = written (goal.at.returns c).After-note in
-    (enters false (work_of c.args.here.now.context) c.args.here.now.in_scope c.requires.0 c.args.source.now.node.there.kind c.named-record.ensures c.if-before.false z.puts z.noted c.owns.ensures refl, z.keeps)
+pub returns-else-before : goal.returns-else-before
+returns-else-before c =
+    let z = written (goal.at.returns-else-before c).After-note in
+    (enters false (work_of c.args.here.now.context) c.args.here.now.in_scope c.requires.0 c.args.source.now.node.there.kind c.named-record.ensures c.if-before.false z.puts z.noted c.owns-context.ensures refl, z.keeps)

@@ -1,12 +1,11 @@
 -- `Held::ids` meets its contract: i IDs are stored. Assumes nothing.
-use mathlib.Core.Path.{◌≡◌, ◌∙◌, sym}
+use mathlib.Core.Path.{◌≡◌, sym}
 use native.Mathlib.Omega.{arith}
-use borrow.Author.Rules.{rules}
-use lib.ListN.{length, length-map, take}
+use lib.ListN.{length, take}
 use Rattle.syntax.specs.Context.{ids, id_of, empty_binding}
 use Rattle.pass_work_spec.specs.Work.{bindings}
-use Rattle.pass_entries.specs.Entries.{entry_in}
 use Rattle.pass_context.specs.Holding.{entries_in}
+use Rattle.pass_context.proofs.Counts.{held-fits}
 use Rattle.pass_context.proofs.Stores.{built-start, built-next, built-done}
 use Rattle.pass_context.proofs.Elements.{id-at, ids-count}
 use Rattle.pass_context.proofs.Held.ids.Goals as goal
@@ -14,12 +13,10 @@ use Rattle.pass_context.proofs.Held.ids.Goals.{Start}
 
 -- as many IDs as entries
 counted : (c : Start) → length (ids (bindings (take c.args.self.len (entries_in c.args.self)))) ≡ c.args.self.len
-counted c =
-    let h : length (entries_in c.args.self) ≡ 64 = length-map c.args.self.entries entry_in ∙ search rules in
-    ids-count (entries_in c.args.self) c.args.self.len (omega arith)
+counted c = ids-count (entries_in c.args.self) c.args.self.len (held-fits c.args.self)
 
 pub loop-i-init : goal.loop-i-init
-loop-i-init c = built-start _ c.empty-out.result.ids (search rules) (omega (arith, counted (goal.at.loop-i-init c).Start))
+loop-i-init c = built-start _ c.empty-out.result.ids c.empty-out.result.size (omega (arith, c.args.self.fits, counted (goal.at.loop-i-init c).Start))
 
 pub loop-i-preserved : goal.loop-i-preserved
 loop-i-preserved c =

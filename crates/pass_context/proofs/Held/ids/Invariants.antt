@@ -7,4 +7,4 @@ use Rattle.pass_context.proofs.Stores.{Built}
 use Rattle.pass_context.proofs.Held.ids.Given as goal
 
 abbrev pub invariant-loop-i : goal.invariant-loop-i
-invariant-loop-i l = Built (ids (bindings (take l.i-end (entries_in l.self)))) l.initial.out.ids l.out.ids 128 l.i
+invariant-loop-i l = Built (ids (bindings (take l.i-end (entries_in l.self)))) l.initial.out.0 l.out.0 128 l.i

@@ -5,6 +5,7 @@ use native.Mathlib.Omega.{arith}
 use Rattle.image_spec.specs.Shape.{flatten_defs}
 use Rattle.scope_check.specs.Definitions.{defs_in}
 use Rattle.scope_check.proofs.DefLaws.{DefNext, def-next}
+use Rattle.scope_spec.specs.Pairs.{masks_of}
 use Rattle.pass_work_spec.specs.Work.{work_defs}
 use Rattle.pass_definitions.proofs.DefSteps.{DefsWriting, defs-begun, def-ahead, def-left, defs-done}
 use Rattle.image_directory.specs.Images.{records_of}
@@ -15,9 +16,9 @@ use Rattle.pass_definitions.proofs.program.definitions.Goals as goal
 use Rattle.pass_definitions.proofs.program.definitions.Goals.{In-loop}
 
 -- the first of the definitions that are left
-first : (c : In-loop) → let a = c.args in let o = a.output.now in let all = work_defs (defs_in a.defs (records_of a.source.now.image)) o.max_id in
+first : (c : In-loop) → let a = c.args in let o = a.output.now in let r = c.loop.output in let all = work_defs (defs_in a.defs (records_of a.source.now.image)) o.max_id in
     DefNext 64 (records_of a.source.now.image) (a.defs - c.loop.counter) c.loop.next
-    (DefsWriting o.writer.id a.source.now.rows.now (flatten_defs all.0) all.1 o.writer.out.now c.loop.output.writer.out.now o.lengths.now c.loop.output.lengths.now (so_far o) (record { next = c.loop.next; progress = so_far c.loop.output }))
+    (DefsWriting o.writer.id (masks_of a.source.now.rows.now) (flatten_defs all.0) all.1 o.writer.out.now r.writer.out.now o.lengths.now r.lengths.now (so_far o) (record { next = c.loop.next; progress = so_far r }))
 first c = def-next c.loop.invariant.1 (omega (arith, c.loop-test.true))
 
 pub loop-init : goal.loop-init

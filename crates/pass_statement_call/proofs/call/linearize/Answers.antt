@@ -1,26 +1,22 @@
 -- `linearize` of a Call meets its contract. Assumes nothing.
-use Prim.Native.Nat.{◌≤◌}
 use mathlib.Core.Path.{◌≡◌, refl, sym, ◌∙◌}
 use mathlib.Core.List.{[], ◌++◌, append-nil}
 use native.Mathlib.Omega.{arith}
 use borrow.Author.Tests.{ne_eqb}
 use Rattle.syntax.specs.Context.{same_context}
 use Rattle.syntax.specs.Arrays.{context_of}
+use Rattle.syntax.proofs.Counts.{context-count}
 use Rattle.image_spec.specs.Records.{call}
 use Rattle.pass_work_spec.specs.Work.{bindings}
 use Rattle.pass_context.specs.Holding.{work_of}
+use Rattle.pass_context.proofs.Counts.{work-count}
 use Rattle.pass_arrange.proofs.ArrangeLaws.{arranges_as}
-use Rattle.pass_step.proofs.FreshLaws.{holds-count, list-few, used-few, paired-fresh}
+use Rattle.pass_step.proofs.FreshLaws.{fresh-count}
 use Rattle.pass_step.proofs.EndLaws.{compared_right, uncounted_right, end_leaves}
 use Rattle.pass_step.proofs.WriteLaws.{recorded, keeps_drawn}
 use Rattle.pass_statement_call.proofs.CallLaws.{call-leaves}
 use Rattle.pass_statement_call.proofs.call.linearize.Goals as goal
-use Rattle.pass_statement_call.proofs.call.linearize.Goals.{After-used_all-args, Joined-here-args, then-here-args, else-here-args}
-
--- the arguments are few
-few : (c : After-used_all-args) → c.used_all-args.result.len ≤ 32
-few c =
-    used-few c.call-statement.ensures refl c.args.source.now.source.small _ c.used_all-args.ensures
+use Rattle.pass_statement_call.proofs.call.linearize.Goals.{Joined-here-args, then-here-args, else-here-args}
 
 -- they are the context, or they are not
 right_is : (c : Joined-here-args) → c.if-here-args.right ≡ same_context (bindings (work_of c.args.here.now.context)) (context_of c.used_all-args.result ++ [])
@@ -29,20 +25,17 @@ right_is c =
     let Γ = context_of c.used_all-args.result in
     elim c.if-here-args.branch [
       | then-here-args w ↦ compared_right W Γ w.empty.ensures w.same-right.ensures w.right-is
-      | else-here-args w ↦ uncounted_right W Γ [] c.requires.1.0.count (holds-count c.used_all-args.ensures) (λ e. w.if-here-args.false (omega arith)) (w.right-is ∙ ne_eqb _ _ w.if-here-args.false)
+      | else-here-args w ↦ uncounted_right W Γ [] (work-count c.args.here.now.context) (context-count c.used_all-args.result) (λ e. w.if-here-args.false (omega arith)) (w.right-is ∙ ne_eqb _ _ w.if-here-args.false)
     ]
-
-pub used_all-args-requires : goal.used_all-args-requires
-used_all-args-requires c = (omega (arith, c.requires.1.0.room), omega (arith, list-few c.call-statement.ensures refl c.args.source.now.source.small))
 
 pub freshen_unless-freshened-requires : goal.freshen_unless-freshened-requires
 freshen_unless-freshened-requires c =
-    (holds-count c.used_all-args.ensures, (omega (arith, few (goal.at.freshen_unless-freshened-requires c).After-used_all-args), (omega (arith, c.empty-clashes.ensures.count), c.requires.1.1.max_id)))
+    (omega (arith, c.empty-clashes.ensures.count), c.requires.1.1.max_id)
 
 pub arrange_args-requires : goal.arrange_args-requires
 arrange_args-requires c =
     let h = c.requires in
-    (paired-fresh _ _ _ _ (holds-count c.used_all-args.ensures) (omega (arith, few (goal.at.arrange_args-requires c).After-used_all-args)) c.freshen_unless-freshened.ensures, h.1.1)
+    (fresh-count _ c.used_all-args.result _ _ c.freshen_unless-freshened.ensures, h.1.1)
 
 pub returns : goal.returns
 returns c =

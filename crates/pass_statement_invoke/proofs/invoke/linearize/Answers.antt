@@ -1,5 +1,4 @@
 -- `linearize` of an Invoke meets its contract. Assumes nothing.
-use Prim.Native.Nat.{◌≤◌}
 use mathlib.Core.Path.{◌≡◌, refl, ◌∙◌}
 use mathlib.Core.List.{[], ◌∷◌, ◌++◌}
 use native.Mathlib.Omega.{arith}
@@ -7,22 +6,19 @@ use borrow.Author.Tests.{ne_eqb}
 use Rattle.syntax.specs.Context.{same_context}
 use Rattle.syntax.specs.Arrays.{context_of}
 use Rattle.syntax.specs.declared.context.Chirality.TheVariants.{Cns}
+use Rattle.syntax.proofs.Counts.{context-count}
 use Rattle.model.specs.Rules.{bind}
 use Rattle.image_spec.specs.Records.{invoke}
 use Rattle.pass_work_spec.specs.Work.{bindings}
 use Rattle.pass_context.specs.Holding.{work_of}
+use Rattle.pass_context.proofs.Counts.{work-count}
 use Rattle.pass_step.proofs.StepLaws.{holds-one}
-use Rattle.pass_step.proofs.FreshLaws.{holds-count, list-few, used-few, paired-fresh}
+use Rattle.pass_step.proofs.FreshLaws.{fresh-count}
 use Rattle.pass_step.proofs.EndLaws.{compared_right, uncounted_right, end_leaves}
 use Rattle.pass_step.proofs.WriteLaws.{recorded, keeps_drawn}
 use Rattle.pass_statement_invoke.proofs.InvokeLaws.{set-holds-one, invoke-leaves}
 use Rattle.pass_statement_invoke.proofs.invoke.linearize.Goals as goal
-use Rattle.pass_statement_invoke.proofs.invoke.linearize.Goals.{After-used_all-args, Joined-here-args, then-here-args, else-here-args}
-
--- the arguments are few
-few : (c : After-used_all-args) → c.used_all-args.result.len ≤ 32
-few c =
-    used-few c.invoke-statement.ensures refl c.args.source.now.source.small _ c.used_all-args.ensures
+use Rattle.pass_statement_invoke.proofs.invoke.linearize.Goals.{Joined-here-args, then-here-args, else-here-args}
 
 -- the arguments and the closure are the context, or they are not
 right_is : (c : Joined-here-args) → c.if-here-args.right ≡ same_context (bindings (work_of c.args.here.now.context)) (context_of c.used_all-args.result ++ (bind c.used-var.result Cns c.invoke-statement.result.ty ∷ []))
@@ -31,22 +27,14 @@ right_is c =
     let Γ = context_of c.used_all-args.result in
     elim c.if-here-args.branch [
       | then-here-args w ↦ compared_right W Γ (holds-one w.empty.ensures w.push.ensures) w.same-right.ensures w.right-is
-      | else-here-args w ↦ uncounted_right W Γ _ c.requires.1.0.count (holds-count c.used_all-args.ensures) w.if-here-args.false (w.right-is ∙ ne_eqb _ _ w.if-here-args.false)
+      | else-here-args w ↦ uncounted_right W Γ _ (work-count c.args.here.now.context) (context-count c.used_all-args.result) w.if-here-args.false (w.right-is ∙ ne_eqb _ _ w.if-here-args.false)
     ]
 
-pub used_all-args-requires : goal.used_all-args-requires
-used_all-args-requires c = (omega (arith, c.requires.1.0.room), omega (arith, list-few c.invoke-statement.ensures refl c.args.source.now.source.small))
-
 pub overflow_add-args : goal.overflow_add-args
-overflow_add-args c = omega (arith, few (goal.at.overflow_add-args c).After-used_all-args)
+overflow_add-args c = omega (arith, c.used_all-args.result.fits)
 
 pub push-requires : goal.push-requires
 push-requires c = omega (arith, c.empty.ensures.count)
-
-pub same-right-requires : goal.same-right-requires
-same-right-requires c =
-    let k = (holds-one c.empty.ensures c.push.ensures).count in
-    (omega (arith, c.requires.1.0.room), (omega (arith, few (goal.at.same-right-requires c).After-used_all-args), omega (arith, k)))
 
 pub add-clashes-requires : goal.add-clashes-requires
 add-clashes-requires c = omega (arith, c.empty-2.ensures.count)
@@ -54,12 +42,12 @@ add-clashes-requires c = omega (arith, c.empty-2.ensures.count)
 pub freshen_unless-freshened-requires : goal.freshen_unless-freshened-requires
 freshen_unless-freshened-requires c =
     let k = (set-holds-one c.empty-2.ensures c.add-clashes.ensures).count in
-    (holds-count c.used_all-args.ensures, (omega (arith, few (goal.at.freshen_unless-freshened-requires c).After-used_all-args), (omega (arith, k), c.requires.1.1.max_id)))
+    (omega (arith, k), c.requires.1.1.max_id)
 
 pub arrange_closure-requires : goal.arrange_closure-requires
 arrange_closure-requires c =
     let h = c.requires in
-    (paired-fresh _ _ _ _ (holds-count c.used_all-args.ensures) (omega (arith, few (goal.at.arrange_closure-requires c).After-used_all-args)) c.freshen_unless-freshened.ensures, h.1.1)
+    (fresh-count _ c.used_all-args.result _ _ c.freshen_unless-freshened.ensures, h.1.1)
 
 pub returns : goal.returns
 returns c =

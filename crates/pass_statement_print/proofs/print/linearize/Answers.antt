@@ -1,32 +1,19 @@
 -- `linearize` of a PrintI64 meets its contract: the mask with its var is what the filter keeps by. Assumes nothing.
-use Prim.Native.Nat.{◌≤◌}
 use mathlib.Core.Path.{refl, ◌∙◌}
-use native.Mathlib.Omega.{arith}
 use Rattle.pass_entries.specs.Masks.{in_mask}
 use Rattle.pass_context.specs.Holding.{work_of}
-use Rattle.pass_step.proofs.StepLaws.{kept-room, held-workable}
 use Rattle.pass_step.proofs.RightLaws.{kept-right}
 use Rattle.pass_step.proofs.WriteLaws.{recorded}
 use Rattle.pass_step.proofs.BindLaws.{retained-emits}
 use Rattle.pass_statement_print.proofs.PrintLaws.{retains_steps, print-steps}
 use Rattle.pass_statement_print.proofs.print.linearize.Goals as goal
-use Rattle.pass_statement_print.proofs.print.linearize.Goals.{After-filter_by_set-new_context}
-
--- what is retained is a context to work with
-few : (c : After-filter_by_set-new_context) → c.filter_by_set-new_context.result.len ≤ 64
-few c = omega (arith, kept-room c.requires.1.1.0 c.with_places-free_vars.result c.filter_by_set-new_context.ensures)
-
-pub arrange_kept-requires : goal.arrange_kept-requires
-arrange_kept-requires c =
-    let h = c.requires in
-    (held-workable c.filter_by_set-new_context.ensures (few (goal.at.arrange_kept-requires c).After-filter_by_set-new_context), h.1.1.1)
 
 pub returns : goal.returns
 returns c =
     let kept = c.filter_by_set-new_context.ensures in
     let o = c.print-statement.result in
     let W = work_of c.args.here.now.context in
-    let right = kept-right (in_mask c.with_places-free_vars.result) c.args.here.now.context c.requires.1.1.0.count kept in
+    let right = kept-right (in_mask c.with_places-free_vars.result) c.args.here.now.context kept in
     let k = c.arrange_kept.ensures in
     let z = recorded _ k.1 c.put_print.ensures c.note.ensures in (
       print-steps o.newline o.var c.requires.1.0 c.print-statement.ensures c.with_places-free_vars.ensures c.used-var.ensures

@@ -16,7 +16,7 @@ returns-then-right c =
     ]
 
 pub fresh-var-requires : goal.fresh-var-requires
-fresh-var-requires c = omega (arith, fresh-near c.args.max_id, c.requires.1)
+fresh-var-requires c = omega (arith, fresh-near c.args.max_id, c.requires)
 
 pub returns : goal.returns
 unfolding fresh_var_unless

@@ -1,19 +1,12 @@
 -- `linearize` of a Switch meets its contract. Assumes nothing.
 use mathlib.Core.Path.{refl}
-use native.Mathlib.Omega.{arith}
-use Rattle.pass_step.proofs.OpenLaws.{workable-holds, ids-few}
 use Rattle.pass_step.proofs.WriteLaws.{recorded, keeps_drawn}
 use Rattle.pass_statement_switch.proofs.SwitchLaws.{switch_leaves}
 use Rattle.pass_statement_switch.proofs.switch.linearize.Goals as goal
 
 pub fresh_var-fresh-requires : goal.fresh_var-fresh-requires
 fresh_var-fresh-requires c =
-    let h = c.requires.1.1 in
-    let o = h.0.workable in
-    (omega (arith, ids-few (workable-holds o) c.ids.ensures, o.room), h.1.max_id)
-
-pub arrange_one-requires : goal.arrange_one-requires
-arrange_one-requires c = let h = c.requires in (h.1.1.0.workable, h.1.1.1)
+    c.requires.1.1.1.max_id
 
 pub returns : goal.returns
 returns c =

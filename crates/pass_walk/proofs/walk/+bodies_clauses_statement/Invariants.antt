@@ -9,6 +9,7 @@ use Rattle.image_directory.specs.Images.{records_of}
 use Rattle.image_places_spec.specs.Places.{clauses_at, bodies_at}
 use Rattle.image_places_spec.proofs.Steps.{ClausesLeft, BodiesLeft}
 use Rattle.image_write_directory.specs.Outputs.{so_far, Keeps}
+use Rattle.scope_spec.specs.Pairs.{masks_of}
 use Rattle.pass_work_spec.specs.Work.{work_clauses}
 use Rattle.pass_context.specs.Holding.{work_of}
 use Rattle.pass_step_spec.specs.Steps.{work_bodies}
@@ -29,15 +30,19 @@ invariant-bodies-loop l =
     let o = l.initial.output in
     let ts = bodies_at l.depth l.n (records_of l.source.image) l.i in
     let all = work_bodies ts (work_of l.here.context) l.here.in_scope o.max_id in
+    let r = l.output in
     Keeps o l.output
     × BodiesLeft l.depth (records_of l.source.image) (l.i + length (each flatten ts)) (l.n - l.counter) l.next
-    (BodiesWriting o.writer.id l.source.rows.now l.here.context l.here.in_scope (each flatten all.0) all.1 o.writer.out.now l.output.writer.out.now o.lengths.now l.output.lengths.now (so_far o) (record { next = l.next; progress = so_far l.output }))
+    (BodiesWriting o.writer.id (masks_of l.source.rows.now) l.here.context l.here.in_scope (each flatten all.0) all.1 o.writer.out.now r.writer.out.now o.lengths.now r.lengths.now (so_far o) (record { next = l.next; progress = so_far r }))
 
 abbrev pub invariant-clauses-loop : goal.invariant-clauses-loop
 invariant-clauses-loop l =
     let o = l.initial.output in
     let cs = clauses_at l.depth l.n (records_of l.source.image) l.i in
     let all = work_clauses cs l.before (work_of l.here.context) l.here.in_scope o.max_id in
+    let here = l.here in
+    let r = l.output in
+    let rows = masks_of l.source.rows.now in
     Keeps o l.output
     × ClausesLeft l.depth (records_of l.source.image) (l.i + length (flatten_clauses cs)) (l.n - l.counter) l.next
-    (ClausesWriting o.writer.id l.source.rows.now l.before l.here.context l.here.in_scope (flatten_clauses all.0) all.1 o.writer.out.now l.output.writer.out.now o.lengths.now l.output.lengths.now (so_far o) (record { next = l.next; progress = so_far l.output }))
+    (ClausesWriting o.writer.id rows l.before here.context here.in_scope (flatten_clauses all.0) all.1 o.writer.out.now r.writer.out.now o.lengths.now r.lengths.now (so_far o) (record { next = l.next; progress = so_far r }))

@@ -5,16 +5,13 @@ use Rattle.image_spec.specs.Reading.{answer_of}
 use Rattle.image_open.specs.Opens.{Opens}
 use Rattle.image_open.proofs.OpenedLaws.{opened-image, opened-bytes, opened-refused}
 use Rattle.scope_spec.specs.Calls.{check_of}
-use Rattle.scope_check.proofs.CheckLaws.{opened-defined, opened-answer, closed-answer}
+use Rattle.scope_check.proofs.CheckLaws.{opened-answer, closed-answer}
 use Rattle.scope_check.proofs.check.check.Goals as goal
 use Rattle.scope_check.proofs.check.check.Goals.{In_ok-opened}
 
 -- the image was opened
 opened : (c : In_ok-opened) → Opens c.args.layout c.args.image.now (Ok c.in_ok-opened.opened)
 opened c = subst (Opens c.args.layout c.args.image.now) c.in_ok-opened.was c.open.ensures
-
-pub check_image-requires : goal.check_image-requires
-check_image-requires c = opened-defined (opened-image c.requires (opened (goal.at.check_image-requires c).In_ok-opened))
 
 pub returns : goal.returns
 returns c =

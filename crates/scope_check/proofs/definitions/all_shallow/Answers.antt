@@ -6,11 +6,11 @@ use Rattle.scope_check.proofs.DefLaws.{recount, def-next, depth-turn, depth-no}
 use Rattle.scope_check.proofs.definitions.all_shallow.Goals as goal
 
 pub loop-init : goal.loop-init
-loop-init c = recount {left = c.args.opened.now.definitions} (omega arith) record { rest = _; stand = c.requires; holds = record { same = refl } }
+loop-init c = recount {left = c.args.definitions} (omega arith) record { rest = _; stand = c.requires; holds = record { same = refl } }
 
 pub overflow_add-at : goal.overflow_add-at
 overflow_add-at c =
-    let m = c.args.opened.now.image in
+    let m = c.args.image.now in
     omega (arith, (def-next c.loop.invariant (omega arith)).inside, records-length m.frame m.bytes.now m.ready, m.ready.few)
 
 pub loop-preserved : goal.loop-preserved

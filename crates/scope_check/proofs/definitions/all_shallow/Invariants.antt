@@ -9,4 +9,4 @@ use Rattle.scope_check.proofs.definitions.all_shallow.Given as goal
 
 abbrev pub invariant-loop : goal.invariant-loop
 invariant-loop l =
-    DefsLeft 128 (records_of l.opened.image) (l.opened.definitions - l.counter) l.at (Shallow (leb (depth_defs (defs_in l.opened.definitions (records_of l.opened.image))) 64))
+    DefsLeft 128 (records_of l.image) (l.definitions - l.counter) l.at (Shallow (leb (depth_defs (defs_in l.definitions (records_of l.image))) 64))

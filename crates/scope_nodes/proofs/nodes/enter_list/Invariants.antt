@@ -10,6 +10,6 @@ use Rattle.scope_nodes.proofs.nodes.enter_list.Given as goal
 
 abbrev pub invariant-loop-j : goal.invariant-loop-j
 invariant-loop-j l =
-    let xs = ids (list_of (record_in l.node)) in
+    let xs = ids (list_of (record_in l.list.node.now)) in
     Entered l.initial.scope l.scope l.here (scoped_of l.scope l.here)
     × (enter_all l.max_id xs (scoped_of l.initial.scope l.initial.here) ≡ enter_all l.max_id (drop l.j xs) (scoped_of l.scope l.here))

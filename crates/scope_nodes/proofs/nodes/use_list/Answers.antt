@@ -17,4 +17,4 @@ loop-j-preserved c =
 pub returns : goal.returns
 returns c =
     let Δ = scope_of c.args.scope.now in
-    sym (ids_end (used_all_lem Δ) (used_none Δ) (list_of (record_in c.args.node.now)) c.loop-j.invariant (omega arith))
+    sym (ids_end (used_all_lem Δ) (used_none Δ) (list_of (record_in c.args.list.now.node.now)) c.loop-j.invariant (omega arith))

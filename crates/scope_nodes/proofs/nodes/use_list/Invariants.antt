@@ -10,5 +10,5 @@ use Rattle.scope_nodes.proofs.nodes.use_list.Given as goal
 abbrev pub invariant-loop-j : goal.invariant-loop-j
 invariant-loop-j l =
     let use_all = used_all_lem (scope_of l.scope) in
-    let xs = ids (list_of (record_in l.node)) in
+    let xs = ids (list_of (record_in l.list.node.now)) in
     use_all xs l.initial.used ≡ use_all (drop l.j xs) l.used

@@ -8,6 +8,7 @@ use Rattle.image_places_spec.specs.Places.{clauses_at, bodies_at}
 use Rattle.image_places_spec.proofs.Steps.{ClausesLeft, BodiesLeft}
 use Rattle.scope_spec.specs.Walk.{walk_clauses, walk_bodies}
 use Rattle.scope_spec.specs.FreeRows.{mask_of, free_bodies, rows_clauses, rows_bodies}
+use Rattle.scope_spec.specs.Pairs.{masks_of}
 use Rattle.scope_places.specs.Scoping.{scope_of}
 use Rattle.scope_walk.specs.Walks.{Restored}
 use Rattle.scope_walk.specs.Masks.{Sourced, SourcedClauses}
@@ -26,17 +27,21 @@ decreases-statement l = 2 * l.depth
 abbrev pub invariant-bodies-loop : goal.invariant-bodies-loop
 invariant-bodies-loop l =
     let Δ = scope_of l.initial.scope in
-    let ts = bodies_at l.depth l.count (records_of l.opened.image) l.i in
+    let ts = bodies_at l.depth l.count (records_of l.walkable.image) l.i in
+    let whole = walk_bodies ts l.walkable.max_id Δ l.initial.here.verdict in
+    let stored = sets (masks_of l.initial.rows) (2 * l.i) (rows_bodies ts Δ) in
     Restored l.initial.scope l.scope
     × ((length l.rows ≡ length l.initial.rows)
-    × BodiesLeft l.depth (records_of l.opened.image) (l.i + length (each flatten ts)) (l.count - l.counter) l.here.next
-    (WalksBodies (All (Sourced Δ) ts) l.opened.max_id Δ (walk_bodies ts l.opened.max_id Δ l.initial.here.verdict) (mask_of (free_bodies ts) Δ) (sets l.initial.rows (2 * l.i) (rows_bodies ts Δ)) l.rows l.here))
+    × BodiesLeft l.depth (records_of l.walkable.image) (l.i + length (each flatten ts)) (l.count - l.counter) l.here.next
+    (WalksBodies (All (Sourced Δ) ts) l.walkable.max_id Δ whole (mask_of (free_bodies ts) Δ) stored (masks_of l.rows) l.here))
 
 abbrev pub invariant-clauses-loop : goal.invariant-clauses-loop
 invariant-clauses-loop l =
     let Δ = scope_of l.initial.scope in
-    let cs = clauses_at l.depth l.count (records_of l.opened.image) l.i in
+    let cs = clauses_at l.depth l.count (records_of l.walkable.image) l.i in
+    let whole = walk_clauses cs l.walkable.max_id Δ l.initial.here.verdict in
+    let stored = sets (masks_of l.initial.rows) (2 * l.i) (rows_clauses cs Δ) in
     Restored l.initial.scope l.scope
     × ((length l.rows ≡ length l.initial.rows)
-    × ClausesLeft l.depth (records_of l.opened.image) (l.i + length (flatten_clauses cs)) (l.count - l.counter) l.here.next
-    (WalksClauses (SourcedClauses Δ cs) l.opened.max_id Δ (walk_clauses cs l.opened.max_id Δ l.initial.here.verdict) (mask_of (free_vars_clauses cs) Δ) (sets l.initial.rows (2 * l.i) (rows_clauses cs Δ)) l.rows l.here))
+    × ClausesLeft l.depth (records_of l.walkable.image) (l.i + length (flatten_clauses cs)) (l.count - l.counter) l.here.next
+    (WalksClauses (SourcedClauses Δ cs) l.walkable.max_id Δ whole (mask_of (free_vars_clauses cs) Δ) stored (masks_of l.rows) l.here))

@@ -1,6 +1,6 @@
-use Rattle.std.proofs.Common.{not, refl, ap, rules}
+use Rattle.std.proofs.Common.{not, refl, ap, w64}
 use Rattle.model.specs.Integers.{holds}
-use Rattle.image_integers.proofs.Signs.{back}
+use Rattle.std.proofs.lemmas.Int.{to_z-of_z}
 use Rattle.step_arithmetic.proofs.Compares.{equal_is}
 use Rattle.step_arithmetic.proofs.comparison.holds.Goals as goal
 
@@ -14,16 +14,16 @@ returns-in-NotEqual c = rw c.in-NotEqual.is (ap not (equal_is c.args.a c.args.b 
 
 pub returns-in-Less : goal.returns-in-Less
 unfolding holds
-returns-in-Less c = rw (c.in-Less.is, back c.args.a c.ranges.a, back c.args.b c.ranges.b) refl
+returns-in-Less c = rw (c.in-Less.is, to_z-of_z w64 c.args.a c.ranges.a, to_z-of_z w64 c.args.b c.ranges.b) refl
 
 pub returns-in-LessOrEqual : goal.returns-in-LessOrEqual
 unfolding holds
-returns-in-LessOrEqual c = rw (c.in-LessOrEqual.is, back c.args.a c.ranges.a, back c.args.b c.ranges.b) refl
+returns-in-LessOrEqual c = rw (c.in-LessOrEqual.is, to_z-of_z w64 c.args.a c.ranges.a, to_z-of_z w64 c.args.b c.ranges.b) refl
 
 pub returns-in-Greater : goal.returns-in-Greater
 unfolding holds
-returns-in-Greater c = rw (c.in-Greater.is, back c.args.a c.ranges.a, back c.args.b c.ranges.b) refl
+returns-in-Greater c = rw (c.in-Greater.is, to_z-of_z w64 c.args.a c.ranges.a, to_z-of_z w64 c.args.b c.ranges.b) refl
 
 pub returns-in-GreaterOrEqual : goal.returns-in-GreaterOrEqual
 unfolding holds
-returns-in-GreaterOrEqual c = rw (c.in-GreaterOrEqual.is, back c.args.a c.ranges.a, back c.args.b c.ranges.b) refl
+returns-in-GreaterOrEqual c = rw (c.in-GreaterOrEqual.is, to_z-of_z w64 c.args.a c.ranges.a, to_z-of_z w64 c.args.b c.ranges.b) refl

@@ -1,7 +1,7 @@
-use Rattle.std.proofs.Common.{sym, ◌∙◌, rules}
+use Rattle.std.proofs.Common.{sym, ◌∙◌, w64}
 use Rattle.syntax.specs.declared.op.BinOp.TheVariants.{Div, Prod, Rem, Sum, Sub}
 use Rattle.model.specs.Integers.{eval_op}
-use Rattle.image_integers.proofs.Signs.{back}
+use Rattle.std.proofs.lemmas.Int.{to_z-of_z}
 use Rattle.step_arithmetic.proofs.Operations.{asked}
 use Rattle.step_arithmetic.proofs.operation.evaluate.Goals as goal
 
@@ -11,7 +11,7 @@ returns-in-Div c =
 
 pub returns-in-Prod : goal.returns-in-Prod
 returns-in-Prod c =
-    rw (c.in-Prod.is, back c.product.result (record { sfits = c.product.type_inv })) (sym c.product.ensures ∙ asked c.args.a c.args.b c.ranges.a c.ranges.b (eval_op Prod))
+    rw (c.in-Prod.is, to_z-of_z w64 c.product.result (record { sfits = c.product.type_inv })) (sym c.product.ensures ∙ asked c.args.a c.args.b c.ranges.a c.ranges.b (eval_op Prod))
 
 pub returns-in-Rem : goal.returns-in-Rem
 returns-in-Rem c =
@@ -19,8 +19,8 @@ returns-in-Rem c =
 
 pub returns-in-Sum : goal.returns-in-Sum
 returns-in-Sum c =
-    rw (c.in-Sum.is, back c.sum.result (record { sfits = c.sum.type_inv })) (sym c.sum.ensures ∙ asked c.args.a c.args.b c.ranges.a c.ranges.b (eval_op Sum))
+    rw (c.in-Sum.is, to_z-of_z w64 c.sum.result (record { sfits = c.sum.type_inv })) (sym c.sum.ensures ∙ asked c.args.a c.args.b c.ranges.a c.ranges.b (eval_op Sum))
 
 pub returns-in-Sub : goal.returns-in-Sub
 returns-in-Sub c =
-    rw (c.in-Sub.is, back c.difference.result (record { sfits = c.difference.type_inv })) (sym c.difference.ensures ∙ asked c.args.a c.args.b c.ranges.a c.ranges.b (eval_op Sub))
+    rw (c.in-Sub.is, to_z-of_z w64 c.difference.result (record { sfits = c.difference.type_inv })) (sym c.difference.ensures ∙ asked c.args.a c.args.b c.ranges.a c.ranges.b (eval_op Sub))

@@ -1,13 +1,11 @@
-use Rattle.std.proofs.Common.{ℕ, ◌+◌, ◌%◌, ◌^◌, ◌+ℤ◌, ap, ◌∙◌, ap₂, arith, rules}
-use mathlib.Core.Option.{some}
+use Rattle.std.proofs.Common.{◌+ℤ◌, sym, ap, ◌∙◌, w64}
+use Rattle.std.proofs.Math.Option.{some}
+use Rattle.std.proofs.lemmas.Int.{wrapping_add_is}
 use Rattle.model.specs.Integers.{eval_op}
-use Rattle.step_arithmetic.proofs.Wraps.{bits_of, wrapped, added}
+use Rattle.step_arithmetic.proofs.Wraps.{wrap-is}
 use Rattle.step_arithmetic.proofs.wrapping.sum.Goals as goal
 
 pub returns : goal.returns
 unfolding eval_op
 returns c =
-    let r = c.wrapping_add_u64 in
-    let p = bits_of c.args.a c.ranges.a _ c.bits.ensures in
-    let q = bits_of c.args.b c.ranges.b _ c.bits-2.ensures in
-    ap some (wrapped (c.args.a +ℤ c.args.b) _ r.result c.from_bits.ensures (omega (arith, r.type_inv)) (r.ensures.value ∙ ap₂ (λ (x y : ℕ). (x + y) % 2 ^ 64) p q ∙ added c.args.a c.args.b c.ranges.a c.ranges.b))
+    ap some (sym (wrap-is (c.args.a +ℤ c.args.b)) ∙ sym (wrapping_add_is w64 c.args.a c.args.b c.ranges.a c.ranges.b))

@@ -1,5 +1,5 @@
 -- `invoke` meets its contract. Assumes nothing.
-use mathlib.Core.Path.{◌≡◌, refl, sym, ap₂, ◌∙◌}
+use mathlib.Core.Path.{◌≡◌, refl, sym, ap, ap₂, ◌∙◌}
 use mathlib.Core.List.{List, ◌++◌, map-append}
 use lib.ListN.{length}
 use native.Mathlib.Omega.{arith}
@@ -20,37 +20,39 @@ use Rattle.step_order.proofs.PartLaws.{held-inside, held-keys}
 use borrow.Author.Tests.{ne_eqb}
 use Rattle.step_order.proofs.EnterLaws.{Enters, missing, fewer, as_many}
 use Rattle.step_order.proofs.StopLaws.{reads-stored, fewer-values, last-create, invoke-goes, invoke-enters}
+use Rattle.step_tags.specs.Tags.{tag_in}
+use Rattle.step_order.proofs.HandLaws.{record-at_hand, at_hand}
 use Rattle.step_order.proofs.entering.invoke.Goals as goal
 use Rattle.step_order.proofs.entering.invoke.Goals.{After-clause_of, After-saturating_sub-values}
 
 -- the last value is a Create's cell
 the_create : (c : After-clause_of) {M : Machine} {P : Prog} {l : Located} →
     let a = c.args in
-    Stored M P a.state.now.store.now a.state.now.header l → OfCreate P a.state.now.store.now a.state.now.header l (last_value_lem l.environment) (as_cell c.in-Some.cell)
+    Stored M P a.hand.now.known.now.state.store.now a.hand.now.known.now.state.header l → OfCreate P a.hand.now.known.now.state.store.now a.hand.now.known.now.state.header l (last_value_lem l.environment) (as_cell c.in-Some.cell)
 the_create c o = last-create o c.in-Some.ensures (codes_same c.in-Some.cell.sort CreateCell refl (alike c.ne.ensures c.if-ne.false))
 
 -- the machine enters what the search answers, by the tag that was read
 enters : (c : After-clause_of) {M : Machine} {P : Prog} {l : Located} →
     let a = c.args in
-    ProgramOf P a.stepper.now a.stepper.now.image.bytes.now → (o : Stored M P a.state.now.store.now a.state.now.header l)
-    → Enters a.stepper.now.image.frame a.stepper.now.image.bytes.now c.clause_of.result (values (before_last 1 l.environment)) (λ new. new ++ (the_create c o).entries) (is_stop (work_at P l))
+    ProgramOf P a.hand.now.stepper.now a.hand.now.stepper.now.image.bytes.now → (o : Stored M P a.hand.now.known.now.state.store.now a.hand.now.known.now.state.header l)
+    → Enters a.hand.now.stepper.now.image.frame a.hand.now.stepper.now.image.bytes.now c.clause_of.result (values (before_last 1 l.environment)) (λ new. new ++ (the_create c o).entries) (is_stop (work_at P l))
 enters c p o =
-    invoke-enters p o c.in-Some.ensures c.requires c.args.stepper.now.image.ready c.tag_of.ensures (the_create c o) refl c.from.ensures c.clause_of.ensures
+    invoke-enters p o c.in-Some.ensures (at_hand c.args.hand.now c.requires) c.args.hand.now.stepper.now.image.ready (c.tag_of.ensures ∙ ap tag_in (record-at_hand c.args.hand.now)) (the_create c o) refl c.from.ensures c.clause_of.ensures
 
 -- how many values there are for its parameters
 counted : (c : After-saturating_sub-values) {M : Machine} {P : Prog} {l : Located} →
     let a = c.args in
-    Stored M P a.state.now.store.now a.state.now.header l → length (values (before_last 1 l.environment)) ≡ c.saturating_sub-values.result
+    Stored M P a.hand.now.known.now.state.store.now a.hand.now.known.now.state.header l → length (values (before_last 1 l.environment)) ≡ c.saturating_sub-values.result
 counted c o = fewer-values o ∙ sym c.saturating_sub-values.ensures
 
 pub returns-in_default : goal.returns-in_default
-returns-in_default c = record { is = λ P l p o e g. invoke-goes p (reads-stored o e g) c.in_default.ensures c.requires (λ q. omega (arith, q)) }
+returns-in_default c = record { is = λ P l p o e g. invoke-goes p (reads-stored o e g) c.in_default.ensures (at_hand c.args.hand.now c.requires) (λ q. omega (arith, q)) }
 
 pub returns-then-ne : goal.returns-then-ne
 returns-then-ne c = record {
   is = λ P l p o e g.
       let w = reads-stored o e g in
-      invoke-goes p w c.in-Some.ensures c.requires (codes_differ c.in-Some.cell.sort CreateCell refl (unlike c.ne.ensures c.if-ne.true));
+      invoke-goes p w c.in-Some.ensures (at_hand c.args.hand.now c.requires) (codes_differ c.in-Some.cell.sort CreateCell refl (unlike c.ne.ensures c.if-ne.true));
 }
 
 pub invariant_of-found : goal.invariant_of-found
@@ -60,11 +62,15 @@ pub returns-else-parameters-values : goal.returns-else-parameters-values
 returns-else-parameters-values c = record {
   is = λ P l p o e g.
       let w = reads-stored o e g in
-      ne_eqb _ _ c.if-parameters-values.false ∙ fewer (enters (goal.at.returns-else-parameters-values c).After-clause_of p w) c.in-Some-clause_of.is c.list_row.result c.list_row.ensures (λ m. c.if-parameters-values.false (m ∙ counted (goal.at.returns-else-parameters-values c).After-saturating_sub-values w));
+      let before = goal.at.returns-else-parameters-values c in
+      let other-count = c.if-parameters-values.false in
+      ne_eqb _ _ other-count
+      ∙ fewer (enters before.After-clause_of p w) c.in-Some-clause_of.is c.list_row.result c.list_row.ensures
+      (λ m. other-count (m ∙ counted before.After-saturating_sub-values w));
 }
 
 pub invariant_of-held : goal.invariant_of-held
-invariant_of-held c = let s = c.args.state.now in record { inside = held-inside s.store.now s.header s.holds c.in-Some.ensures c.slot_places.ensures }
+invariant_of-held c = let s = c.args.hand.now.known.now.state in record { inside = held-inside s.store.now s.header s.holds c.in-Some.ensures c.slot_places.ensures }
 
 pub returns-then-parameters-values : goal.returns-then-parameters-values
 returns-then-parameters-values c = record {
@@ -72,11 +78,13 @@ returns-then-parameters-values c = record {
       let a = c.args in
       let w = reads-stored o e g in
       let xs = ids_of c.list_row.result in
-      let ys = ids_in a.state.now.store.now c.slot_places.result in
-      let m = the_create (goal.at.returns-then-parameters-values c).After-clause_of w in
-      as_many (enters (goal.at.returns-then-parameters-values c).After-clause_of p w) c.in-Some-clause_of.is c.list_row.result c.list_row.ensures (c.if-parameters-values.true ∙ sym (counted (goal.at.returns-then-parameters-values c).After-saturating_sub-values w)) (xs ++ ys)
+      let ys = ids_in a.hand.now.known.now.state.store.now c.slot_places.result in
+      let before = goal.at.returns-then-parameters-values c in
+      let m = the_create before.After-clause_of w in
+      as_many (enters before.After-clause_of p w) c.in-Some-clause_of.is c.list_row.result c.list_row.ensures
+      (c.if-parameters-values.true ∙ sym (counted before.After-saturating_sub-values w)) (xs ++ ys)
       (λ new q. map-append _ new m.entries ∙ ap₂ {C = List VarId} (λ (a b : List VarId). a ++ b) q (sym (held-keys w m c.slot_places.ensures))) c.repeats.ensures;
 }
 
-pub returns-in-None : goal.returns-in-None
-returns-in-None c = record { is = λ P l p o e g. missing (enters (goal.at.returns-in-None c).After-clause_of p (reads-stored o e g)) c.in-None.is }
+pub returns-in_default-clause_of : goal.returns-in_default-clause_of
+returns-in_default-clause_of c = record { is = λ P l p o e g. missing (enters (goal.at.returns-in_default-clause_of c).After-clause_of p (reads-stored o e g)) c.in_default-clause_of.is }

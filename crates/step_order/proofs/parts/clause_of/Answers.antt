@@ -3,11 +3,11 @@ use Prim.Native.Nat.{ℕ, ◌+◌}
 use mathlib.Core.Path.{subst}
 use native.Mathlib.Omega.{arith}
 use Rattle.step_places.specs.Searches.{FindsClause}
-use Rattle.step_order.proofs.PartLaws.{no_place}
+use Rattle.step_places.proofs.SearchLaws.{place_none}
 use Rattle.step_order.proofs.parts.clause_of.Goals as goal
 
 pub returns-then-stepper-i : goal.returns-then-stepper-i
-returns-then-stepper-i c = record { at = no_place 11; finds = λ h. absurd (omega (arith, h, c.if-stepper-i.true)) }
+returns-then-stepper-i c = record { at = place_none 11; finds = λ h. absurd (omega (arith, h, c.if-stepper-i.true)) }
 
 pub returns : goal.returns
 returns c =

@@ -5,7 +5,7 @@ use Rattle.step_slots.specs.Slots.{Slot}
 use Rattle.step_header.specs.States.{heap_of, entries_of}
 use Rattle.step_cells.specs.Cells.{cell_in'}
 use Rattle.step_cells.proofs.HeldLaws.{no-reference}
-use Rattle.step_order.specs.Stopping.{last_slot}
+use Rattle.step_entries.specs.Named.{last_slot}
 use Rattle.step_order.proofs.parts.last_cell.Goals as goal
 
 pub returns-in_err-last_value : goal.returns-in_err-last_value

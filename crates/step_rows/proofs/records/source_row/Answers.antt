@@ -6,7 +6,8 @@ use Rattle.step_rows.proofs.records.source_row.Goals as goal
 
 pub counted-requires : goal.counted-requires
 counted-requires c =
-    counted-inside (source-written c.args.node.now.image.frame.id) (pairs-there c.args.node.now.image.frame c.args.node.now.image.bytes.now c.args.node.now.index c.tail_at-at.ensures c.args.node.now.image.ready (at-kind c.args.node.now c.requires))
+    let n = c.args.node.now in
+    counted-inside (source-written n.image.frame.id) (pairs-there n.image.frame n.image.bytes.now n.index c.tail_at-at.ensures n.image.ready (at-kind n c.requires))
 
 pub invariant_of-result : goal.invariant_of-result
 invariant_of-result c =

@@ -6,6 +6,7 @@ use mathlib.Core.Bool.{true}
 use mathlib.Core.List.{List}
 use native.Mathlib.Omega.{arith}
 use borrow.Author.Rules.{rules}
+use lib.ListN.{length}
 use Rattle.model.specs.Syntax.{Prog}
 use Rattle.model.specs.Machine.{values}
 use Rattle.step_slots.specs.Views.{slots_at, all_slots}
@@ -20,11 +21,15 @@ use Rattle.step_statement_call.proofs.LinearLaws.{all-entries, entries-laid}
 use Rattle.step_statement_call.proofs.call.linear.Goals as goal
 use Rattle.step_statement_call.proofs.call.linear.Goals.{After-fetch, In_ok-called, Start}
 
+-- how long scratch is
+full : (c : Start) → length c.args.scratch.now ≡ 2080
+full c = search rules
+
 -- the machine's step
 calls : (c : Start)
     → (P : Prog) (l : Located) (p : ProgramOf P c.args.stepper.now c.args.stepper.now.image.bytes.now) (o : Stored linear_machine P c.args.work.now.store.now c.args.work.now.header l)
-    → Calls linear_machine P l (the_call p o c.requires.0.record').label.name (values l.environment) c.args.work.now.header.entries
-calls c P l p o = let t = the_call p o c.requires.0.record' in all-entries o t.label t.args t.is refl
+    → Calls linear_machine P l (the_call p o c.requires.record').label.name (values l.environment) c.args.work.now.header.entries
+calls c P l p o = let t = the_call p o c.requires.record' in all-entries o t.label t.args t.is refl
 
 -- the definition is found
 found : (c : In_ok-called) → c.definition_of.result ≡ Some c.in_ok-called.called
@@ -42,7 +47,7 @@ returns-in_err-called c = (
       let e : c.from_residual.result ≡ Err NoStep = search rules in
       rw e record {
         makes = λ P l p o.
-            absent-makes o p (calls (goal.at.returns-in_err-called c).Start P l p o) (label-read (the_call p o c.requires.0.record') c.label_of-label.ensures) c.definition_of.ensures n;
+            absent-makes o p (calls (goal.at.returns-in_err-called c).Start P l p o) (label-read (the_call p o c.requires.record') c.label_of-label.ensures) c.definition_of.ensures n;
       },
   search rules,
 )
@@ -51,7 +56,7 @@ pub returns-then-called-entries : goal.returns-then-called-entries
 returns-then-called-entries c = (
   record {
     makes = λ P l p o.
-        uneven_makes o p (calls (goal.at.returns-then-called-entries c).Start P l p o) (label-read (the_call p o c.requires.0.record') c.label_of-label.ensures) c.definition_of.ensures
+        uneven_makes o p (calls (goal.at.returns-then-called-entries c).Start P l p o) (label-read (the_call p o c.requires.record') c.label_of-label.ensures) c.definition_of.ensures
         (found (goal.at.returns-then-called-entries c).In_ok-called) c.if-called-entries.true;
   },
   search rules,
@@ -61,15 +66,15 @@ pub fetch-requires : goal.fetch-requires
 fetch-requires c =
     let g = c.requires in
     let f = fitting (found (goal.at.fetch-requires c).In_ok-called) c.definition_of.ensures.reads in
-    rw c.store_of.ensures (omega (arith, g.0.fit.holds.inside), (g.0.fit.holds.entries, omega (arith, f.short, g.1, c.if-called-entries.false)))
+    rw c.store_of.ensures (omega (arith, g.fit.holds.inside), (g.fit.holds.entries, omega (arith, f.short, full (goal.at.fetch-requires c).Start, c.if-called-entries.false)))
 
 pub jump-requires : goal.jump-requires
 jump-requires c =
     let g = c.requires in
     let f = fitting (found (goal.at.jump-requires c).In_ok-called) c.definition_of.ensures.reads in
     let stand : all_slots (slots_at c.fetch.new.scratch 0 c.in_ok-called.called.row.places.len) ≡ true =
-    ap (λ (n : ℕ). all_slots (slots_at c.fetch.new.scratch 0 n)) c.if-called-entries.false ∙ (ap all_slots (copied (goal.at.jump-requires c).After-fetch) ∙ g.0.fit.holds.entries) in
-    (g.0.fit, (omega (arith, f.short, g.1, c.fetch.auto.scratch), stand))
+    ap (λ (n : ℕ). all_slots (slots_at c.fetch.new.scratch 0 n)) c.if-called-entries.false ∙ (ap all_slots (copied (goal.at.jump-requires c).After-fetch) ∙ g.fit.holds.entries) in
+    (g.fit, (omega (arith, f.short, full (goal.at.jump-requires c).Start, c.fetch.auto.scratch), stand))
 
 pub returns : goal.returns
 returns c = (
@@ -77,7 +82,7 @@ returns c = (
     makes = λ P l p o.
         let n = c.if-called-entries.false in
         let v = entries-laid o (ap (slots_at c.fetch.new.scratch 0) n ∙ copied (goal.at.returns c).After-fetch) in
-        call-makes o p (calls (goal.at.returns c).Start P l p o) (label-read (the_call p o c.requires.0.record') c.label_of-label.ensures) c.definition_of.ensures
+        call-makes o p (calls (goal.at.returns c).Start P l p o) (label-read (the_call p o c.requires.record') c.label_of-label.ensures) c.definition_of.ensures
         (found (goal.at.returns c).In_ok-called) n v c.jump.ensures.0;
   },
   search rules,

@@ -12,13 +12,13 @@ use Rattle.step_statement_create.proofs.create.linear.Goals.{In_ok-row}
 enclosed : (c : In_ok-row) → let a = c.args in Encloses a.stepper.now.image.frame a.stepper.now.image.bytes.now a.work.now.header.position c.in_ok-row.row.places.len
 enclosed c =
     let s : c.environment_row.result ≡ Some c.in_ok-row.row = search rules in
-    some_there c.args.stepper.now.image.frame c.args.stepper.now.image.bytes.now refl c.environment_row.ensures c.args.stepper.now.image.ready c.requires.0.record' s
+    some_there c.args.stepper.now.image.frame c.args.stepper.now.image.bytes.now refl c.environment_row.ensures c.args.stepper.now.image.ready c.requires.record' s
 
 pub returns-in_err-row : goal.returns-in_err-row
 returns-in_err-row c = (
   let n : c.environment_row.result ≡ None = search rules in
       let e : c.from_residual.result ≡ Err NoStep = search rules in
-      rw e record { makes = λ P l p o. absurd (has-environment p o c.requires.0.record' (none_there c.args.stepper.now.image.frame c.args.stepper.now.image.bytes.now refl c.environment_row.ensures n)) },
+      rw e record { makes = λ P l p o. absurd (has-environment p o c.requires.record' (none_there c.args.stepper.now.image.frame c.args.stepper.now.image.bytes.now refl c.environment_row.ensures n)) },
   search rules,
 )
 
@@ -26,20 +26,20 @@ pub returns-then-work-row : goal.returns-then-work-row
 returns-then-work-row c = (
   record {
     makes = λ P l p o.
-        absurd (omega (arith, c.if-work-row.true, has-entries p o c.requires.0.record' (enclosed (goal.at.returns-then-work-row c).In_ok-row)));
+        absurd (omega (arith, c.if-work-row.true, has-entries p o c.requires.record' (enclosed (goal.at.returns-then-work-row c).In_ok-row)));
   },
   search rules,
 )
 
 pub close_over-requires : goal.close_over-requires
 close_over-requires c =
-    (c.requires.0.fit, (omega (arith, (enclosed (goal.at.close_over-requires c).In_ok-row).few, c.requires.1), c.if-work-row.false))
+    (c.requires.fit, ((enclosed (goal.at.close_over-requires c).In_ok-row).few, c.if-work-row.false))
 
 pub returns : goal.returns
 returns c = (
   record {
     makes = λ P l p o.
-        linear-makes p o c.requires.0.record' (enclosed (goal.at.returns c).In_ok-row) c.args.stepper.now.right c.read_parts-create.ensures c.close_over.ensures.0;
+        linear-makes p o c.requires.record' (enclosed (goal.at.returns c).In_ok-row) c.args.stepper.now.right c.read_parts-create.ensures c.close_over.ensures.0;
   },
   search rules,
 )

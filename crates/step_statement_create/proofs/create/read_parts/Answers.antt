@@ -7,7 +7,7 @@ use Rattle.step_statement_create.proofs.CreateLaws.{parts-of}
 use Rattle.step_statement_create.proofs.create.read_parts.Goals as goal
 
 pub overflow_cast-result : goal.overflow_cast-result
-overflow_cast-result c = omega (arith, c.hop-body.ensures.small (next_small c.args.stepper.now.image.ready c.requires))
+overflow_cast-result c = omega (arith, c.hop-body.ensures.small (next_small c.args.node.now.image.ready c.args.node.now.there))
 
 pub returns : goal.returns
 returns c =

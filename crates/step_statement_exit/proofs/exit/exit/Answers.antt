@@ -1,10 +1,12 @@
 use Rattle.std.specs.Prelude.{Some, None, Err}
 use mathlib.Core.Path.{◌≡◌, refl, sym, ap, ◌∙◌}
 use borrow.Author.Rules.{rules}
+use Rattle.step_slots.specs.Slots.{as_slot}
 use Rattle.step_slots.specs.Views.{found_slot}
+use Rattle.step_header.specs.Headers.{heap_in}
 use Rattle.step_slots.proofs.SortLaws.{sort-below, sort-number}
 use Rattle.step_write.specs.declared.Stop.TheVariants.{NoStep}
-use Rattle.step_statement_exit.proofs.ExitLaws.{exit-halts, exit-makes}
+use Rattle.step_statement_exit.proofs.ExitLaws.{as_shown, exit-halts, exit-makes}
 use Rattle.step_statement_exit.proofs.exit.exit.Goals as goal
 
 pub returns-in_err-value : goal.returns-in_err-value
@@ -25,8 +27,9 @@ returns c = (
       let v = c.in_ok-value.value in
       let x : c.slot_of.result ≡ Some v = search rules in
       let q = ap found_slot (sym x) ∙ (rw (c.state_of-state.ensures.stored, c.state_of-state.ensures.headed) at c.slot_of.ensures) in
+      let shown = (rw (c.state_of-state.ensures.stored, c.state_of-state.ensures.headed) at c.shown_payload-payload.ensures) ∙ as_shown (heap_in w.store.now w.header) (as_slot v) in
       record {
-        makes = λ P l p o. exit-makes a.stepper.now.machine p o c.exit-statement.ensures q w.events.now w.at (sort-below v.sort) (sort-number v.sort) (rw (c.state_of-state.ensures.stored, c.state_of-state.ensures.headed) at c.payload_of.ensures) c.stay.ensures.0;
+        makes = λ P l p o. exit-makes a.stepper.now.machine p o c.exit-statement.ensures q w.events.now w.at (sort-below v.sort) (sort-number v.sort) shown (rw c.of_payload-event.ensures at c.stay.ensures.0);
       },
   search rules,
 )

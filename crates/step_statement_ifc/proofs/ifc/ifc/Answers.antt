@@ -23,8 +23,9 @@ choice_is c =
     let y : c.second.result ≡ Some c.in_ok-b.b = search rules in
     let m : to_z w64 (of_z w64 c.in_ok-a.a) ≡ c.in_ok-a.a = search rules in
     let n : to_z w64 (of_z w64 c.in_ok-b.b) ≡ c.in_ok-b.b = search rules in
-    ap some (c.holds.ensures ∙ ap₂ {C = Bool} (holds sort) m n)
-    ∙ both-there (λ (i j : ℤ). some (holds sort i j)) _ _ (ap option_of (sym x) ∙ (rw (c.state_of-state.ensures.stored, c.state_of-state.ensures.headed) at c.integer_of.ensures)) (ap option_of (sym y) ∙ (rw (c.state_of-state.ensures.stored, c.state_of-state.ensures.headed) at c.second.ensures))
+    let a = ap option_of (sym x) ∙ (rw (c.state_of-state.ensures.stored, c.state_of-state.ensures.headed) at c.integer_of.ensures) in
+    let b = ap option_of (sym y) ∙ (rw (c.state_of-state.ensures.stored, c.state_of-state.ensures.headed) at c.second.ensures) in
+    ap some (c.holds.ensures ∙ ap₂ {C = Bool} (holds sort) m n) ∙ both-there (λ (i j : ℤ). some (holds sort i j)) _ _ a b
 
 pub returns-in_err-a : goal.returns-in_err-a
 returns-in_err-a c = (

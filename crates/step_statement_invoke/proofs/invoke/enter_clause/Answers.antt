@@ -8,7 +8,7 @@ use Rattle.step_statement_invoke.proofs.invoke.enter_clause.Goals as goal
 pub returns : goal.returns
 returns c = (
   let a = c.args in
-      let row = a.row.now in
-      enters-clause a.scratch.now row.places.len (ids-length row.bytes.now row.places) c.requires.room c.rename.ensures refl refl c.event.ensures c.finish_entering.ensures.0,
+      let row = a.clause.now.row in
+      enters-clause a.slots.now row.places.len (ids-length row.bytes.now row.places) c.requires.whole c.rename.ensures refl refl c.event-shown.ensures (rw c.after-next.ensures at c.finish_entering.ensures.0),
   search rules,
 )

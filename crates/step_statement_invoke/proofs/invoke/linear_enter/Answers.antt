@@ -6,6 +6,8 @@ use mathlib.Core.Bool.{true}
 use mathlib.Core.List.{List}
 use native.Mathlib.Omega.{arith}
 use borrow.Author.Rules.{rules}
+use lib.ListN.{length, take}
+use lib.Seq.{length-take-le}
 use Rattle.step_slots.specs.declared.sort.Sort.TheVariants.{Outside}
 use Rattle.step_slots.specs.Slots.{as_slot}
 use Rattle.step_slots.specs.Sorts.{sort_code}
@@ -43,11 +45,17 @@ found c = search rules
 entered : (c : In_ok-clause) → let a = c.args in Entered a.stepper.now.image.frame a.stepper.now.image.bytes.now (as_cell c.in_ok-cell.cell) a.tag a.k c.in_ok-clause.clause
 entered c = entered_by c.entrance_of.ensures (found c)
 
+-- as many slots of scratch as there are args
+sliced : (c : In_ok-clause) → length (take (16 * c.args.k) c.args.scratch.now) ≡ 16 * c.args.k
+sliced c =
+    let full : length c.args.scratch.now ≡ 2080 = search rules in
+    length-take-le (16 * c.args.k) c.args.scratch.now (omega (arith, entered-few (entered c), full))
+
 -- the first k entries are slots
 slots : (c : In_ok-clause) → let a = c.args in all_slots (slots_at a.work.now.store.now (64 + 16 * a.work.now.header.heap) a.k) ≡ true
 slots c =
     let w = c.args.work.now in
-    first-slots w.store.now (64 + 16 * w.header.heap) w.header.entries c.args.k c.requires.1.1 c.requires.0.fit.holds.entries
+    first-slots w.store.now (64 + 16 * w.header.heap) w.header.entries c.args.k c.requires.1 c.requires.0.fit.holds.entries
 
 -- .. and are there
 fetched : (c : After-fetch) → let w = c.args.work.now in slots_at c.fetch.new.scratch 0 c.args.k ≡ slots_at w.store.now (64 + 16 * w.header.heap) c.args.k
@@ -78,18 +86,23 @@ returns-in_err-clause c = (
   search rules,
 )
 
+pub slice_bounds-slots-end : goal.slice_bounds-slots-end
+slice_bounds-slots-end c =
+    let full : length c.args.scratch.now ≡ 2080 = search rules in
+    omega (arith, entered-few (entered (goal.at.slice_bounds-slots-end c).In_ok-clause), full)
+
 pub fetch-requires : goal.fetch-requires
 fetch-requires c =
     let p = c.requires in
     let w = (goal.at.fetch-requires c).In_ok-clause in
-    rw c.store_of.ensures (omega (arith, p.0.fit.holds.inside, p.1.1), (slots w, omega (arith, entered-few (entered w), p.1.0)))
+    rw c.store_of.ensures (omega (arith, p.0.fit.holds.inside, p.1), (slots w, omega (arith, sliced w)))
 
 pub enter_clause-requires : goal.enter_clause-requires
 enter_clause-requires c =
     let p = c.requires in
     let g = goal.at.enter_clause-requires c in
     let w = g.In_ok-clause in
-    can_enter (entered w) (as_slot c.args.value) p.0.fit (referred g.In_ok-cell) (omega (arith, p.1.0, c.fetch.auto.scratch)) (ap all_slots (fetched g.After-fetch) ∙ slots w)
+    can_enter (entered w) (as_slot c.args.value) p.0.fit (referred g.In_ok-cell) (omega (arith, c.fetch.auto.scratch, sliced w)) (ap all_slots (fetched g.After-fetch) ∙ slots w)
 
 pub returns : goal.returns
 returns c = (

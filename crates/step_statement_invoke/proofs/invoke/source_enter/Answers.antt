@@ -2,6 +2,8 @@
 use Rattle.std.specs.Prelude.{Some, None, Err}
 use mathlib.Core.Path.{◌≡◌, refl, sym, ap, ◌∙◌}
 use borrow.Author.Rules.{rules}
+use Prim.Native.Nat.{◌/◌}
+use lib.ListN.{length}
 use Rattle.step_slots.specs.declared.sort.Sort.TheVariants.{Outside}
 use Rattle.step_slots.specs.Slots.{as_slot}
 use Rattle.step_slots.specs.Sorts.{sort_code}
@@ -35,13 +37,14 @@ referred c =
 found : (c : In_ok-clause) → c.entrance_of.result ≡ Some c.in_ok-clause.clause
 found c = search rules
 
-entered : (c : In_ok-clause) → let a = c.args in Entered a.stepper.now.image.frame a.stepper.now.image.bytes.now (as_cell c.in_ok-cell.cell) a.tag a.k c.in_ok-clause.clause
+entered : (c : In_ok-clause) → let a = c.args in Entered a.stepper.now.image.frame a.stepper.now.image.bytes.now (as_cell c.in_ok-cell.cell) a.tag (length a.slots.now / 16) c.in_ok-clause.clause
 entered c = entered_by c.entrance_of.ensures (found c)
 
 pub returns-then-eq : goal.returns-then-eq
 returns-then-eq c = (
   let a = c.args in
-      outside_as a.k (codes_same a.value.sort Outside c.eq.ensures c.if-eq.true) c.ended-next.ensures c.last_event-shown.ensures (slots-count a.scratch.now 0 a.k) refl c.finish_showing_from.ensures.0,
+      let k = length a.slots.now / 16 in
+      outside_as k (codes_same a.value.sort Outside c.eq.ensures c.if-eq.true) c.ended-next.ensures c.last_event-shown.ensures (slots-count a.slots.now 0 k) refl c.finish_showing_from.ensures.0,
   search rules,
 )
 
@@ -59,7 +62,7 @@ returns-in_err-clause c = (
       let n : c.entrance_of.result ≡ None = search rules in
       let e : c.from_residual-in_err-clause.result ≡ Err NoStep = search rules in
       let g = goal.at.returns-in_err-clause c in
-      rw e (nothing_as c.entrance_of.ensures (referred g.In_ok-cell) (slots-count a.scratch.now 0 a.k) n (inside g.Else-eq)),
+      rw e (nothing_as c.entrance_of.ensures (referred g.In_ok-cell) (slots-count a.slots.now 0 (length a.slots.now / 16)) n (inside g.Else-eq)),
   search rules,
 )
 
@@ -67,13 +70,13 @@ pub enter_clause-requires : goal.enter_clause-requires
 enter_clause-requires c =
     let p = c.requires in
     let g = goal.at.enter_clause-requires c in
-    can_enter (entered g.In_ok-clause) (as_slot c.args.value) p.0.fit (referred g.In_ok-cell) p.1.0 p.1.1.1
+    can_enter (entered g.In_ok-clause) (as_slot c.args.value) p.0.fit (referred g.In_ok-cell) p.1.whole p.1.are
 
 pub returns : goal.returns
 returns c = (
   let a = c.args in
       let g = goal.at.returns c in
       let w = g.In_ok-clause in
-      closure_as c.entrance_of.ensures (referred g.In_ok-cell) (slots-count a.scratch.now 0 a.k) (found w) (ap (slots_at a.scratch.now 0) (entered w).count) c.enter_clause.ensures.0,
+      closure_as c.entrance_of.ensures (referred g.In_ok-cell) (slots-count a.slots.now 0 (length a.slots.now / 16)) (found w) (ap (slots_at a.slots.now 0) (entered w).count) c.enter_clause.ensures.0,
   search rules,
 )

@@ -1,8 +1,9 @@
 -- `pack_last` meets its contract. Assumes nothing.
-use Prim.Native.Nat.{◌+◌, ◌-◌, ◌*◌}
-use mathlib.Core.Path.{ap}
+use borrow.Author.Rules.{rules}
+use Prim.Native.Nat.{◌+◌, ◌-◌, ◌*◌, ◌≤◌}
+use mathlib.Core.Path.{◌≡◌, ap}
 use native.Mathlib.Omega.{arith}
-use lib.ListN.{take, drop}
+use lib.ListN.{length, take, drop}
 use Rattle.image_write_parts.specs.Puts.{Puts}
 use Rattle.image_write_parts.proofs.Putting.{puts_as, puts-same}
 use Rattle.image_write_bytes.proofs.Copying.{part-from}
@@ -22,7 +23,8 @@ pub erase-requires : goal.erase-requires
 erase-requires c =
     let a = c.args in
     let s = a.state.now in
-    let room = c.requires.1 in
+    let full : length a.scratch.now ≡ 2080 = search rules in
+    let room : 16 * (a.k + 1) ≤ length a.scratch.now = omega (arith, c.requires.1, full) in
     let head = puts_as (ap slot_bytes c.cell_slot.ensures) c.put_slot.ensures in (
       omega (arith, room, puts-same c.put_slot.ensures, puts-same c.copy.ensures),
       copied-slots s.store.now (64 + 16 * s.header.heap) s.header.entries a.k s.holds.entries c.requires.0 (cell_slot_lem s.header a.tag) room head (copies (goal.at.erase-requires c).After-copy),
@@ -32,5 +34,7 @@ pub returns : goal.returns
 returns c =
     let a = c.args in
     let s = a.state.now in
+    let full : length a.scratch.now ≡ 2080 = search rules in
+    let room : 16 * (a.k + 1) ≤ length a.scratch.now = omega (arith, c.requires.1, full) in
     let head = puts_as (ap slot_bytes c.cell_slot.ensures) c.put_slot.ensures in
-    packed-last s.store.now (64 + 16 * s.header.heap) s.header.entries a.k s.holds.entries c.requires.0 (cell_slot_lem s.header a.tag) c.requires.1 head (copies (goal.at.returns c).After-copy) c.erase.ensures
+    packed-last s.store.now (64 + 16 * s.header.heap) s.header.entries a.k s.holds.entries c.requires.0 (cell_slot_lem s.header a.tag) room head (copies (goal.at.returns c).After-copy) c.erase.ensures

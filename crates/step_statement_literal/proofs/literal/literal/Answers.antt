@@ -11,7 +11,7 @@ returns c = (
     makes = λ P l p o.
         let lit = c.literal-statement.result.lit in
         let z : to_z w64 (of_z w64 lit) ≡ lit = search rules in
-        literal-makes c.args.stepper.now.machine p o c.literal-statement.ensures (c.bits.ensures ∙ ap (of_z w64) z) c.bind.ensures.0;
+        literal-makes c.args.stepper.now.machine p o c.literal-statement.ensures (c.cast_unsigned.ensures ∙ ap (of_z w64) z) c.bind.ensures.0;
   },
   search rules,
 )

@@ -20,7 +20,9 @@ result_is c =
     let y : c.integer_of-2.result ≡ Some c.in_ok-b.b = search rules in
     let m : to_z w64 (of_z w64 c.in_ok-a.a) ≡ c.in_ok-a.a = search rules in
     let n : to_z w64 (of_z w64 c.in_ok-b.b) ≡ c.in_ok-b.b = search rules in
-    c.evaluate.ensures ∙ (ap₂ f m n ∙ both-there f _ _ (ap option_of (sym x) ∙ (rw (c.state_of-state.ensures.stored, c.state_of-state.ensures.headed) at c.integer_of.ensures)) (ap option_of (sym y) ∙ (rw (c.state_of-state.ensures.stored, c.state_of-state.ensures.headed) at c.integer_of-2.ensures)))
+    let a = ap option_of (sym x) ∙ (rw (c.state_of-state.ensures.stored, c.state_of-state.ensures.headed) at c.integer_of.ensures) in
+    let b = ap option_of (sym y) ∙ (rw (c.state_of-state.ensures.stored, c.state_of-state.ensures.headed) at c.integer_of-2.ensures) in
+    c.evaluate.ensures ∙ (ap₂ f m n ∙ both-there f _ _ a b)
 
 pub returns-in_err-a : goal.returns-in_err-a
 returns-in_err-a c = (
@@ -58,6 +60,6 @@ returns c = (
       let x : c.evaluate.result ≡ Some c.in_ok-z.z = search rules in
       let z : to_z w64 (of_z w64 c.in_ok-z.z) ≡ c.in_ok-z.z = search rules in
       let m = ap option_of (sym x) ∙ result_is (goal.at.returns c).After-evaluate in
-      record { makes = λ P l p o. op-makes a.stepper.now.machine p o c.op-statement.ensures a.work.now.events.now a.work.now.at c.in_ok-z.z m (c.bits.ensures ∙ ap (of_z w64) z) c.bind.ensures.0 },
+      record { makes = λ P l p o. op-makes a.stepper.now.machine p o c.op-statement.ensures a.work.now.events.now a.work.now.at c.in_ok-z.z m (c.cast_unsigned.ensures ∙ ap (of_z w64) z) c.bind.ensures.0 },
   search rules,
 )

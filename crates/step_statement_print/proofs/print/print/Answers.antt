@@ -26,6 +26,7 @@ returns c = (
       let z : to_z w64 (of_z w64 c.in_ok-z.z) ≡ c.in_ok-z.z = search rules in
       let d : c.from.result ≡ newline_code_lem c.print-statement.result.newline = search rules in
       let m = ap option_of (sym x) ∙ (rw (c.state_of-state.ensures.stored, c.state_of-state.ensures.headed) at c.integer_of.ensures) in
-      record { makes = λ P l p o. print-makes a.stepper.now.machine p o c.print-statement.ensures a.work.now.events.now a.work.now.at c.in_ok-z.z m d (c.bits.ensures ∙ ap (of_z w64) z) c.stay.ensures.0 },
+      let g = c.cast_unsigned.ensures ∙ ap (of_z w64) z in
+      record { makes = λ P l p o. print-makes a.stepper.now.machine p o c.print-statement.ensures a.work.now.events.now a.work.now.at c.in_ok-z.z m d g (rw c.of_payload-event.ensures at c.stay.ensures.0) },
   search rules,
 )

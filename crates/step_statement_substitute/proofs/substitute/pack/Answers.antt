@@ -1,5 +1,6 @@
 -- `pack` meets its contract. Assumes nothing.
-use Prim.Native.Nat.{◌+◌, ◌*◌}
+use borrow.Author.Rules.{rules}
+use Prim.Native.Nat.{◌+◌, ◌*◌, ◌≤◌}
 use mathlib.Core.Path.{◌≡◌, sym, ◌∙◌}
 use native.Mathlib.Omega.{arith}
 use lib.ListN.{length}
@@ -21,10 +22,16 @@ many s = ids-length s.args.parts.now.sources.bytes.now s.args.parts.now.sources.
 fit : (s : Start) → All SlotOk (entries_of s.args.state.now)
 fit s = let t = s.args.state.now in slots-ok t.store.now (64 + 16 * t.header.heap) t.header.entries t.holds.entries
 
+-- there is room for their values
+roomy : (s : Start) → 16 * s.args.parts.now.targets.places.len ≤ length s.args.scratch.now
+roomy s =
+    let full : length s.args.scratch.now ≡ 2080 = search rules in
+    omega (arith, s.requires.1, full)
+
 pub rename-requires : goal.rename-requires
 rename-requires c =
     let s = (goal.at.rename-requires c).Start in
-    let room = c.requires.1 in
+    let room = roomy s in
     (omega (arith, room, c.gather.auto.out), values-stand c.args.parts.now.targets.places.len (many s) (fit s) room c.gather.ensures c.if-not-gather.false)
 
 pub returns : goal.returns
@@ -34,5 +41,5 @@ returns c =
     let e = c.if-not-gather.false in
     record {
       found = sym e ∙ c.gather.ensures.found;
-      put = λ _. packed a.parts.now.targets.places.len (many s) (fit s) c.requires.1 c.gather.ensures e (ids_of a.parts.now.targets) (ids-length a.parts.now.targets.bytes.now a.parts.now.targets.places) c.rename.ensures;
+      put = λ _. packed a.parts.now.targets.places.len (many s) (fit s) (roomy s) c.gather.ensures e (ids_of a.parts.now.targets) (ids-length a.parts.now.targets.bytes.now a.parts.now.targets.places) c.rename.ensures;
     }

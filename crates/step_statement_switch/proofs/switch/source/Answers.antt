@@ -23,7 +23,7 @@ returns-in_err-value c = (
       let e : c.from_residual.result ≡ Err NoStep = search rules in
       rw e record {
         makes = λ P l p o.
-            source-makes p o c.requires.0.record' refl c.first-var.ensures (ap found_slot (sym n) ∙ asked (goal.at.returns-in_err-value c).After-slot_of) refl no-value;
+            source-makes p o c.requires.record' refl c.first-var.ensures (ap found_slot (sym n) ∙ asked (goal.at.returns-in_err-value c).After-slot_of) refl no-value;
       },
   search rules,
 )
@@ -33,7 +33,7 @@ returns c = (
   let s : c.slot_of.result ≡ Some c.in_ok-value.value = search rules in
       record {
         makes = λ P l p o.
-            source-makes p o c.requires.0.record' refl c.first-var.ensures (ap found_slot (sym s) ∙ asked (goal.at.returns c).After-slot_of) refl c.switch.ensures.0;
+            source-makes p o c.requires.record' refl c.first-var.ensures (ap found_slot (sym s) ∙ asked (goal.at.returns c).After-slot_of) refl c.switch.ensures.0;
       },
   search rules,
 )

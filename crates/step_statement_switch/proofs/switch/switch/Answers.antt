@@ -6,6 +6,7 @@ use mathlib.Core.Bool.{true}
 use mathlib.Core.List.{List}
 use native.Mathlib.Omega.{arith}
 use borrow.Author.Rules.{rules}
+use lib.ListN.{length}
 use Rattle.step_slots.specs.Slots.{Slot, as_slot}
 use Rattle.step_slots.specs.Views.{slots_at, all_slots}
 use Rattle.step_header.specs.declared.Header.{Header}
@@ -18,11 +19,15 @@ use Rattle.step_write.specs.declared.Stop.TheVariants.{NoStep}
 use Rattle.step_statement_switch.specs.Switching.{ClauseFor, SwitchesOn, other-cell, not_switched}
 use Rattle.step_statement_switch.proofs.SwitchLaws.{Enterable, enterable, switched_as}
 use Rattle.step_statement_switch.proofs.switch.switch.Goals as goal
-use Rattle.step_statement_switch.proofs.switch.switch.Goals.{After-fetch, In_ok-cell, In_ok-clause}
+use Rattle.step_statement_switch.proofs.switch.switch.Goals.{Start, After-fetch, In_ok-cell, In_ok-clause}
 
 -- a cell that was found in the state is one of the store
 stands : (s : State) (t : Slot) {store : List ℕ} {h : Header} {cell : Cell} → s.store.now ≡ store → s.header ≡ h → cell ≡ cell_in' (heap_of s) t → cell ≡ cell_in' (heap_in store h) t
 stands s t e f q = q ∙ ap (λ (H : List Slot). cell_in' H t) (ap₂ heap_in e f)
+
+-- how long scratch is
+full : (c : Start) → length c.args.scratch.now ≡ 2080
+full c = search rules
 
 -- the cell is that of the value
 referred : (c : In_ok-cell) → as_cell c.in_ok-cell.cell ≡ cell_in' (heap_in c.args.work.now.store.now c.args.work.now.header) (as_slot c.args.value)
@@ -83,12 +88,12 @@ pub fetch-requires : goal.fetch-requires
 fetch-requires c =
     let w = (goal.at.fetch-requires c).In_ok-clause in
     let e = can_enter w in
-    rw c.store_of.ensures (omega (arith, e.even, (holding w).inside, c.requires.0.fit.holds.inside), (copied w, omega (arith, e.fits.short, c.requires.1.0)))
+    rw c.store_of.ensures (omega (arith, e.even, (holding w).inside, c.requires.0.fit.holds.inside), (copied w, omega (arith, e.fits.short, full (goal.at.fetch-requires c).Start)))
 
 pub enter-requires : goal.enter-requires
 enter-requires c =
     let w = (goal.at.enter-requires c).In_ok-clause in
-    (c.requires.0.fit, (omega (arith, (can_enter w).fits.short, c.requires.1.0), (ap all_slots (fetched (goal.at.enter-requires c).After-fetch) ∙ copied w, c.requires.1.1)))
+    (c.requires.0.fit, (omega (arith, (can_enter w).fits.short, full (goal.at.enter-requires c).Start, c.fetch.auto.scratch), (ap all_slots (fetched (goal.at.enter-requires c).After-fetch) ∙ copied w, c.requires.1)))
 
 pub returns : goal.returns
 returns c = (

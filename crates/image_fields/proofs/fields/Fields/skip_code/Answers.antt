@@ -1,5 +1,5 @@
-use Rattle.std.proofs.Common.{arith}
-use Rattle.image_fields.proofs.Stops.{code-good, code_bad, code-past, got_none, got_some}
+use Rattle.std.proofs.Common.{◌∙◌}
+use Rattle.image_fields.proofs.Stops.{code-chosen, code-past, got_none, got_some}
 use Rattle.image_fields.proofs.fields.Fields.skip_code.Goals as goal
 
 pub returns-in_err-b : goal.returns-in_err-b
@@ -8,16 +8,9 @@ returns-in_err-b c =
     let f = a.self.now in
     cc (code-past a.most f.bytes.now a.at (got_none _ _ _ c.get.ensures.lookup c.in_err-b.was), c.from_residual.ensures)
 
-pub returns-then-b-most : goal.returns-then-b-most
-returns-then-b-most c =
+pub returns : goal.returns
+returns c =
     let a = c.args in
     let f = a.self.now in
     let g = got_some _ _ _ _ c.get.ensures.lookup c.in_ok-b.was in
-    cc (code-good a.most f.bytes.now a.at g.0 (omega arith))
-
-pub returns-else-b-most : goal.returns-else-b-most
-returns-else-b-most c =
-    let a = c.args in
-    let f = a.self.now in
-    let g = got_some _ _ _ _ c.get.ensures.lookup c.in_ok-b.was in
-    cc (code_bad a.most f.bytes.now a.at g.0 (omega arith))
+    c.then_some.ensures ∙ rw (← g.1) (code-chosen a.most f.bytes.now a.at g.0)

@@ -5,4 +5,4 @@ use Rattle.syntax.proofs.Members.{list_any-elem}
 use Rattle.syntax.proofs.sets.IdSet.contains.Goals as goal
 
 pub returns : goal.returns
-returns c = c.contains.ensures.value ∙ list_any-elem c.args.id (set_of c.args.self)
+returns c = c.contains.ensures.value ∙ list_any-elem c.args.id (set_of c.args.self.now)

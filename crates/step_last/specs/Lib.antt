@@ -1,0 +1,2 @@
+-- A new cell under var.
+pub mod NewCell
