@@ -75,7 +75,8 @@ pub fn linearize(
     opened: &Opened,
     output: &mut Output<'_, '_>,
 ) -> Working
-    requires { (source.now.node.kind ≡ Create) × (Workable here.now.context here.now.in_scope 1 × (OpenedAs (record_in source.now.node) free_vars.clauses free_vars.next (work_of here.now.context) (opened_to opened.now output.old) × RoomAt (so_far output.old))) }
+    requires { (source.now.node.kind ≡ Create)
+        × (Workable here.now.context here.now.in_scope 1 × (OpenedAs (record_in source.now.node) free_vars.clauses free_vars.next (work_of here.now.context) (opened_to opened.now output.old) × RoomAt (so_far output.old))) }
     ensures { StepsFor output.old output.new (record_in source.now.node) free_vars.clauses free_vars.next here.now result }
 {
     let statement = create(&source.node);

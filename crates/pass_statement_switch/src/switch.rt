@@ -98,7 +98,8 @@ pub fn linearize(
     opened: &Opened,
     output: &mut Output<'_, '_>,
 )
-    requires { (source.now.node.kind ≡ Switch) × (Workable here.now.context here.now.in_scope 0 × (OpenedAs (record_in source.now.node) free_vars_clauses 0 (work_of here.now.context) (opened_to opened.now output.old) × RoomAt (so_far output.old))) }
+    requires { (source.now.node.kind ≡ Switch)
+        × (Workable here.now.context here.now.in_scope 0 × (OpenedAs (record_in source.now.node) free_vars_clauses 0 (work_of here.now.context) (opened_to opened.now output.old) × RoomAt (so_far output.old))) }
     ensures { LeavesFor output.old output.new (record_in source.now.node) free_vars_clauses 0 here.now }
 {
     let statement = switch(&source.node);

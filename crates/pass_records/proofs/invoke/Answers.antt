@@ -10,7 +10,8 @@ use Rattle.pass_records.proofs.invoke.Goals as goal
 use Rattle.pass_records.proofs.invoke.Goals.{After-offset-start}
 
 -- where the parts stand
-there : (c : After-offset-start) → let f = c.fields-fields.result in let r = record_of c.args.node.now.image c.args.node.now.index in TaggedThere f.id f.bytes.now c.offset-start.result r (λ v t g Γ. invoke v g t Γ) (5 + (f.id + f.id)) (3 + f.id)
+there : (c : After-offset-start) → let f = c.fields-fields.result in let r = record_of c.args.node.now.image c.args.node.now.index in
+    TaggedThere f.id f.bytes.now c.offset-start.result r (λ v t g Γ. invoke v g t Γ) (5 + (f.id + f.id)) (3 + f.id)
 there c = rw (c.fields-fields.ensures.id, c.fields-fields.ensures.bytes) (invoke-there _ _ _ _ (at-kind c.args.node.now c.requires.0).kind c.offset-start.ensures)
 
 pub overflow_add-start : goal.overflow_add-start

@@ -23,13 +23,14 @@ env_most c = bindings-most _ c.args.output.now.writer.id c.environment-closure_e
 -- the context is right, by the lengths first
 right_is : (c : Joined-context-kept) → c.if-context-kept.right ≡ same_context (bindings (work_of c.args.context.now)) (bindings (work_of c.filter_by_set-context_next.result) ++ bindings (work_of c.environment-closure_environment.result))
 right_is c =
+    let old = c.args.context.now in
     let next = c.filter_by_set-context_next in
     let env = c.environment-closure_environment in
     let A = bindings (work_of next.result) in
     let B = bindings (work_of env.result) in
     elim c.if-context-kept.branch [
       | then-context-kept w ↦ cc (w.right-is, w.same-right.ensures, w.context.ensures.list, w.context-then-context-kept.ensures.list)
-      | else-context-kept w ↦ w.right-is ∙ ne_eqb _ _ w.if-context-kept.false ∙ sym (other_length c.args.context.now (A ++ B) (omega (arith, length-append A B, bindings-count next.result, bindings-count env.result)) w.if-context-kept.false)
+      | else-context-kept w ↦ w.right-is ∙ ne_eqb _ _ w.if-context-kept.false ∙ sym (other_length old (A ++ B) (omega (arith, length-append A B, bindings-count next.result, bindings-count env.result)) w.if-context-kept.false)
     ]
 
 pub environment-closure_environment-requires : goal.environment-closure_environment-requires
