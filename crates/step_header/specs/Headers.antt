@@ -8,8 +8,12 @@ use Rattle.step_spec.specs.Store as store
 use Rattle.step_spec.specs.Store.{bit}
 use Rattle.step_header.specs.declared.Header.{Header}
 
+-- the numbers of the 64 bytes; they are a header's where the two flags are 0 or 1
+abbrev pub tuple_with : (position ended stopped cells heap entries : ℕ) → store.Header
+tuple_with position ended stopped cells heap entries = (position, (ended, (stopped, (tt, (cells, (heap, (entries, tt)))))))
+
 abbrev pub tuple_of : Header → store.Header
-tuple_of h = (h.position, (bit h.ended, (bit h.stopped, (tt, (h.cells, (h.heap, (h.entries, tt)))))))
+tuple_of h = tuple_with h.position (bit h.ended) (bit h.stopped) h.cells h.heap h.entries
 
 -- a byte that is a flag
 abbrev pub flag_of : ℕ → Option Bool

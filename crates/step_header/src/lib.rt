@@ -7,7 +7,7 @@ pub mod state;
 ghost use Rattle.std.specs.Prelude.{◌≡◌, ◌+◌, ◌≤◌, length, drop, replicate};
 ghost use Rattle.image_write_parts.specs.Puts.{Puts};
 ghost use Rattle.step_spec.specs.Store.{header_parser, header_bytes};
-ghost use Rattle.step_header.specs.Headers.{tuple_of, flag_of, read_as};
+ghost use Rattle.step_header.specs.Headers.{tuple_with, tuple_of, flag_of, read_as};
 
 use image_fields::number;
 use image_write_parts::{put_byte, store_pair};
@@ -67,17 +67,38 @@ fn put_zeros(out: &mut [u8], at: usize) -> usize
     at + 32
 }
 
+// Sixty-four bytes with these numbers; they are a header's where the two flags are 0 or 1.
 // (64 bytes are asked for here, where a header is read, and where a step ends: the store is lent whole, and no ghost field is over what is written.)
+pub fn put_header_parts(
+    out: &mut [u8],
+    position: u32,
+    ended: u8,
+    stopped: u8,
+    cells: u64,
+    heap: u64,
+    entries: u64,
+) -> usize
+    requires { 64 ≤ length out.old }
+    ensures { Puts out.old out.new 0 result (header_bytes (tuple_with position ended stopped cells heap entries)) }
+{
+    let after_position = put_four(out, 0, position);
+    let after_ended = put_byte(out, after_position, ended);
+    let after_stopped = put_byte(out, after_ended, stopped);
+    let after_flags = store_pair(out, after_stopped, 0);
+    let after_cells = put_long(out, after_flags, cells);
+    let after_heap = put_long(out, after_cells, heap);
+    let after_entries = put_long(out, after_heap, entries);
+    put_zeros(out, after_entries)
+}
+
+// A header.
 pub fn put_header(out: &mut [u8], h: Header) -> usize
     requires { 64 ≤ length out.old }
     ensures { Puts out.old out.new 0 result (header_bytes (tuple_of h)) }
 {
-    let flags = put_four(out, 0, h.position);
-    let second = put_byte(out, flags, u8::from(h.ended));
-    let zeros = put_byte(out, second, u8::from(h.stopped));
-    let counts = store_pair(out, zeros, 0);
-    let heap = put_long(out, counts, h.cells);
-    let entries = put_long(out, heap, h.heap);
-    let end = put_long(out, entries, h.entries);
-    put_zeros(out, end)
+    let ended = u8::from(h.ended);
+    let stopped = u8::from(h.stopped);
+    put_header_parts(
+        out, h.position, ended, stopped, h.cells, h.heap, h.entries,
+    )
 }

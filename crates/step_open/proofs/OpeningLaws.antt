@@ -163,7 +163,7 @@ module _ (P : Prog) (s : List ℕ) (h : Header) (e : header_parser s ≡ got (tu
   stage true false H E m n r p q t = rw (p, q, t) refl
   stage true true H E m n r p q t = rw (p, q, t) refl
 
-  asked_is : state_from P s ≡ if_formed (slots_formed P s h) (seen s h)
+  pub asked_is : state_from P s ≡ if_formed (slots_formed P s h) (seen s h)
   unfolding seen formed
   asked_is =
       stage (all_slots (heap_in s h)) (all_slots (entries_in s h)) (heap_in s h) (entries_in s h) (drop 64 s) (drop (64 + 16 * h.heap) s) _ e (slots_parse s 64 h.heap) (slots_parse s (64 + 16 * h.heap) h.entries)

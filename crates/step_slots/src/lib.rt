@@ -90,7 +90,7 @@ fn put_sort(out: &mut [u8], at: usize, sort: u8) -> usize
 }
 
 // Sixteen bytes with this one first, an ID and 64 bits; they are a slot's where the first is a sort's.
-fn put_parts(out: &mut [u8], at: usize, sort: u8, id: u32, payload: u64) -> usize
+pub fn put_parts(out: &mut [u8], at: usize, sort: u8, id: u32, payload: u64) -> usize
     requires { at + 16 ≤ length out.old }
     ensures { Puts out.old out.new at result (slot_bytes (slot sort id payload)) }
 {

@@ -13,8 +13,12 @@ pub record Fit (w : Work) : Type 0 where
   pub place : w.at ≤ length w.events.now
 
 -- the two buffers are the same ones after it, whatever was written to them
+abbrev pub SameBuffers : Work → Work → Type 0
+SameBuffers w w' = (w'.store.ghost_name ≡ w.store.ghost_name) × (w'.events.ghost_name ≡ w.events.ghost_name)
+
+-- .. and the header and the place that were lent in it stay, whether there was a step or not
 abbrev pub Keeps : Work → Work → Type 0
-Keeps w w' = (w'.store.ghost_name ≡ w.store.ghost_name) × (w'.events.ghost_name ≡ w.events.ghost_name)
+Keeps w w' = SameBuffers w w' × ((w'.header ≡ w.header) × (w'.at ≡ w.at))
 
 -- what is asked before a step to this header is finished in it
 abbrev pub EndingIn : Work → Header → Type 0

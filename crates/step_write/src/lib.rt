@@ -1,7 +1,7 @@
 // What a step writes: its event, and the state after it over the one before; or nothing, where there is no room for both.
 #![tactic(auto)]
 
-ghost use Rattle.std.specs.Prelude.{◌≡◌, [], ◌++◌, ◌&&◌, ◌+◌, ◌-◌, ◌*◌, ◌≤◌, ◌<◌, leb, length, take, drop};
+ghost use Rattle.std.specs.Prelude.{◌≡◌, [], ◌++◌, ◌&&◌, ◌+◌, ◌-◌, ◌*◌, ◌≤◌, ◌<◌, ◌^◌, leb, length, take, drop};
 ghost use Rattle.std.proofs.lemmas.List.Edits.{sets};
 ghost use Rattle.image_write_parts.specs.Puts.{Puts};
 ghost use Rattle.step_slots.specs.Slots.{slot_bytes, as_slot};
@@ -114,15 +114,49 @@ impl EventHead {
     }
 }
 
+// Has a store of `store` bytes room for the state with this header, and an event buffer of `events` bytes for so many behind `at`?
+pub fn has_room(store: usize, header: Header, events: usize, at: usize, bytes: usize) -> bool
+    requires { (64 ≤ store) × ((at ≤ events) × (header.heap + header.entries < 2 ^ 64)) }
+    ensures { result ≡ leb (size header) store && leb bytes (events - at) }
+{
+    let slots = header.heap as usize + header.entries as usize;
+    slots <= (store - 64) / 16 && bytes <= events - at
+}
+
+// Sixteen bytes with this one first; they begin an event where it is a kind's.
+pub fn put_event_parts(
+    events: &mut [u8],
+    at: usize,
+    kind: u8,
+    detail: u8,
+    name: u32,
+    count: u32,
+    payload: u64,
+) -> usize
+    requires { at + 16 ≤ length events.old }
+    ensures { Puts events.old events.new at result (event_head kind detail name count payload) }
+{
+    let after_kind = put_byte(events, at, kind);
+    let after_detail = put_byte(events, after_kind, detail);
+    let after_name = store_pair(events, after_detail, name);
+    let after_count = put_four(events, after_name, count);
+    put_long(events, after_count, payload)
+}
+
+// An event's first sixteen bytes.
 pub fn put_event(events: &mut [u8], at: usize, event: EventHead) -> usize
     requires { at + 16 ≤ length events.old }
     ensures { Puts events.old events.new at result (head_bytes event) }
 {
-    let after_kind = put_byte(events, at, event.kind as u8);
-    let after_detail = put_byte(events, after_kind, event.detail);
-    let after_name = store_pair(events, after_detail, event.name);
-    let after_count = put_four(events, after_name, event.count);
-    put_long(events, after_count, event.payload)
+    put_event_parts(
+        events,
+        at,
+        event.kind as u8,
+        event.detail,
+        event.name,
+        event.count,
+        event.payload,
+    )
 }
 
 // `at` and `n` here and in `put_closure`: where slots stand in a store that is written, and how many move; `Places` are of what is read.
@@ -140,8 +174,9 @@ pub fn fits(work: &Work<'_>, header: Header, bytes: usize) -> bool
     requires { EndingIn work.now header }
     ensures { result ≡ leb (size header) (length work.now.store.now) && leb bytes (length work.now.events.now - work.now.at) }
 {
-    let slots = header.heap as usize + header.entries as usize;
-    slots <= (work.store.len() - 64) / 16 && bytes <= work.events.len() - work.at
+    let store = work.store.len();
+    let events = work.events.len();
+    has_room(store, header, events, work.at, bytes)
 }
 
 // The event and the header of a step whose slots are written.
