@@ -98,7 +98,5 @@ pub fn put_header(out: &mut [u8], h: Header) -> usize
 {
     let ended = u8::from(h.ended);
     let stopped = u8::from(h.stopped);
-    put_header_parts(
-        out, h.position, ended, stopped, h.cells, h.heap, h.entries,
-    )
+    put_header_parts(out, h.position, ended, stopped, h.cells, h.heap, h.entries)
 }

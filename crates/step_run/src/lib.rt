@@ -1,6 +1,7 @@
 // Steps one after another.
 #![tactic(auto)]
 
+ghost use Rattle.std.specs.Prelude.{◌≡◌};
 ghost use Rattle.step_write.specs.Working.{SameBuffers};
 ghost use Rattle.step_rule.specs.Rules.{machine_in};
 ghost use Rattle.step_order.specs.Sure.{SureIn};
@@ -31,11 +32,10 @@ pub fn run(
     sure: bool,
 ) -> Ran
     requires { Lives (machine_in stepper.now) stepper.now stepper.now.image.bytes.now work.old.store.now work.old.header × SureIn stepper.now sure work.old.store.now work.old.header }
-    ensures { Runs (machine_in stepper.now) stepper.now stepper.now.image.bytes.now steps work.old.store.now work.old.events.now work.old.header work.new.store.now work.new.events.now result × SameBuffers work.old work.new }
+    ensures { Runs (machine_in stepper.now) stepper.now stepper.now.image.bytes.now steps work.old.store.now work.old.events.now work.old.header work.new.store.now work.new.events.now result × (SameBuffers work.old work.new × (work.new.at ≡ result.length)) }
 {
     work.at = 0;
     for made in 0..steps {
-        let at = work.at;
         match advance(stepper, work, scratch, sure) {
             Ok(step) => {
                 work.header = step.header;
@@ -44,7 +44,7 @@ pub fn run(
             Err(stop) => {
                 return Ran {
                     steps: made,
-                    length: at,
+                    length: work.at,
                     full: stop == Stop::NoRoom,
                 };
             }

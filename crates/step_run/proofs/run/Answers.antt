@@ -14,8 +14,8 @@ full_is c = search rules
 pub returns-in-Err : goal.returns-in-Err
 returns-in-Err c = (
   let a = c.args in
-      going-stops (lawful_in a.stepper.now.machine) a.stepper.now a.stepper.now.image.bytes.now a.steps a.work.now.store.now a.work.now.events.now a.work.now.header c.loop-made.invariant.0 c.loop-made-test.true _ refl
-      c.in-Err.stop (full_is (goal.at.returns-in-Err c).After-eq) (advances_as c.advance.ensures.0 c.in-Err.is),
+      rw c.advance.ensures.1.1.1 (going-stops (lawful_in a.stepper.now.machine) a.stepper.now a.stepper.now.image.bytes.now a.steps a.work.now.store.now a.work.now.events.now a.work.now.header c.loop-made.invariant.0 c.loop-made-test.true _ refl
+      c.in-Err.stop (full_is (goal.at.returns-in-Err c).After-eq) (advances_as c.advance.ensures.0 c.in-Err.is)),
   search rules,
 )
 
