@@ -96,6 +96,7 @@ pub fn identifier(image: &Image<'_>, i: usize, at: usize) -> Identifier
 }
 
 // The type at a place of the record at index i.
+// (This and `binding` are for who asks for one part; a record that is read whole is read from one `offset`, in pass_records.)
 pub fn ty(image: &Image<'_>, i: usize, at: usize) -> Ty
     requires { (i < image.now.frame.count) × RoomIn image.now.frame i at (3 + image.now.frame.id) image.now.bytes.now }
     ensures { ReadsAs (type_bytes image.now.frame.id) (TypeOk image.now.frame.id) (record_bytes image.now.frame.id (record_of image.now i)) at result }
