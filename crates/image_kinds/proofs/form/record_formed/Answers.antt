@@ -1,4 +1,4 @@
-use Rattle.std.proofs.Common.{arith, sym, eqb-true, length, ◌<◌, ◌≡◌}
+use Rattle.std.proofs.Common.{arith, sym, eqb-true, length, ◌<◌}
 use Rattle.std.proofs.lemmas.Bool.Decides.{nat_tests}
 use Rattle.image_kinds.proofs.RecordStops.{formed-empty, formed}
 use Rattle.image_kinds.proofs.form.record_formed.Goals as goal
