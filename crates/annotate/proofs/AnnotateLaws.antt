@@ -55,7 +55,7 @@ use Rattle.annotate.specs.Annotating.{annotated_kind, Annotated, Limited, Settle
 
 -- ── by kind ──
 
-has-kind : (r : Record) → has_annotation_lem r ≡ annotated_kind (kind_of r)
+pub has-kind : (r : Record) → has_annotation_lem r ≡ annotated_kind (kind_of r)
 has-kind (definition x Γ) = refl
 has-kind (substitute ps) = refl
 has-kind (call x Γ) = refl

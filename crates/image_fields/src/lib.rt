@@ -1,7 +1,7 @@
 // The fields of an image: reading a number, and going past it.
 #![tactic(auto)]
 
-ghost use Rattle.std.specs.Prelude.{◌≡◌, true, ◌+◌, ◌≤◌, length, drop, Some};
+ghost use Rattle.std.specs.Prelude.{◌≡◌, true, ◌+◌, ◌≤◌, leb, length, drop, Some};
 ghost use Rattle.image_spec.specs.Parse.{got, number};
 ghost use Rattle.image_spec.specs.Fields.{binding};
 ghost use Rattle.image_fields.specs.Found.{stop};
@@ -26,6 +26,13 @@ pub fn number(bytes: &[u8], at: usize, w: usize) -> u32
     n
 }
 
+// Are there w bytes from `at` among `len`?
+pub fn room(len: usize, at: usize, w: usize) -> bool
+    ensures { result ≡ leb (at + w) len }
+{
+    at <= len && w <= len - at
+}
+
 // Past w bytes of any value.
 // (`bytes` and `at`, here and below: that each byte is below 256 is known of a parameter's bytes, not of a field's.)
 pub fn skip(bytes: &[u8], w: usize, at: usize) -> Option<usize>
@@ -41,7 +48,7 @@ pub fn skip(bytes: &[u8], w: usize, at: usize) -> Option<usize>
 fn short_binding(bytes: &[u8], w: usize, at: usize) -> bool
     ensures { result ≡ true → (at + 10 ≤ length bytes.now) × (stop (binding w) bytes.now at ≡ Some (at + 10)) }
 {
-    if w != 2 || bytes.len() < at || bytes.len() - at < 10 {
+    if w != 2 || !room(bytes.len(), at, 10) {
         return false;
     }
     if 2 < bytes[at + 4] {

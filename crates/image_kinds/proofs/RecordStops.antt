@@ -1,5 +1,5 @@
 -- Where the parser of a record stops, by kind, and when a record is formed. Assumes nothing.
-use Rattle.std.specs.Prelude.{Some, option_and_then}
+use Rattle.std.specs.Prelude.{Some, None, option_and_then}
 use Rattle.std.specs.Option.{option_eq}
 use Prim.Native.Nat.{ℕ, zero, suc, ◌-◌, ◌≤◌, ◌<◌}
 use mathlib.Core.List.{List, [], ◌∷◌}
@@ -18,7 +18,7 @@ use Rattle.image_spec.specs.Image.{is_some}
 use Rattle.image_spec.proofs.ParseLaws.{marked_exact}
 use Rattle.image_spec.proofs.FieldLaws.{operator_exact, sort_exact, newline_exact, integer_exact, identifier_exact, type_exact, list_exact}
 use Rattle.image_fields.specs.Found.{found_in, stop}
-use Rattle.image_fields.proofs.Stops.{stop-via, stop-both, stop-one_of, onward, alike}
+use Rattle.image_fields.proofs.Stops.{stop-via, stop-both, stop-one_of, never-stops, onward, alike}
 use Rattle.image_fields.proofs.FieldStops.{stop-integer}
 
 -- what follows the kind byte, by kind
@@ -100,6 +100,21 @@ pub ruleset record_stops = (stop1, stop2, stop3, stop4, stop5, stop6, stop7, sto
 -- past one more
 pub up : (a : ℕ) {b : ℕ} → a ≤ b → (b ≡ a → ⊥) → suc a ≤ b
 up a h n = omega arith
+
+-- behind a byte that is no kind
+pub content-none : (w k : ℕ) (s : List ℕ) (at : ℕ) → (0 < k → kinds ≤ k) → stop (content w k) s at ≡ None
+unfolding content contents
+content-none w zero s at h = never-stops ℕ Record s at
+content-none w (suc k) s at h =
+    let n : kinds ≤ suc k = h (omega arith) in
+    rw (get_or-eq_default (contents w) (λ _. refused) n) (never-stops ℕ Record s at)
+
+-- .. that is none of the thirteen
+pub content-other : (w k : ℕ) (s : List ℕ) (at : ℕ) → (k ≡ 1 → ⊥) → (k ≡ 2 → ⊥) → (k ≡ 3 → ⊥) → (k ≡ 4 → ⊥) → (k ≡ 5 → ⊥) → (k ≡ 6 → ⊥)
+    → (k ≡ 7 → ⊥) → (k ≡ 8 → ⊥) → (k ≡ 9 → ⊥) → (k ≡ 10 → ⊥) → (k ≡ 11 → ⊥) → (k ≡ 12 → ⊥) → (k ≡ 13 → ⊥) → stop (content w k) s at ≡ None
+content-other w k s at n1 n2 n3 n4 n5 n6 n7 n8 n9 n10 n11 n12 n13 =
+    content-none w k s at
+    (λ h. up 13 (up 12 (up 11 (up 10 (up 9 (up 8 (up 7 (up 6 (up 5 (up 4 (up 3 (up 2 (up 1 h n1) n2) n3) n4) n5) n6) n7) n8) n9) n10) n11) n12) n13)
 
 pub formed : (w : ℕ) (s : List ℕ) → 0 < length s → is_some (decode_record w s) ≡ option_eq eqb (stop (content w (get_or s 0 0)) s 1) (Some (length s))
 unfolding decode_record one_record stop

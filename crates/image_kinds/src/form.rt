@@ -54,6 +54,16 @@ pub fn skip_content(fields: &Fields<'_>, kind: Kind) -> Option<usize>
     }
 }
 
+// .. behind any byte; behind one that is no kind nothing is formed.
+pub fn skip_content_of(fields: &Fields<'_>, code: u8) -> Option<usize>
+    ensures { result ≡ stop (content fields.now.id code) fields.now.bytes.now 1 }
+{
+    match Kind::try_from(code) {
+        Ok(kind) => skip_content(fields, kind),
+        Err(_) => None,
+    }
+}
+
 // Are the bytes a record of a known kind, of exactly its length, with every count, code and mark in range, and I64's bytes zero?
 pub fn record_formed(fields: &Fields<'_>) -> bool
     ensures { result ≡ is_some (decode_record fields.now.id fields.now.bytes.now) }
@@ -62,9 +72,5 @@ pub fn record_formed(fields: &Fields<'_>) -> bool
     if bytes.is_empty() {
         return false;
     }
-    // (A `bool` is answered, so no `?`.)
-    let Ok(kind) = Kind::try_from(bytes[0]) else {
-        return false;
-    };
-    skip_content(fields, kind) == Some(bytes.len())
+    skip_content_of(fields, bytes[0]) == Some(bytes.len())
 }

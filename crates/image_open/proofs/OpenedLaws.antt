@@ -1,4 +1,5 @@
--- What an opened image is: reading accepts it, and its frame has the records of the program that it reads as (`opened-image`).
+-- What an opened image is: reading accepts it, and its frame has the records of the program that it reads as (`is-opened` of any bytes,
+-- `opened-image` of what code has opened).
 -- Assumes nothing.
 use Prim.Native.Nat.{ℕ}
 use mathlib.Core.List.{List, []}
@@ -64,7 +65,8 @@ frame-ready L s p k e =
       formed = a.yes4;
     }
 
-is-opened : (L : Layout) (s : List ℕ) (g : Frame) (D m : ℕ) → Known L → opened_of L s ≡ Ok (record { frame = g; definitions = D; max_id = m }) → IsOpened L s g D m
+-- .. of any bytes
+pub is-opened : (L : Layout) (s : List ℕ) (g : Frame) (D m : ℕ) → Known L → opened_of L s ≡ Ok (record { frame = g; definitions = D; max_id = m }) → IsOpened L s g D m
 unfolding opened_of records_in records_of
 is-opened L s g D m k e = go (reading L s) refl e
   where

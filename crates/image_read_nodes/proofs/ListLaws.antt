@@ -6,7 +6,7 @@ use mathlib.Core.List.{List, [], ◌∷◌, ◌++◌, append-nil, append_assoc}
 use native.Mathlib.Omega.{arith}
 use lib.ListN.{length, drop, get_or, length-append, length-drop, drop_of_length-le}
 use lib.Seq.{drop-drop, drop_at}
-use Rattle.syntax.specs.Context.{Context, ids}
+use Rattle.syntax.specs.Context.{Context, ids, empty_binding}
 use Rattle.syntax.specs.declared.names.VarId.{VarId}
 use Rattle.syntax.specs.declared.context.ContextBinding.{ContextBinding}
 use Rattle.syntax.proofs.Filters.{ids-length}
@@ -19,8 +19,10 @@ use Rattle.image_spec.proofs.KindLaws.{fixed_le}
 use Rattle.image_directory.specs.Slots.{Ready}
 use Rattle.image_directory.specs.declared.Frame.{Frame}
 use Rattle.image_read_parts.specs.Standing.{Stands}
-use Rattle.image_read_parts.proofs.StandingLaws.{byte-run, first_run, second_run, stands_in, stands-room}
-use Rattle.image_read_parts.specs.Parts.{list_of}
+use Rattle.image_read_parts.proofs.StandingLaws.{inner, byte-run, first_run, second_run, stands_in, stands-room}
+use Rattle.image_read_parts.specs.Parts.{list_of, HasList}
+use Rattle.image_read_parts.proofs.TailPlaces.{list_place}
+use Rattle.image_read_parts.proofs.NamedPlaces.{tail-list, list-ok}
 use Rattle.image_read_nodes.specs.Nodes.{has_list, ListAt, IsNext}
 use Rattle.image_kinds.specs.Codes.{code_of}
 use Rattle.image_read_parts.specs.Indexed.{record_at, At}
@@ -32,22 +34,25 @@ use Rattle.image_read_nodes.proofs.NodeLaws.{record_ok}
 no : {A : Type 0} → false ≡ true → A
 no e = let z : ◌≡◌ {A = ℕ} 0 1 = cc (e) in absurd (omega arith)
 
+-- a record of a kind that has a list has one
+kind-lists : (r : Record) → has_list (kind_of r) ≡ true → HasList r
+kind-lists (definition x Γ) a = tt
+kind-lists (substitute ps) a = no a
+kind-lists (call x Γ) a = tt
+kind-lists (let' v t h Γ) a = tt
+kind-lists (switch v t n) a = no a
+kind-lists (create v t e n) a = no a
+kind-lists (invoke v h t Γ) a = tt
+kind-lists (literal z v) a = no a
+kind-lists (op f o j v) a = no a
+kind-lists (ifc c f j) a = no a
+kind-lists (clause' x Γ) a = tt
+kind-lists (print n v) a = no a
+kind-lists (exit v) a = no a
+
 module _ (w : ℕ) where
   list-tail : (r : Record) → has_list (kind_of r) ≡ true → RecordOk w r → (tail_bytes w r ≡ list_bytes w (list_of r)) × ListOk w (list_of r)
-  unfolding RecordOk
-  list-tail (definition x Γ) a ok = (refl, ok.1)
-  list-tail (substitute ps) a ok = no a
-  list-tail (call x Γ) a ok = (refl, ok.1)
-  list-tail (let' v t h Γ) a ok = (refl, ok.1.1.1)
-  list-tail (switch v t n) a ok = no a
-  list-tail (create v t e n) a ok = no a
-  list-tail (invoke v h t Γ) a ok = (refl, ok.1.1.1)
-  list-tail (literal z v) a ok = no a
-  list-tail (op f o j v) a ok = no a
-  list-tail (ifc c f j) a ok = no a
-  list-tail (clause' x Γ) a ok = (refl, ok.1)
-  list-tail (print n v) a ok = no a
-  list-tail (exit v) a ok = no a
+  list-tail r a ok = let h = kind-lists r a in (tail-list w r h, list-ok w r ok h)
 
   pub list-stands : (r : Record) (k : ℕ) → kind_of r ≡ k → has_list k ≡ true → RecordOk w r → Stands (list_bytes w) (ListOk w) (record_bytes w r) (fixed w k) (list_of r)
   list-stands r k e h ok =
@@ -121,6 +126,11 @@ module _ (w : ℕ) where
 
   pub list-placed : {s : List ℕ} {at : ℕ} {Γ : Context} (j : ℕ) → Stands (list_bytes w) (ListOk w) s at Γ → j < length Γ → Placed s (at + (1 + j * (6 + (w + w)))) Γ j
   list-placed {s} {at} {Γ} j h k = run-placed Γ j (at + 1) _ (omega arith) k (list-run h).run
+
+  -- .. whole
+  pub binding_in : {s : List ℕ} {at : ℕ} {Γ : Context} (j : ℕ) → Stands (list_bytes w) (ListOk w) s at Γ → j < length Γ
+      → Stands (binding_bytes w) (BindingOk w) s (at + (1 + j * (6 + (w + w)))) (get_or Γ j empty_binding)
+  binding_in {s} {at} {Γ} j h k = inner (6 + (w + w)) (binding-length w (get_or Γ j empty_binding)) (omega arith) h (list_place w Γ j empty_binding k h.fits)
 
 -- the list of the record at an index
 module _ (g : Frame) (s : List ℕ) (i : ℕ) where

@@ -1,8 +1,8 @@
 // A record of an image that was opened: what follows it, its list, and its identifiers.
 #![tactic(auto)]
 
-ghost use Rattle.std.specs.Prelude.{◌≡◌, true, ◌<◌, length};
-ghost use Rattle.syntax.specs.Context.{ids};
+ghost use Rattle.std.specs.Prelude.{◌≡◌, true, ◌<◌, length, get_or};
+ghost use Rattle.syntax.specs.Context.{ids, empty_binding};
 ghost use Rattle.syntax.specs.Options.{option_of};
 ghost use Rattle.image_read_parts.specs.Parts.{list_of};
 ghost use Rattle.image_read_nodes.specs.Nodes.{Followed, has_list, ListAt, IsNext, first_at, first_of, operand_of, target_of, second_of};
@@ -13,8 +13,9 @@ ghost use Rattle.image_kinds.specs.declared.kinds.Kind.TheVariants.{Substitute, 
 use image_directory::image::Image;
 use image_kinds::kinds::Kind;
 use image_read_parts::record::RecordAt;
-use image_read_parts::{byte, identifier, identifier_at, offset};
+use image_read_parts::{binding_at, byte, identifier, identifier_at, offset};
 use image_shape::look;
+use syntax::context::ContextBinding;
 use syntax::names::{Identifier, VarId};
 
 // The kind of a record, and what follows it: clauses, then bodies.
@@ -76,6 +77,19 @@ pub fn list_id(list: &Bindings<'_>, j: usize) -> VarId
     let fields = node.image.fields();
     let w = fields.id;
     identifier_at(&fields, list.start + (1 + j * (6 + (w + w)))).id
+}
+
+// The whole binding at place j of a list.
+// (For who wants its name, chirality or type too: the loops of questions 9, 10 and 13 read IDs alone, by `list_id`.)
+pub fn list_binding(list: &Bindings<'_>, j: usize) -> ContextBinding
+    requires { j < length (list_of (record_in list.now.node.now)) }
+    ensures { result ≡ get_or (list_of (record_in list.now.node.now)) j empty_binding }
+{
+    let node = list.node;
+    let fields = node.image.fields();
+    let w = fields.id;
+    let at = 1 + j * (6 + (w + w));
+    binding_at(&fields, list.start + at)
 }
 
 fn first_at(kind: Kind) -> usize

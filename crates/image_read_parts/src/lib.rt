@@ -94,3 +94,20 @@ pub fn identifier(image: &Image<'_>, i: usize, at: usize) -> Identifier
 {
     identifier_at(&image.fields(), offset(image, i) + at)
 }
+
+// The type at a place of the record at index i.
+// (This and `binding` are for who asks for one part; a record that is read whole is read from one `offset`, in pass_records.)
+pub fn ty(image: &Image<'_>, i: usize, at: usize) -> Ty
+    requires { (i < image.now.frame.count) × RoomIn image.now.frame i at (3 + image.now.frame.id) image.now.bytes.now }
+    ensures { ReadsAs (type_bytes image.now.frame.id) (TypeOk image.now.frame.id) (record_bytes image.now.frame.id (record_of image.now i)) at result }
+{
+    type_at(&image.fields(), offset(image, i) + at)
+}
+
+// The binding at a place of the record at index i.
+pub fn binding(image: &Image<'_>, i: usize, at: usize) -> ContextBinding
+    requires { (i < image.now.frame.count) × RoomIn image.now.frame i at (6 + (image.now.frame.id + image.now.frame.id)) image.now.bytes.now }
+    ensures { ReadsAs (binding_bytes image.now.frame.id) (BindingOk image.now.frame.id) (record_bytes image.now.frame.id (record_of image.now i)) at result }
+{
+    binding_at(&image.fields(), offset(image, i) + at)
+}

@@ -31,7 +31,7 @@ abbrev node : Kind → ℕ → Node
 node k c = record { kind = k; clauses = c }
 
 -- the node of the record at a place of an image, by its kind
-spot_node : {g : Frame} {s : List ℕ} {i : ℕ} {v : Slot} → Spot g s i v → (k : Kind) → code_of k ≡ get_or s v.offset 0
+pub spot_node : {g : Frame} {s : List ℕ} {i : ℕ} {v : Slot} → Spot g s i v → (k : Kind) → code_of k ≡ get_or s v.offset 0
     → node_of (drop i (records_in g s))
     ≡ Some (record { kind = k; clauses = cond (eqb (code_of k) 5) (get_or s (v.offset + v.size - 1) 0) (cond (eqb (code_of k) 6) (get_or s (v.offset + v.size - 1) 0) 0) })
 spot_node {s = s} {v = v} t k e =

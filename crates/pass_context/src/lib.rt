@@ -156,7 +156,7 @@ impl Held {
         } else {
             back.bindings[i - k]
         };
-        a.binding() == b.binding()
+        a.binding().same(b.binding())
     }
 
     // Are the bindings those of the two contexts, one behind the other? No `==`: the two sides are of different types, and the right one is two.

@@ -78,12 +78,12 @@ not_kind r other h n e = n (same_code _ other (sym h ∙ e))
 
 -- ── over all records ──
 
-all-step : (f : Record → Bool) (rs : List Record) (i : ℕ) → i < length rs → all_records_lem f (drop i rs) ≡ f (head_of (drop i rs)) && all_records_lem f (drop (i + 1) rs)
+pub all-step : (f : Record → Bool) (rs : List Record) (i : ℕ) → i < length rs → all_records_lem f (drop i rs) ≡ f (head_of (drop i rs)) && all_records_lem f (drop (i + 1) rs)
 all-step f rs i h =
     let d : Record = head_of [] in
     rw (add-one, drop-cons rs i d h) refl
 
-all_end : (f : Record → Bool) (rs : List Record) (i : ℕ) → length rs ≤ i → all_records_lem f (drop i rs) ≡ true
+pub all_end : (f : Record → Bool) (rs : List Record) (i : ℕ) → length rs ≤ i → all_records_lem f (drop i rs) ≡ true
 all_end f rs i h = go (drop i rs) (omega (arith, length-drop i rs))
   where
     go : (l : List Record) → length l ≡ 0 → all_records_lem f l ≡ true

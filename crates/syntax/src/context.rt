@@ -1,6 +1,6 @@
 // context.rs: typing contexts, up to 64 bindings in an order.
 ghost use Rattle.std.specs.Prelude.{◌≡◌, ◌∷◌, [], ◌++◌, ◌≤◌, ◌<◌, ◌^◌, length};
-ghost use Rattle.syntax.specs.Context.{empty_binding};
+ghost use Rattle.syntax.specs.Context.{same_binding, empty_binding};
 ghost use Rattle.syntax.specs.Fresh.{fresh, drawn, freshen};
 ghost use Rattle.syntax.specs.Flat.{binding_of};
 
@@ -66,6 +66,13 @@ impl ContextBinding {
             chi: Chirality::Prd,
             ty: Ty::I64,
         }
+    }
+
+    // (What a derived `==` answers has no name of ours; this says it, and callers that prove something of it call this.)
+    pub fn same(self, other: ContextBinding) -> bool
+        ensures { result ≡ same_binding self other }
+    {
+        self.var == other.var && (self.chi == other.chi && self.ty == other.ty)
     }
 
     // (A method and no `From`, and `binding` so: they end chains, as `used_binding(e, b.binding()).flat()`, and `from` would turn these inside out.)

@@ -71,6 +71,13 @@ impl FlatPair {
             declared: target.declared,
         }
     }
+
+    // The pair that it stands for. (`From` by name, beside `of`.)
+    pub fn pair(self) -> Pair
+        ensures { result ≡ pair_of self }
+    {
+        Pair::from(self)
+    }
 }
 
 impl From<FlatPair> for Pair {

@@ -1,9 +1,8 @@
 -- `Held::same_at` meets its contract. Assumes nothing.
-use mathlib.Core.Path.{◌≡◌, sym, ap, ap₂, ◌∙◌}
+use mathlib.Core.Path.{◌≡◌, ap, ap₂, ◌∙◌}
 use mathlib.Core.List.{◌++◌}
-use Prim.Native.Nat.{◌+◌, ◌-◌}
+use Prim.Native.Nat.{◌-◌}
 use native.Mathlib.Omega.{arith}
-use borrow.Author.Rules.{rules}
 use lib.ListN.{get_or}
 use Rattle.syntax.specs.Context.{empty_binding, same_binding}
 use Rattle.syntax.specs.Flat.{binding_of, empty_flat}
@@ -33,5 +32,4 @@ returns c =
       | else-i-k w ↦ rw w.b-is (seen_at binding_of back.bindings (i - k) empty_flat ∙ taken-right (bindings_in front) k i empty_binding fits (bindings_in back) back.len w.if-i-k.false (omega arith))
     ]
     in
-    let found : c.eq.result ≡ same_binding c.binding.result c.binding-2.result = search rules in
-    found ∙ ap₂ same_binding one other
+    c.same.ensures ∙ ap₂ same_binding one other
