@@ -32,7 +32,10 @@ fn add_list(list: &Bindings<'_>, set: IdSet) -> IdSet
 {
     let mut all = set;
     for j in 0..list_count(list) {
-        all = all.add(list_id(list, j));
+        // (In its place, as in `TypingContext::freshen`: `add` gives a new set of 520 bytes.)
+        let id = list_id(list, j);
+        all.ids[all.len] = id;
+        all.len += 1;
     }
     all
 }

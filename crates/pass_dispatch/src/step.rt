@@ -1,6 +1,6 @@
 // The statement at hand, by its kind.
 // (A function for each statement, in its file of the Rust's name, and no trait over them: each asks of its own kind.)
-ghost use Rattle.std.specs.Prelude.{length};
+ghost use Rattle.std.specs.Prelude.{ℕ, length};
 ghost use Rattle.image_kinds.specs.Codes.{code_of};
 ghost use Rattle.image_places_spec.specs.Views.{binders};
 ghost use Rattle.image_read_parts.specs.Recorded.{record_in};
@@ -63,10 +63,11 @@ pub fn proceed(
     }
 }
 
-// The step of a statement that leaves the context as it is, and has no clauses: Call, Invoke, IfC or Exit.
+// The step of a statement that leaves the context as it is, and has no clauses: Call, Invoke, IfC or Exit. It looks at neither mask, so it is the
+// step for every two.
 pub fn settle(source: &SourceRecord<'_>, here: &Working, output: &mut Output<'_, '_>)
     requires { Settles (code_of source.now.node.kind) × (Workable here.now.context here.now.in_scope 0 × RoomAt (so_far output.old)) }
-    ensures { LeavesFor output.old output.new (record_in source.now.node) 0 0 here.now }
+    ensures { (clauses next : ℕ) → LeavesFor output.old output.new (record_in source.now.node) clauses next here.now }
 {
     match source.node.kind {
         Kind::Call => call::linearize(source, here, output),

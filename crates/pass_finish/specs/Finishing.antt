@@ -13,6 +13,7 @@ use Rattle.image_open.specs.Opening.{Known}
 use Rattle.image_write_parts.specs.declared.writer.Writer.{Writer}
 use Rattle.image_write_directory.specs.Emitting.{Emits, entries_from, total, Progress}
 use Rattle.scope_spec.specs.Calls.{Reply, writes, reply_if_yes, Replies}
+use Rattle.pass_finish.specs.declared.Noted.{Noted}
 
 -- document 01, questions 11 and 12 of the program that linearization gives, and its image
 unfoldable pub closing : Layout → Prog → (size : ℕ) → Reply
@@ -29,6 +30,10 @@ heading L d m n sizes = header_bytes L (L.number, (d, (m, n))) ++ each (entry_by
 pub record Clears (q : Refusal) (r : Answer) (before after : List ℕ) : Type 0 where
   pub answer : r ≡ Err q
   pub buffer : after ≡ replicate (length before) 0
+
+-- how far a writer has come, by what was noted
+abbrev pub progress_of : Writer → Noted → Progress
+progress_of w n = record { at = w.at; count = n.count; max_id = n.max_id }
 
 -- the writer's buffer is the same one, and IDs have as many bytes
 pub record Same (w w' : Writer) : Type 0 where

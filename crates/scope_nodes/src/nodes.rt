@@ -11,20 +11,21 @@ ghost use Rattle.scope_spec.specs.Walk.{enter_all};
 ghost use Rattle.image_read_parts.specs.Parts.{list_of};
 ghost use Rattle.image_read_parts.specs.Recorded.{record_in};
 ghost use Rattle.image_read_nodes.specs.Nodes.{second_of};
-ghost use Rattle.scope_places.specs.Scoping.{scope_of, used_all_lem, scoped_of, Entered};
+ghost use Rattle.scope_places.specs.Scoping.{used_all_lem, scoped_of, Entered};
+ghost use Rattle.scope_places.specs.Views.{viewed};
 
 use image_kinds::kinds::Kind;
 use image_read_nodes::{Bindings, first, list_at, list_count, list_id, operand, second, target};
 use image_read_parts::record::RecordAt;
-use scope_places::scope::InScope;
+use scope_places::scope::{InScope, ScopeView};
 use scope_places::scoping::{Using, enter_one, use_one};
 use scope_spec::Verdict;
 
 // Uses the bindings of a record's list.
 // (Loops over places, here and below: the list is bytes of the image, so there is no slice of bindings to iterate. Two functions, and a third in
 // `annotate_uses`: a use looks at the scope, a binder changes it, and a set is neither; one function would take what is done as a closure with a contract.)
-pub fn use_list(list: &Bindings<'_>, scope: &InScope<'_>, u: Using) -> Using
-    ensures { result ≡ used_all_lem (scope_of scope.now) (ids (list_of (record_in list.now.node.now))) u }
+pub fn use_list(list: &Bindings<'_>, scope: &ScopeView<'_>, u: Using) -> Using
+    ensures { result ≡ used_all_lem (viewed scope.now) (ids (list_of (record_in list.now.node.now))) u }
 {
     let mut used = u;
     for j in 0..list_count(list) {
@@ -35,9 +36,9 @@ pub fn use_list(list: &Bindings<'_>, scope: &InScope<'_>, u: Using) -> Using
 
 // Uses the second operand of an IfC, if there is one.
 #[tactic(auto, using(scope_places::proofs::UseLaws::used_none))]
-fn use_second(node: &RecordAt<'_>, scope: &InScope<'_>, u: Using) -> Using
+fn use_second(node: &RecordAt<'_>, scope: &ScopeView<'_>, u: Using) -> Using
     requires { node.now.kind ≡ IfC }
-    ensures { result ≡ used_all_lem (scope_of scope.now) (optional_id (second_of (record_in node.now))) u }
+    ensures { result ≡ used_all_lem (viewed scope.now) (optional_id (second_of (record_in node.now))) u }
 {
     match second(node) {
         Some(x) => use_one(scope, x.id, u),
@@ -47,8 +48,8 @@ fn use_second(node: &RecordAt<'_>, scope: &InScope<'_>, u: Using) -> Using
 
 // Uses what the record uses.
 #[tactic(auto, using(scope_places::proofs::UseLaws::used_none, scope_places::proofs::UseLaws::used_then))]
-pub fn use_node(node: &RecordAt<'_>, scope: &InScope<'_>, u: Using) -> Using
-    ensures { result ≡ used_all_lem (scope_of scope.now) (uses_of (record_in node.now)) u }
+pub fn use_node(node: &RecordAt<'_>, scope: &ScopeView<'_>, u: Using) -> Using
+    ensures { result ≡ used_all_lem (viewed scope.now) (uses_of (record_in node.now)) u }
 {
     match node.kind {
         Kind::Call | Kind::Let => use_list(&list_at(node), scope, u),

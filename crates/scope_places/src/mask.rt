@@ -4,9 +4,9 @@ ghost use Rattle.std.specs.Int.Bits.{bit_or};
 ghost use Rattle.std.proofs.lemmas.List.Edits.{sets};
 ghost use Rattle.scope_spec.specs.FreeRows.{mask_of};
 ghost use Rattle.scope_spec.specs.Pairs.{masks_of};
-ghost use Rattle.scope_places.specs.Scoping.{scope_of};
+ghost use Rattle.scope_places.specs.Views.{viewed};
 
-use crate::scope::InScope;
+use crate::scope::ScopeView;
 use scope_spec::FreeVars;
 use syntax::context::TypingContext;
 use syntax::names::VarId;
@@ -14,8 +14,8 @@ use syntax::names::VarId;
 // The places in scope at which an ID stands.
 // (A loop: the mask so far, and its bound, would be a `fold`'s invariant, as they are the loop's. By index: of IDs that are taken from the last one down a
 // proof knows how many came, and would find the place from that again.)
-pub fn mask_one(scope: &InScope<'_>, id: VarId) -> u64
-    ensures { result ≡ mask_of (id ∷ []) (scope_of scope.now) }
+pub fn mask_one(scope: &ScopeView<'_>, id: VarId) -> u64
+    ensures { result ≡ mask_of (id ∷ []) (viewed scope.now) }
 {
     let mut mask = 0;
     for i in (0..scope.n).rev() {

@@ -3,9 +3,10 @@ ghost use Rattle.std.specs.Prelude.{◌≡◌, ◌∷◌, []};
 ghost use Rattle.syntax.specs.Sets.{elem};
 ghost use Rattle.scope_spec.specs.Walk.{enter_one_lem};
 ghost use Rattle.scope_places.specs.Scoping.{scope_of, used_all_lem, scoped_of, Entered};
+ghost use Rattle.scope_places.specs.Views.{viewed};
 
 use crate::mask::mask_one;
-use crate::scope::InScope;
+use crate::scope::{InScope, ScopeView};
 use scope_spec::Verdict;
 use syntax::context::TypingContext;
 use syntax::names::VarId;
@@ -25,8 +26,8 @@ fn contains(scope: &InScope<'_>, id: VarId) -> bool
 }
 
 // A variable is used.
-pub fn use_one(scope: &InScope<'_>, id: VarId, u: Using) -> Using
-    ensures { result ≡ used_all_lem (scope_of scope.now) (id ∷ []) u }
+pub fn use_one(scope: &ScopeView<'_>, id: VarId, u: Using) -> Using
+    ensures { result ≡ used_all_lem (viewed scope.now) (id ∷ []) u }
 {
     let one = mask_one(scope, id);
     let uses = u.verdict.uses && one != 0;

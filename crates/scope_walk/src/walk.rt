@@ -69,7 +69,7 @@ pub fn statement(
         verdict: v,
     };
     let n = scope.n;
-    let own = use_node(&node, scope, start);
+    let own = use_node(&node, &scope.view(), start);
     let c = clauses(
         walkable,
         depth - 1,

@@ -4,7 +4,7 @@ use mathlib.Core.Path.{◌≡◌, refl, sym, ap, ◌∙◌, subst}
 use native.Mathlib.Omega.{arith}
 use mathlib.Core.Logic.{inr}
 use mathlib.Core.List.{List}
-use lib.ListN.{length}
+use lib.ListN.{length, get_or}
 use Rattle.image_places_spec.proofs.Steps.{body-next, clause-next}
 use Rattle.image_spec.specs.Records.{Record}
 use Rattle.image_spec.specs.Kinds.{bodies}
@@ -12,11 +12,12 @@ use Rattle.image_kinds.specs.Codes.{code_of}
 use Rattle.image_directory.specs.declared.Frame.{Frame}
 use Rattle.image_places_spec.specs.Views.{binders}
 use Rattle.image_write_directory.proofs.EmitLaws.{keeps_then}
+use Rattle.scope_spec.proofs.PairLaws.{no_masks}
 use Rattle.pass_records.proofs.ListPlaces.{at-made}
 use Rattle.pass_step.specs.Stepping.{SourceAt}
 use Rattle.pass_step.proofs.StepLaws.{source_as}
 use Rattle.pass_dispatch.specs.Choices.{HasClauses, Settles}
-use Rattle.pass_dispatch.proofs.DispatchLaws.{leaves_as, settled-leaves}
+use Rattle.pass_dispatch.proofs.DispatchLaws.{leaves_as}
 use Rattle.pass_walk.proofs.LoopSteps.{first_body, body-done, bodies-done, clause-source, clause-workable, clause-room, clause-body, clause-done, clauses-done, one-body, one-body-done}
 use Rattle.pass_walk.proofs.SourceLaws.{source-at, has-clauses, a-create, a-switch, no-create}
 use Rattle.pass_walk.proofs.LeaveLaws.{leaves_stay, switch-opened}
@@ -246,10 +247,11 @@ pub statement-returns-then-parts-eq0 : goal.statement-returns-then-parts-eq0
 statement-returns-then-parts-eq0 t c =
     let h = c.requires in
     let f = c.parts_of-parts.ensures in
-    let s = c.settle.ensures in
+    let row = get_or c.args.source.now.rows.now c.args.i no_masks in
+    let s = c.settle.ensures row.clauses row.next in
     let e = straight h f.at.kind (sym c.has_clauses.ensures ∙ c.if-has_clauses.false) in
     let x = settling-here h f.at.kind (sym c.has_clauses.ensures ∙ c.if-has_clauses.false) (sym c.proceeds.ensures ∙ c.if-proceeds.false) in
-    let l = leaves_stay c.args.here.now.context x.none x.other (settled-leaves x.settles s.0) in
+    let l = leaves_stay c.args.here.now.context x.none x.other s.0 in
     let r = reached-straight h e (l.steps _ _ (say_clauses c.args.source.now.rows.now h) (say_next c.args.source.now.rows.now h)) in
     (statement-ended h (below h f (next-straight h f.clauses e)) r (no-bodies c.if-parts-eq0.true _ _ _), s.1)
 
@@ -260,10 +262,11 @@ pub statement-bodies-requires : goal.statement-bodies-requires
 statement-bodies-requires t c =
     let h = c.requires in
     let f = c.parts_of-parts.ensures in
-    let s = c.settle.ensures in
+    let row = get_or c.args.source.now.rows.now c.args.i no_masks in
+    let s = c.settle.ensures row.clauses row.next in
     let e = straight h f.at.kind (sym c.has_clauses.ensures ∙ c.if-has_clauses.false) in
     let x = settling-here h f.at.kind (sym c.has_clauses.ensures ∙ c.if-has_clauses.false) (sym c.proceeds.ensures ∙ c.if-proceeds.false) in
-    let l = leaves_stay c.args.here.now.context x.none x.other (settled-leaves x.settles s.0) in
+    let l = leaves_stay c.args.here.now.context x.none x.other s.0 in
     let r = reached-straight h e (l.steps _ _ (say_clauses c.args.source.now.rows.now h) (say_next c.args.source.now.rows.now h)) in
     (omega (arith, deep h f), rw (s.1.id) (bodies-ahead h (below h f (next-straight h f.clauses e)) r))
 
@@ -271,10 +274,11 @@ pub statement-returns : goal.statement-returns
 statement-returns t c =
     let h = c.requires in
     let f = c.parts_of-parts.ensures in
-    let s = c.settle.ensures in
+    let row = get_or c.args.source.now.rows.now c.args.i no_masks in
+    let s = c.settle.ensures row.clauses row.next in
     let w = c.bodies.ensures in
     let e = straight h f.at.kind (sym c.has_clauses.ensures ∙ c.if-has_clauses.false) in
     let x = settling-here h f.at.kind (sym c.has_clauses.ensures ∙ c.if-has_clauses.false) (sym c.proceeds.ensures ∙ c.if-proceeds.false) in
-    let l = leaves_stay c.args.here.now.context x.none x.other (settled-leaves x.settles s.0) in
+    let l = leaves_stay c.args.here.now.context x.none x.other s.0 in
     let r = reached-straight h e (l.steps _ _ (say_clauses c.args.source.now.rows.now h) (say_next c.args.source.now.rows.now h)) in
     (statement-done h (below h f (next-straight h f.clauses e)) r (linearized-width s.1.id w.0), keeps_then s.1 w.1)

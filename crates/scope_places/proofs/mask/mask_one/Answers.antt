@@ -7,7 +7,7 @@ use lib.Dec.{eqb}
 use lib.ListN.{get_or, drop_of_length-le}
 use Rattle.scope_spec.specs.FreeRows.{mask_of}
 use Rattle.scope_spec.proofs.RowLaws.{mask_empty}
-use Rattle.scope_places.specs.Scoping.{scope_of}
+use Rattle.scope_places.specs.Views.{viewed}
 use Rattle.scope_places.proofs.EnterLaws.{scope-count}
 use Rattle.scope_places.proofs.MaskLaws.{bit_small, from-small, from_more}
 use Rattle.scope_places.proofs.mask.mask_one.Goals as goal
@@ -15,7 +15,7 @@ use Rattle.scope_places.proofs.mask.mask_one.Goals as goal
 pub loop-i-init : goal.loop-i-init
 loop-i-init c =
     let a = c.args in
-    let e = drop_of_length-le (scope_of a.scope.now) {i = a.scope.now.n} (omega (arith, scope-count c.args.scope.now.fits)) in
+    let e = drop_of_length-le (viewed a.scope.now) {i = a.scope.now.n} (omega (arith, scope-count c.args.scope.now.fits)) in
     sym (ap (mask_of (a.id ∷ [])) e ∙ mask_empty (a.id ∷ []))
 
 pub overflow_mul-mask : goal.overflow_mul-mask

@@ -2,7 +2,7 @@
 use mathlib.Core.Path.{◌≡◌, ◌∙◌}
 use mathlib.Core.Bool.{not, ◌&&◌}
 use lib.Dec.{eqb}
-use Rattle.scope_places.specs.Scoping.{scope_of}
+use Rattle.scope_places.specs.Views.{viewed}
 use Rattle.scope_places.proofs.UseLaws.{used-one}
 use Rattle.scope_places.proofs.scoping.use_one.Goals as goal
 use Rattle.scope_places.proofs.scoping.use_one.Goals.{then-u, else-u}
@@ -14,4 +14,4 @@ returns c =
       | then-u w ↦ rw w.if-u.true w.uses-is
       | else-u w ↦ rw w.if-u.false (w.uses-is ∙ w.if-u.false)
     ] in
-    used-one (scope_of a.scope.now) a.id a.u c.mask_one-one.ensures e
+    used-one (viewed a.scope.now) a.id a.u c.mask_one-one.ensures e

@@ -94,7 +94,7 @@ pub statement-returns : goal.statement-returns
 statement-returns t c =
     let a = c.args in
     let f = c.parts_of-f.ensures in
-    let u = c.use_node-own.ensures in
+    let u = rw c.view.ensures at c.use_node-own.ensures in
     let k = c.clauses-c.ensures in
     let e = c.enter_node-bound in
     let w = c.bodies-b.ensures in
