@@ -1,5 +1,5 @@
 -- Where the parser of a record stops, by kind, and when a record is formed. Assumes nothing.
-use Rattle.std.specs.Prelude.{Some, option_and_then}
+use Rattle.std.specs.Prelude.{Some, None, option_and_then}
 use Rattle.std.specs.Option.{option_eq}
 use Prim.Native.Nat.{ℕ, zero, suc, ◌-◌, ◌≤◌, ◌<◌}
 use mathlib.Core.List.{List, [], ◌∷◌}
@@ -13,12 +13,14 @@ use Rattle.image_spec.specs.Parse.{Parsed, refused, got, Parser, both, code, num
 use Rattle.image_spec.specs.Fields.{max_count, newlines, integer, identifier, type, pair, list}
 use Rattle.syntax.specs.Codes.{operators, sorts}
 use Rattle.image_spec.specs.Records.{Record, contents, content, one_record, decode_record}
-use Rattle.image_spec.specs.Kinds.{kinds}
+use Rattle.image_spec.specs.Kinds.{kinds, fixed}
 use Rattle.image_spec.specs.Image.{is_some}
-use Rattle.image_spec.proofs.ParseLaws.{marked_exact}
+use Rattle.image_spec.proofs.ParseLaws.{marked_exact, whole_case}
 use Rattle.image_spec.proofs.FieldLaws.{operator_exact, sort_exact, newline_exact, integer_exact, identifier_exact, type_exact, list_exact}
+use Rattle.image_spec.proofs.RecordLaws.{record_exact}
+use Rattle.image_spec.proofs.KindLaws.{kind-first, fixed_le}
 use Rattle.image_fields.specs.Found.{found_in, stop}
-use Rattle.image_fields.proofs.Stops.{stop-via, stop-both, stop-one_of, onward, alike}
+use Rattle.image_fields.proofs.Stops.{stop-via, stop-both, stop-one_of, never-stops, onward, alike}
 use Rattle.image_fields.proofs.FieldStops.{stop-integer}
 
 -- what follows the kind byte, by kind
@@ -101,6 +103,14 @@ pub ruleset record_stops = (stop1, stop2, stop3, stop4, stop5, stop6, stop7, sto
 pub up : (a : ℕ) {b : ℕ} → a ≤ b → (b ≡ a → ⊥) → suc a ≤ b
 up a h n = omega arith
 
+pub content-other : (w k : ℕ) (s : List ℕ) (at : ℕ) → (k ≡ 1 → ⊥) → (k ≡ 2 → ⊥) → (k ≡ 3 → ⊥) → (k ≡ 4 → ⊥) → (k ≡ 5 → ⊥) → (k ≡ 6 → ⊥)
+    → (k ≡ 7 → ⊥) → (k ≡ 8 → ⊥) → (k ≡ 9 → ⊥) → (k ≡ 10 → ⊥) → (k ≡ 11 → ⊥) → (k ≡ 12 → ⊥) → (k ≡ 13 → ⊥) → stop (content w k) s at ≡ None
+unfolding content contents
+content-other w zero s at n1 n2 n3 n4 n5 n6 n7 n8 n9 n10 n11 n12 n13 = never-stops ℕ Record s at
+content-other w (suc k) s at n1 n2 n3 n4 n5 n6 n7 n8 n9 n10 n11 n12 n13 =
+    let h : kinds ≤ suc k = up 13 (up 12 (up 11 (up 10 (up 9 (up 8 (up 7 (up 6 (up 5 (up 4 (up 3 (up 2 (up 1 (omega arith) n1) n2) n3) n4) n5) n6) n7) n8) n9) n10) n11) n12) n13 in
+    rw (get_or-eq_default (contents w) (λ _. refused) h) (never-stops ℕ Record s at)
+
 pub formed : (w : ℕ) (s : List ℕ) → 0 < length s → is_some (decode_record w s) ≡ option_eq eqb (stop (content w (get_or s 0 0)) s 1) (Some (length s))
 unfolding decode_record one_record stop
 formed w [] h = absurd (omega arith)
@@ -121,6 +131,13 @@ formed-other w (zero ∷ l) h = refl
 formed-other w (suc k ∷ l) h =
     let n : kinds ≤ suc k = h (omega arith) in
     rw (get_or-eq_default (contents w) (λ _. refused) n)
+
+-- fewer bytes than the fixed part of the kind
+pub formed-short : (w : ℕ) (s : List ℕ) → length s < fixed w (get_or s 0 0) → is_some (decode_record w s) ≡ false
+unfolding decode_record
+formed-short w s h =
+    whole_case (λ o. is_some o ≡ false) ((record_exact w).right s) refl
+    (λ r ok e. absurd (omega (arith, h, fixed_le w r, ap length e, ap (λ l. fixed w (get_or l 0 0)) e ∙ ap (fixed w) (kind-first w r))))
 
 pub formed-empty : (w : ℕ) (s : List ℕ) → length s ≡ 0 → is_some (decode_record w s) ≡ false
 unfolding decode_record one_record
