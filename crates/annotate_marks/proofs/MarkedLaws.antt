@@ -57,6 +57,9 @@ id_bytes w xs = each (λ (x : VarId). field w x.0) xs
 pub record Ends (w : ℕ) (row out₀ : List ℕ) (at : ℕ) (out : List ℕ) (here i : ℕ) : Type 0 where
   pub ends : (o : List ℕ) (n : ℕ) → Puts out o here n (id_bytes w (marked_from i (drop i row))) → Puts out₀ o at n (id_bytes w (marked_from 0 row))
 
+pub ends-all : (w : ℕ) (row out : List ℕ) (at : ℕ) → Ends w row out at out at 0
+ends-all w row out at = record { ends = λ o n p. p }
+
 pub ends_none : {w : ℕ} {row out₀ : List ℕ} {at : ℕ} {out : List ℕ} {here i : ℕ} → Ends w row out₀ at out here i → i < length row → get_or row i 0 ≡ 0
     → Ends w row out₀ at out here (i + 1)
 ends_none {w} {row} {out₀} {at} {out} {here} {i} e h z = record {

@@ -209,3 +209,6 @@ spot g s i v h t q = go (seen g s i h t)
 -- the directory is small
 pub place-small : (i p : ℕ) → i ≤ 4000 → p ≤ 4 → i * (p + p) ≤ 32000
 place-small i p a b = let h : p + p ≤ 8 = omega arith in mul-le-mul a h
+
+pub no_short : (g : Frame) (s : List ℕ) (i : ℕ) → Ready g s → i < g.count → slot_at g.place (g.from + i * (g.place + g.place)) s ≡ None → ⊥
+no_short g s i h t q = let v = seen g s i h t in absurd (cc (v.slot, q))

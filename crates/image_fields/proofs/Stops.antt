@@ -139,6 +139,13 @@ pub number_step : (s : List ℕ) → ((i : ℕ) → get_or s i 0 ≤ 255) → (k
     → number k (drop (suc at) s) ≡ got n m → number (suc k) (drop at s) ≡ got v m
 number_step s b k at n v m h q e = rw (drop-cons s at 0 h, le-leb _ _ (b at), e, q)
 
+-- a number of two bytes
+pub number-pair : (s : List ℕ) → ((i : ℕ) → get_or s i 0 ≤ 255) → (at : ℕ) → at + 2 ≤ length s
+    → number 2 (drop at s) ≡ got (get_or s at 0 + 256 * get_or s (at + 1) 0) (drop (at + 2) s)
+number-pair s b at h =
+    let p : at + 2 ≡ suc (suc at) = omega arith in
+    rw (p, add-one) (number_step s b 1 at (get_or s (suc at) 0) _ _ (omega arith) refl (number_step s b 0 (suc at) 0 _ _ (omega arith) (omega arith) refl))
+
 found_within : {X A : Type 0} (n : ℕ) (r : Parsed X A) (end : ℕ) → found_in n r ≡ Some end → end ≤ n
 found_within n refused end h = absurd (cc)
 found_within n (got a m) end h = let e : n - length m ≡ end = cc in omega arith

@@ -13,10 +13,12 @@ use Rattle.image_spec.specs.Parse.{Parsed, refused, got, Parser, both, code, num
 use Rattle.image_spec.specs.Fields.{max_count, newlines, integer, identifier, type, pair, list}
 use Rattle.syntax.specs.Codes.{operators, sorts}
 use Rattle.image_spec.specs.Records.{Record, contents, content, one_record, decode_record}
-use Rattle.image_spec.specs.Kinds.{kinds}
+use Rattle.image_spec.specs.Kinds.{kinds, fixed}
 use Rattle.image_spec.specs.Image.{is_some}
-use Rattle.image_spec.proofs.ParseLaws.{marked_exact}
+use Rattle.image_spec.proofs.ParseLaws.{marked_exact, whole_case}
 use Rattle.image_spec.proofs.FieldLaws.{operator_exact, sort_exact, newline_exact, integer_exact, identifier_exact, type_exact, list_exact}
+use Rattle.image_spec.proofs.RecordLaws.{record_exact}
+use Rattle.image_spec.proofs.KindLaws.{kind-first, fixed_le}
 use Rattle.image_fields.specs.Found.{found_in, stop}
 use Rattle.image_fields.proofs.Stops.{stop-via, stop-both, stop-one_of, never-stops, onward, alike}
 use Rattle.image_fields.proofs.FieldStops.{stop-integer}
@@ -136,6 +138,13 @@ formed-other w (zero ∷ l) h = refl
 formed-other w (suc k ∷ l) h =
     let n : kinds ≤ suc k = h (omega arith) in
     rw (get_or-eq_default (contents w) (λ _. refused) n)
+
+-- fewer bytes than the fixed part of the kind
+pub formed-short : (w : ℕ) (s : List ℕ) → length s < fixed w (get_or s 0 0) → is_some (decode_record w s) ≡ false
+unfolding decode_record
+formed-short w s h =
+    whole_case (λ o. is_some o ≡ false) ((record_exact w).right s) refl
+    (λ r ok e. absurd (omega (arith, h, fixed_le w r, ap length e, ap (λ l. fixed w (get_or l 0 0)) e ∙ ap (fixed w) (kind-first w r))))
 
 pub formed-empty : (w : ℕ) (s : List ℕ) → length s ≡ 0 → is_some (decode_record w s) ≡ false
 unfolding decode_record one_record

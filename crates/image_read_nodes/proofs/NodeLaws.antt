@@ -1,12 +1,16 @@
--- Where the identifiers of a record stand in its bytes, by its kind. Assumes nothing.
+-- Where the identifiers of a record stand in its bytes, and what a record uses and binds, by its kind. Assumes nothing.
 use Prim.Native.Nat.{ℕ, ◌+◌}
 use mathlib.Core.Path.{◌≡◌, refl, sym, ap, ◌∙◌, subst}
+use mathlib.Core.Bool.{cond}
 use mathlib.Core.List.{List, [], ◌∷◌, ◌++◌, append-nil, append_assoc}
 use mathlib.Core.Option.{none, some}
 use native.Mathlib.Omega.{arith}
+use lib.Dec.{eqb}
 use lib.ListN.{drop, get_or, length-append}
 use lib.Seq.{drop-drop, drop_at}
+use Rattle.syntax.specs.Context.{ids}
 use Rattle.syntax.specs.declared.names.Identifier.{Identifier}
+use Rattle.model.specs.FreeVars.{optional_id}
 use Rattle.image_spec.specs.Fields.{operator_code_lem, identifier_bytes, IdentifierOk}
 use Rattle.image_spec.specs.Records.{Record, definition, substitute, call, let', switch, create, invoke, literal, op, ifc, clause', print, exit, record_bytes, RecordOk}
 use Rattle.image_spec.specs.Kinds.{kind_of, fixed, tail_bytes}
@@ -14,6 +18,8 @@ use Rattle.image_spec.proofs.FieldLaws.{field-length, identifier-length}
 use Rattle.image_spec.proofs.KindLaws.{tail_at}
 use Rattle.image_directory.specs.Slots.{Ready}
 use Rattle.image_directory.specs.declared.Frame.{Frame}
+use Rattle.image_places_spec.specs.Views.{binders, uses_of}
+use Rattle.image_read_parts.specs.Parts.{list_of}
 use Rattle.image_read_parts.specs.Standing.{Stands, RoomIn}
 use Rattle.image_read_parts.proofs.StandingLaws.{stands-room}
 use Rattle.image_read_parts.proofs.TailPlaces.{record_ok as within}
@@ -159,3 +165,40 @@ module _ (g : Frame) (s : List ℕ) (i : ℕ) where
 
   pub target_there : Ready g s → At g s i 9 → Stands (identifier_bytes g.id) (IdentifierOk g.id) (record_bytes g.id (record_at g s i)) (6 + (g.id + g.id)) (target_of (record_at g s i))
   target_there ready a = target_stands g.id (record_at g s i) a.kind (record_ok g s i 9 ready a)
+
+-- ── what a record uses and binds ──
+
+pub uses-are : (r : Record)
+    → uses_of r ≡ cond (eqb (kind_of r) 3) (ids (list_of r)) (cond (eqb (kind_of r) 4) (ids (list_of r)) (cond (eqb (kind_of r) 5) ((first_of r).id ∷ [])
+    (cond (eqb (kind_of r) 7) ((first_of r).id ∷ ids (list_of r)) (cond (eqb (kind_of r) 9) ((first_of r).id ∷ (operand_of r).id ∷ [])
+    (cond (eqb (kind_of r) 10) ((first_of r).id ∷ optional_id (second_of r)) (cond (eqb (kind_of r) 12) ((first_of r).id ∷ []) (cond (eqb (kind_of r) 13) ((first_of r).id ∷ []) [])))))))
+uses-are (definition x Γ) = refl
+uses-are (substitute ps) = refl
+uses-are (call x Γ) = refl
+uses-are (let' v t h Γ) = refl
+uses-are (switch v t n) = refl
+uses-are (create v t e n) = refl
+uses-are (invoke v h t Γ) = refl
+uses-are (literal z v) = refl
+uses-are (op f o j v) = refl
+uses-are (ifc c f j) = refl
+uses-are (clause' x Γ) = refl
+uses-are (print n v) = refl
+uses-are (exit v) = refl
+
+pub binders-are : (r : Record)
+    → binders r ≡ cond (eqb (kind_of r) 4) ((first_of r).id ∷ []) (cond (eqb (kind_of r) 6) ((first_of r).id ∷ []) (cond (eqb (kind_of r) 8) ((first_of r).id ∷ [])
+    (cond (eqb (kind_of r) 9) ((target_of r).id ∷ []) (cond (eqb (kind_of r) 1) (ids (list_of r)) (cond (eqb (kind_of r) 11) (ids (list_of r)) [])))))
+binders-are (definition x Γ) = refl
+binders-are (substitute ps) = refl
+binders-are (call x Γ) = refl
+binders-are (let' v t h Γ) = refl
+binders-are (switch v t n) = refl
+binders-are (create v t e n) = refl
+binders-are (invoke v h t Γ) = refl
+binders-are (literal z v) = refl
+binders-are (op f o j v) = refl
+binders-are (ifc c f j) = refl
+binders-are (clause' x Γ) = refl
+binders-are (print n v) = refl
+binders-are (exit v) = refl

@@ -7,7 +7,7 @@ use mathlib.Core.Option.{none, some}
 use native.Mathlib.Omega.{arith}
 use lib.ListN.{length, drop, get_or, length-drop}
 use lib.Seq.{drop-drop, drop-cons}
-use Rattle.image_spec.specs.Records.{Record, definition, substitute, call, let', switch, create, invoke, literal, op, ifc, clause', print, exit, record_bytes}
+use Rattle.image_spec.specs.Records.{Record, definition, substitute, call, let', switch, create, invoke, literal, op, ifc, clause', print, exit, record_bytes, RecordOk}
 use Rattle.image_spec.specs.Kinds.{kind_of, clauses_of, fixed, tail_bytes}
 use Rattle.image_spec.proofs.KindLaws.{tail_at}
 use Rattle.image_directory.specs.Slots.{Ready, records_in}
@@ -17,7 +17,8 @@ use Rattle.image_kinds.specs.Codes.{code_of}
 use Rattle.image_shape.specs.Nodes.{node_of}
 use Rattle.image_shape.specs.declared.Node.{Node}
 use Rattle.image_shape.proofs.Heads.{place}
-use Rattle.image_read_parts.specs.Standing.{ReadsAs, RoomIn, head_of}
+use Rattle.image_read_parts.specs.Standing.{Stands, ReadsAs, RoomIn, head_of}
+use Rattle.image_read_parts.proofs.StandingLaws.{part_room, part-reads, byte_reads, kind-stands}
 use Rattle.image_read_parts.specs.Indexed.{record_at, At}
 
 -- ── the record that was looked at ──
@@ -58,6 +59,20 @@ tail-room g s i k j p a q h =
     let r = record_at g s i in
     let e : length (record_bytes w r) - fixed w k ≡ length (tail_bytes w r) = sym (length-drop (fixed w k) (record_bytes w r)) ∙ ap length (tail_from w k r a.kind) in
     record { inside = omega arith }
+
+-- the first byte of the tail of the record at index i stands at this place of the image
+pub record TailAt (g : Frame) (s : List ℕ) (i place : ℕ) : Type 0 where
+  pub inside : place < length s
+  pub byte : get_or s place 0 ≡ get_or (tail_bytes g.id (record_at g s i)) 0 0
+
+module _ (g : Frame) (s : List ℕ) (i : ℕ) {o : ℕ} (t : Stands (record_bytes g.id) (RecordOk g.id) s o (record_at g s i)) where
+  pub kind-there : i < g.count → At g s i (get_or s o 0)
+  kind-there n = record { inside = n; kind = sym (kind-stands g.id t).0 }
+
+  pub tail-there : Ready g s → (k p : ℕ) → At g s i k → p ≡ fixed g.id k → 0 < length (tail_bytes g.id (record_at g s i)) → TailAt g s i (o + p)
+  tail-there ready k p a q h =
+      let m = tail-room g s i k 0 p a (q ∙ omega arith) h in
+      record { inside = omega (arith, (part_room ready.id.1 t m).inside); byte = tail-byte g.id k (record_at g s i) 0 p a.kind (q ∙ omega arith) h (part-reads t m byte_reads) }
 
 -- every kind but Literal, Op, PrintI64 and Exit has a tail
 pub tail_some : (w : ℕ) (r : Record) → (kind_of r ≡ 8 → ⊥) → (kind_of r ≡ 9 → ⊥) → (kind_of r ≡ 12 → ⊥) → (kind_of r ≡ 13 → ⊥) → 0 < length (tail_bytes w r)

@@ -10,7 +10,7 @@ use Rattle.std.specs.Result.{result_unwrap_or}
 use Rattle.syntax.specs.Options.{option_of}
 use Rattle.syntax.specs.Codes.{Decodes, chiralities}
 use Rattle.syntax.specs.declared.codes.NoCode.{NoCode}
-use mathlib.Core.Path.{◌≡◌, refl, ap, sym, ◌∙◌}
+use mathlib.Core.Path.{◌≡◌, refl, ap, sym, ◌∙◌, subst}
 use native.Mathlib.Omega.{arith}
 use lib.ListN.{length, drop, get_or, length-append, length-drop, take-append-drop}
 use lib.Seq.{drop-drop, drop_at, drop-append-le, get_or-drop}
@@ -23,7 +23,7 @@ use Rattle.image_spec.specs.Parse.{got, number, field, numbered}
 use Rattle.image_spec.specs.Fields.{newlines, chirality_code_lem, identifier_bytes, type_bytes, binding_bytes, IdentifierOk, TypeOk, BindingOk}
 use Rattle.image_spec.specs.Records.{Record, record_bytes, RecordOk}
 use Rattle.image_spec.specs.Kinds.{kind_of}
-use Rattle.image_spec.proofs.ParseLaws.{number_exact}
+use Rattle.image_spec.proofs.ParseLaws.{Sound, one-read, number_exact}
 use Rattle.image_spec.proofs.FieldLaws.{chirality-back, identifier-length}
 use Rattle.image_spec.proofs.KindLaws.{kind-first, record_nonempty}
 use Rattle.image_directory.specs.Slots.{records_in}
@@ -44,6 +44,12 @@ pub byte-run : (s m : List ℕ) (at b : ℕ) → drop at s ≡ b ∷ m → get_o
 byte-run s m at b e = ap (λ k. get_or s k 0) (sym (add-zero at)) ∙ (sym (get_or-drop at s 0 0) ∙ ap (λ l. get_or l 0 0) e)
 
 -- ---- numbers and codes
+
+pub number-below : (w : ℕ) (l : List ℕ) (n : ℕ) (m : List ℕ) → number w l ≡ got n m → n < 256 ^ w
+number-below w l n m e = ok (subst (Sound (field w) (λ n. n < 256 ^ w) l) e ((number_exact w).right l))
+  where
+    ok : {a : ℕ} {m : List ℕ} → Sound (field w) (λ n. n < 256 ^ w) l (got a m) → a < 256 ^ w
+    ok (one-read p q) = p
 
 number-run : (l m k : List ℕ) (w n v : ℕ) → l ≡ field w n ++ m → n < 256 ^ w → number w l ≡ got v k → v ≡ n
 number-run l m k w n v e h q = let x : number w l ≡ got n m = ap (number w) e ∙ (number_exact w).left n h m in cc (x, q)

@@ -39,6 +39,10 @@ module _ {A : Type 0} (e : A → List ℕ) where
 abbrev pub alone : ℕ → List ℕ
 alone b = b ∷ []
 
+pub each-alone : (xs : List ℕ) → each alone xs ≡ xs
+each-alone [] = refl
+each-alone (x ∷ xs) = ap (λ z. x ∷ z) (each-alone xs)
+
 -- a count, then as many elements
 pub counted-put : {A : Type 0} (e : A → List ℕ) (xs : List A) {a b c : List ℕ} {at n k m : ℕ} → Puts a b at n (m ∷ []) → m ≡ length xs → Puts b c n k (each e xs)
     → Puts a c at k (length xs ∷ each e xs)

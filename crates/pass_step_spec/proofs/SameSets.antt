@@ -12,6 +12,7 @@ use Rattle.pass_work_spec.specs.declared.Entry.{Entry}
 use Rattle.pass_work_spec.specs.Work.{Work, kept, moved_behind}
 use Rattle.pass_work_spec.proofs.Lists.{In, in_perm, filtered-same}
 use Rattle.pass_work_spec.proofs.Entries.{moved_behind_perm}
+use Rattle.pass_step_spec.specs.Fronts.{wanted, right_of, front_records, tail_size, front_bytes}
 use Rattle.pass_step_spec.specs.Steps.{environment, step_of, step_let, step_switch, step_create, step_literal, step_op, step_print_i64, clause_context}
 
 -- the sources of the context that are in one set are in the other
@@ -64,3 +65,48 @@ module _ {fc fc' fn fn' : List VarId} {W : Work} (c : SameSet fc fc' W) (d : Sam
   step_same (clause' x Γ) n m = refl
   step_same (print newline var) n m = rw (kept_same (same_more var.id d))
   step_same (exit var) n m = refl
+
+  wanted-same : (r : Record) → wanted r fc fn W ≡ wanted r fc' fn' W
+  unfolding wanted
+  wanted-same (definition x Γ) = refl
+  wanted-same (substitute ps) = refl
+  wanted-same (call label args) = refl
+  wanted-same (let' var ty tag args) = rw (kept_same d)
+  wanted-same (switch var ty clauses) = rw (kept_same c)
+  wanted-same (create var ty env clauses) = rw (environment-same, kept_same d)
+  wanted-same (invoke var tag ty args) = refl
+  wanted-same (literal lit var) = rw (kept_same d)
+  wanted-same (op fst o snd var) = rw (kept_same (same_more fst.id (same_more snd.id d)))
+  wanted-same (ifc sort fst snd) = refl
+  wanted-same (clause' x Γ) = refl
+  wanted-same (print newline var) = rw (kept_same (same_more var.id d))
+  wanted-same (exit var) = refl
+
+  -- so of what is to be written, before the clauses are linearized
+  pub right-same : (r : Record) → right_of r fc fn W ≡ right_of r fc' fn' W
+  unfolding right_of
+  right-same r = rw (wanted-same r)
+
+  pub records-same : (r : Record) → front_records r fc fn W ≡ front_records r fc' fn' W
+  unfolding front_records
+  records-same r = rw (right-same r)
+
+  tail-same : (w : ℕ) (r : Record) → tail_size w r fc fn W ≡ tail_size w r fc' fn' W
+  unfolding tail_size
+  tail-same w (definition x Γ) = refl
+  tail-same w (substitute ps) = refl
+  tail-same w (call label args) = refl
+  tail-same w (let' var ty tag args) = refl
+  tail-same w (switch var ty clauses) = refl
+  tail-same w (create var ty env clauses) = rw environment-same
+  tail-same w (invoke var tag ty args) = refl
+  tail-same w (literal lit var) = refl
+  tail-same w (op fst o snd var) = refl
+  tail-same w (ifc sort fst snd) = refl
+  tail-same w (clause' x Γ) = refl
+  tail-same w (print newline var) = refl
+  tail-same w (exit var) = refl
+
+  pub bytes_same : (w : ℕ) (r : Record) → front_bytes w r fc fn W ≡ front_bytes w r fc' fn' W
+  unfolding front_bytes
+  bytes_same w r = rw (right-same r, wanted-same r, tail-same w r)

@@ -18,8 +18,8 @@ use Rattle.model.specs.Syntax.{Stmt, Clauses, Substitute, Call, Let, Switch, Cre
 use Rattle.model.specs.Sizes.{records, records_clauses, records_defs, depth_defs}
 use Rattle.model.specs.FreeVars.{free_vars, free_vars_clauses}
 use Rattle.model.specs.Rules.{bind, freshen_unless_lem, fresh_var_lem, fresh_var_unless}
-use Rattle.model.specs.Questions.{asked, asked_defs, small, small_binders, question7}
-use Rattle.model.proofs.Questions.{Asked, AskedClauses, answered, three}
+use Rattle.model.specs.Questions.{asked, asked_clauses, asked_defs, small, small_binders, question7}
+use Rattle.model.proofs.Questions.{Asked, AskedClauses, answered, answered_clauses, three}
 use borrow.Author.Tests.{leb-true}
 use Rattle.model.proofs.Widths.{small-says}
 use Rattle.model.proofs.Grows.{freshen_unless-grows, fresh_var_unless-grows}
@@ -138,6 +138,10 @@ mutual
 -- of a statement with Δ in scope and a yes to question 7's counts and room, in a context at work that is no longer than the scope
 pub work_grows : (t : Stmt) (Δ : List VarId) → asked t small small_binders Δ ≡ true → (W : Work) (n m : ℕ) → length W ≤ length Δ → (work_stmt t W n m).1 ≤ m + 128 * records t
 work_grows t Δ a W n m h = asked-grows t Δ (answered t small small_binders Δ a) W n m h
+
+pub work_grows_clauses : (cs : Clauses) (Δ : List VarId) → asked_clauses cs small small_binders Δ ≡ true → (before : Bool) (W : Work) (n m : ℕ) → length W ≤ length Δ
+    → (work_clauses cs before W n m).1 ≤ m + 128 * records_clauses cs
+work_grows_clauses cs Δ a before W n m h = asked_grows_clauses cs Δ (answered_clauses cs small small_binders Δ a) before W n m h
 
 -- of definitions
 pub work_grows_defs : (ds : List Def) → asked_defs ds small small_binders ≡ true → (m : ℕ) → (work_defs ds m).1 ≤ m + 128 * records_defs ds

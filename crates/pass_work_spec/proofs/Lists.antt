@@ -5,8 +5,9 @@ use mathlib.Core.Logic.{◌⊎◌, inl, inr}
 use mathlib.Core.Bool.{Bool, true, false, cond, true≢false}
 use mathlib.Core.List.Memᴰ
 use mathlib.Core.List.{List, [], ◌∷◌, map, map-id, reverse, reverse_aux, Memᴰ}
-use Prim.Native.Nat.{ℕ}
-use lib.ListN.{length, take, drop, length-map, take-append-drop}
+use Prim.Native.Nat.{ℕ, zero, suc, ◌<◌}
+use native.Mathlib.Omega.{arith}
+use lib.ListN.{length, get_or, take, drop, length-map, take-append-drop}
 use Rattle.std.proofs.lemmas.List.{take-map, drop-map}
 use Rattle.syntax.specs.Filter.{retained, fill, filtered}
 use Rattle.syntax.proofs.Permutations.{Perm, nil, keep, swap, trans, perm_sym}
@@ -39,6 +40,12 @@ module _ {A : Type 0} where
       first (inl e) = Memᴰ.tail (Memᴰ.head e)
       first (inr k) = second (in_case k)
   in_perm (trans p q) h = in_perm q (in_perm p h)
+
+  -- what stands at a place
+  pub in_get_d : (l : List A) (i : ℕ) (d : A) → i < length l → In (get_or l i d) l
+  in_get_d [] i d h = absurd (omega arith)
+  in_get_d (x ∷ l) zero d h = Memᴰ.head refl
+  in_get_d (x ∷ l) (suc i) d h = Memᴰ.tail (in_get_d l i d (omega arith))
 
   pub in_take : (k : ℕ) (l : List A) (a : A) → In a (take k l) → In a l
   in_take k l a h = rw (take-append-drop k l) at (Memᴰ.append_left (drop k l) h)

@@ -18,13 +18,16 @@ use Rattle.syntax.proofs.Permutations.{perm_sym}
 use Rattle.pass_work_spec.specs.declared.Entry.{Entry}
 use Rattle.pass_work_spec.specs.Work.{Work, own, owns, kept, moved_behind, respelled_unless}
 use Rattle.pass_work_spec.specs.Placed.{PlacedAt, Placed}
-use Rattle.pass_work_spec.proofs.Lists.{In, in_case, in_perm, filtered-same}
+use Rattle.pass_work_spec.proofs.Lists.{In, in_case, in_perm, in_get_d, filtered-same}
 use Rattle.pass_work_spec.proofs.Entries.{kept_of, moved_behind_perm, From, respelled-from}
 use Rattle.pass_work_spec.proofs.Lengths.{kept-fewer, moved_length, respelled-fewer, owns-length, joined_length}
 
 -- ── the same scope ──
 
 module _ {Δ : List VarId} {W : Work} (p : Placed Δ W) where
+  pub placed_index : (i : ℕ) (d : Entry) → i < length W → PlacedAt Δ (get_or W i d)
+  placed_index i d h = p.each (get_or W i d) (in_get_d W i d h)
+
   pub placed-kept : (s : List VarId) → Placed Δ (kept s W)
   placed-kept s = record { fits = omega (arith, kept-fewer s W); each = λ e h. p.each e (kept_of s W e h) }
 

@@ -1,7 +1,7 @@
 -- Scopes in a lent array, a place at a time; what stays of them; and what the walk finds at a binder, as the code holds it. (At a use:
 -- UseLaws.antt.) With room, the scope takes all that is bound (`entered_all`). Assumes nothing.
 use Prim.Native.Nat.{ℕ, zero, suc, ◌+◌, ◌≤◌, ◌<◌}
-use mathlib.Core.Path.{◌≡◌, refl, sym, ap, ap₂, ◌∙◌}
+use mathlib.Core.Path.{◌≡◌, refl, sym, ap, ap₂, ◌∙◌, subst}
 use mathlib.Core.Bool.{Bool, not, ◌&&◌, ◌||◌}
 use mathlib.Core.List.{List, [], ◌∷◌, ◌++◌, map, map-append, append-nil, append_assoc}
 use native.Mathlib.Omega.{arith}
@@ -47,10 +47,19 @@ kept_then {n} {m} {xs} {ys} {zs} h a b = record {
   first = sym (take-take n m zs h) ∙ (ap (take n) b.first ∙ (take-take n m ys h ∙ a.first));
 }
 
+pub kept-scope : {n : ℕ} {xs ys : List ℕ} → Kept n xs ys → ScopeAt xs n → ScopeAt ys n
+kept-scope k s = record { small = s.small; room = omega (arith, s.room, k.long) }
+
 pub kept-ids : {n : ℕ} {xs ys : List ℕ} → Kept n xs ys → scope_in n ys ≡ scope_in n xs
 kept-ids k = ap (map id_of) k.first
 
 -- ── a binder ──
+
+pub entered_none : (s : InScope) (v : Verdict) → Entered s s v (scoped_of s v)
+entered_none s v = record { is = refl; kept = kept-all s.n s.ids.now; more = omega arith; same = refl }
+
+pub entered-same : (M : ℕ) (z : Scoped) {xs ys : List VarId} {s t : InScope} {v : Verdict} → ys ≡ xs → Entered s t v (enter_all M xs z) → Entered s t v (enter_all M ys z)
+entered-same M z {xs} {ys} {s} {t} {v} q h = subst (λ (zs : List VarId). Entered s t v (enter_all M zs z)) (sym q) h
 
 -- one binder after others
 pub entered_then : {s t u : InScope} {v w : Verdict} {x y : Scoped} → Entered s t v x → Entered t u w y → Entered s u w y

@@ -69,5 +69,8 @@ used-more Δ x xs u =
     ap (bit_or u.mask) (mask-++ (x ∷ []) xs Δ) ∙ sym (or_assoc u.mask (mask_of (x ∷ []) Δ) (mask_of xs Δ)) in
     λ j. record { mask = e j; verdict = use_all Δ (x ∷ xs) u.verdict }
 
+pub used-same : (Δ : List VarId) (u : Using) {xs ys : List VarId} {r : Using} → ys ≡ xs → r ≡ used_all_lem Δ xs u → r ≡ used_all_lem Δ ys u
+used-same Δ u q h = h ∙ ap (λ (zs : List VarId). used_all_lem Δ zs u) (sym q)
+
 pub used_then : (Δ : List VarId) (u : Using) (x : VarId) (xs : List VarId) {v r : Using} → v ≡ used_all_lem Δ (x ∷ []) u → r ≡ used_all_lem Δ xs v → r ≡ used_all_lem Δ (x ∷ xs) u
 used_then Δ u x xs q h = h ∙ (ap (used_all_lem Δ xs) q ∙ sym (used-more Δ x xs u))

@@ -156,3 +156,6 @@ module _ {Δ : List VarId} {free : ℕ} {whole rows : List ℕ} {here : Walked} 
         ∙ rows_then rows (rows_stmt t Δ) (rows_bodies ts Δ) here.next (length (flatten t)) after.next (rows-length t Δ) (a ∙ k)
         ∙ ap (λ (l : List ℕ). sets l (2 * after.next) (rows_bodies ts Δ)) (sym (y.rows_are ∙ ap (λ (z : List VarId). sets rows (2 * here.next) (rows_stmt t z)) e));
   }
+
+  pub bodies_masked : MasksBodies Δ free whole rows here [] → MaskedTo here rows free whole
+  bodies_masked e = record { free_is = e.seen_is ∙ (ap (λ (u : List VarId). mask_of u Δ) (sym (append-nil e.seen)) ∙ sym e.free_is); rows_are = sym e.rows_are }

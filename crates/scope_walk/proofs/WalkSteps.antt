@@ -17,7 +17,7 @@ use Rattle.image_read_parts.specs.Standing.{head_of}
 use Rattle.image_read_parts.specs.Parts.{list_of}
 use Rattle.image_places_spec.specs.Views.{binders, uses_of}
 use Rattle.image_places_spec.specs.Places.{stmt_at}
-use Rattle.image_places_spec.proofs.Steps.{Below, by-view, ClausesLeft, ClauseNext, clause-turn, clauses-end, BodiesLeft, BodyNext, body-turn}
+use Rattle.image_places_spec.proofs.Steps.{Below, by-view, ClausesLeft, ClauseNext, clause-turn, clauses-end, BodiesLeft, BodyNext, body-turn, bodies-end}
 use Rattle.scope_spec.specs.declared.Verdict.{Verdict}
 use Rattle.scope_spec.specs.Walk.{Scoped, use_all, enter_all, walk_stmt, walk_clauses, walk_bodies}
 use Rattle.scope_spec.specs.FreeRows.{mask_of, rows_stmt}
@@ -30,7 +30,7 @@ use Rattle.scope_walk.specs.declared.walk.Walked.{Walked}
 use Rattle.scope_places.proofs.EnterLaws.{entered_all}
 use Rattle.scope_walk.proofs.SourceLaws.{clause-body}
 use Rattle.scope_walk.proofs.WalkViews.{after_clauses, walk_view}
-use Rattle.scope_walk.proofs.MaskSteps.{binders-fit, MasksClauses, clause_masked, clauses_masked, MasksBodies, body_masked}
+use Rattle.scope_walk.proofs.MaskSteps.{binders-fit, MasksClauses, clause_masked, clauses_masked, MasksBodies, body_masked, bodies_masked}
 
 -- ── a statement ──
 
@@ -114,3 +114,7 @@ module _ {d : ℕ} {rs : List Record} {Q : Type 0} {M : ℕ} {Δ : List VarId} {
             let h = n.holds.masks q in
             body_masked t n.rest h w o b.next (m (subst (λ (D : List VarId). Sourced D t) (sym o) h.sourced.0)) f k;
       })
+
+  pub walked-bodies : BodiesLeft d rs place left here.next (WalksBodies Q M Δ whole free stored rows here) → left ≡ 0
+      → WalkedTo here place whole × (Q → MaskedTo here rows free stored)
+  walked-bodies l h = let e = bodies-end l h in (record { next = e.0; verdict = sym e.1.same }, λ q. bodies_masked (e.1.masks q))

@@ -39,6 +39,12 @@ pub eq_z_refl : (a : ℤ) → eq_z a a ≡ true
 eq_z_refl (pos a) = eq-eqb a a refl
 eq_z_refl (negsuc a) = eq-eqb a a refl
 
+pub eq_z_not : (a b : ℤ) → (a ≡ b → ⊥) → eq_z a b ≡ false
+eq_z_not (pos a) (pos b) n = ne_eqb a b (λ e. n (ap pos e))
+eq_z_not (pos a) (negsuc b) n = refl
+eq_z_not (negsuc a) (pos b) n = refl
+eq_z_not (negsuc a) (negsuc b) n = ne_eqb a b (λ e. n (ap negsuc e))
+
 -- numbers with the same bits are the same
 pub same_bits : (a b : ℤ) → SFits w64 a → SFits w64 b → of_z w64 a ≡ of_z w64 b → a ≡ b
 same_bits a b f g e = sym (to_z-of_z w64 a f) ∙ ap (to_z w64) e ∙ to_z-of_z w64 b g

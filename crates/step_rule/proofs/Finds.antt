@@ -12,7 +12,7 @@ use lib.ListN.{length}
 use Rattle.syntax.specs.declared.names.VarId.{VarId}
 use Rattle.model.specs.Syntax.{Prog}
 use Rattle.model.specs.Lists.{lookup}
-use Rattle.model.specs.Machine.{Value, int, cell, outside, Entries}
+use Rattle.model.specs.Machine.{Value, int, cell, outside, Entries, as_int}
 use Rattle.image_spec.specs.Parse.{All}
 use Rattle.step_slots.specs.Slots.{Slot, slot, value_slot}
 use Rattle.step_slots.specs.Views.{no_slot}
@@ -32,6 +32,24 @@ pub data Sees (of : ℕ → ℕ) (x : VarId) (ε : Entries) : Slot → Type 0 wh
   sees-int : (z : ℤ) → lookup x ε ≡ some (int z) → SFits w64 z → Sees of x ε (slot 0 x.0 (of_z w64 z))
   sees-cell : (k : ℕ) → lookup x ε ≡ some (cell k) → Sees of x ε (slot 1 x.0 (of k))
   sees-outside : (n : ℕ) → lookup x ε ≡ some (outside n) → Sees of x ε (slot 2 x.0 n)
+
+-- the integer that is seen in a slot of sort 0; and none in another
+pub sees-integer : {of : ℕ → ℕ} {x : VarId} {ε : Entries} {t : Slot} → Sees of x ε t → t.sort ≡ 0 → lookup x ε ≡ some (int (to_z w64 t.payload))
+sees-integer (sees_none e) s = absurd (omega arith)
+sees-integer (sees-int z e f) s = e ∙ ap (λ (y : ℤ). some (int y)) (sym (to_z-of_z w64 z f))
+sees-integer (sees-cell k e) s = absurd (omega arith)
+sees-integer (sees-outside n e) s = absurd (omega arith)
+
+-- no integer: no value, or one of another sort
+pub data NoInt (o : Option Value) : Type 0 where
+  no_value : o ≡ none → NoInt o
+  other-value : (v : Value) → o ≡ some v → as_int v ≡ none → NoInt o
+
+pub sees-no-integer : {of : ℕ → ℕ} {x : VarId} {ε : Entries} {t : Slot} → Sees of x ε t → (t.sort ≡ 0 → ⊥) → NoInt (lookup x ε)
+sees-no-integer (sees_none e) s = no_value e
+sees-no-integer (sees-int z e f) s = absurd (s refl)
+sees-no-integer (sees-cell k e) s = other-value (cell k) e refl
+sees-no-integer (sees-outside n e) s = other-value (outside n) e refl
 
 module _ {M : Machine} {P : Prog} {store : List ℕ} {h : Header} {l : Located} (o : Stored M P store h l) where
   pub sees : (x : VarId) {t : Slot} → t ≡ named x.0 (entries_in store h) → Sees (place_of l.cells) x l.environment t

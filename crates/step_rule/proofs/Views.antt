@@ -41,6 +41,7 @@ pub record Viewed (P : Prog) (store : List ℕ) (h : Header) (l : Located) : Typ
   pub entries : entries_in store h ≡ environment_of l.cells l.environment
   pub heap_size : h.heap ≡ length (heap_of l.cells)
   pub entries_size : h.entries ≡ length (environment_of l.cells l.environment)
+  pub heap_fits : All SlotOk (heap_of l.cells)
   pub entries_fit : All SlotOk (environment_of l.cells l.environment)
   pub heap_slots : all_slots (heap_in store h) ≡ true
   pub entries_slots : all_slots (entries_in store h) ≡ true
@@ -74,6 +75,7 @@ module _ {P : Prog} {store : List ℕ} {h : Header} {l : Located} where
         entries = N;
         heap_size = k;
         entries_size = n;
+        heap_fits = s.slots.heap;
         entries_fit = s.slots.environment;
         heap_slots = ap all_slots H ∙ fit-slots (heap_of l.cells) s.slots.heap;
         entries_slots = ap all_slots N ∙ fit-slots (environment_of l.cells l.environment) s.slots.environment;

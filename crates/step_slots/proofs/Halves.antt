@@ -1,4 +1,4 @@
--- A number of a + b bytes is one of a bytes and one of b bytes. Assumes nothing.
+-- A number of a + b bytes is one of a bytes and one of b bytes; one of eight bytes is its two halves. Assumes nothing.
 use Prim.Native.Nat.{ℕ, zero, suc, ◌+◌, ◌*◌, ◌/◌, ◌%◌, ◌^◌, ◌<◌}
 use mathlib.Core.List.{◌++◌}
 use mathlib.Core.Path.{◌≡◌, ap, ◌∙◌}
@@ -16,3 +16,9 @@ field_join (suc a) b x y h =
     let high : (x + 256 * c) / 256 ≡ x / 256 + c = omega arith in
     let k : x / 256 < 256 ^ a = omega (arith, p) in
     rw (e, suc-add, low, high, field_join a b (x / 256) y k)
+
+pub halves : (n : ℕ) → field 8 n ≡ field 4 (n % 4294967296) ++ field 4 (n / 4294967296)
+halves n =
+    let h : n % 4294967296 < 256 ^ 4 = omega arith in
+    let e : n ≡ n % 4294967296 + 256 ^ 4 * (n / 4294967296) = omega arith in
+    ap (field 8) e ∙ field_join 4 4 (n % 4294967296) (n / 4294967296) h

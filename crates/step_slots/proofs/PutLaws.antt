@@ -12,6 +12,10 @@ use Rattle.image_spec.specs.Parse.{field}
 use Rattle.image_spec.proofs.FieldLaws.{field-length}
 use Rattle.image_write_parts.specs.Puts.{Puts}
 
+-- a number of four bytes is two of two bytes
+pub pairs : (n : ℕ) → field 4 n ≡ field 2 n ++ field 2 (n / 65536)
+pairs n = let k : n / 256 / 256 ≡ n / 65536 = omega arith in ap (λ (z : ℕ). n % 256 ∷ n / 256 % 256 ∷ field 2 z) k
+
 -- the bytes of n from byte i on are a field's
 low-bytes : (k i n : ℕ) → bytes_low_first i k n ≡ field k (n / 256 ^ i)
 low-bytes zero i n = refl

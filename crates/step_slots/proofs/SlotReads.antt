@@ -1,7 +1,7 @@
 -- Reading and writing sixteen bytes, as code does it. Assumes nothing.
-use Prim.Native.Nat.{ℕ, zero, suc, ◌+◌, ◌≤◌, ◌<◌}
-use mathlib.Core.Path.{◌≡◌, refl, ap, sym, ◌∙◌}
-use mathlib.Core.List.{List, [], ◌∷◌}
+use Prim.Native.Nat.{ℕ, zero, suc, ◌+◌, ◌*◌, ◌^◌, ◌≤◌, ◌<◌}
+use mathlib.Core.Path.{◌≡◌, refl, ap, sym, ◌∙◌, subst}
+use mathlib.Core.List.{List, [], ◌∷◌, ◌++◌, append_assoc}
 use native.Mathlib.Omega.{arith}
 use mathlib.Core.Bool.{Bool, true, false, ◌&&◌}
 use borrow.Author.Tests.{le-leb, lt-leb, leb-true, leb-false, eq-eqb, ne_eqb}
@@ -10,13 +10,37 @@ use Rattle.std.specs.List.{list_all}
 use lib.ListN.{length, take, drop, get_or}
 use lib.Seq.{drop-cons}
 use native.Mathlib.Numerals.{add-one}
-use Rattle.image_spec.specs.Parse.{refused, got, and_then, only_if, code, number, zeros}
+use Rattle.image_spec.specs.Parse.{refused, got, and_then, only_if, code, number, field, zeros}
+use Rattle.image_spec.proofs.ParseLaws.{Sound, one-read, number_exact}
+use Rattle.step_slots.proofs.Halves.{field_join}
 use Rattle.step_slots.specs.Slots.{slot, slot_parser}
 use Rattle.step_slots.specs.Views.{no_slot, slot_from, slot_at}
 
 -- a list from a place inside it
 pub drop_head : (s : List ℕ) (at : ℕ) → at < length s → drop at s ≡ get_or s at 0 ∷ drop (at + 1) s
 drop_head s at h = drop-cons s at 0 h ∙ ap (λ (k : ℕ). get_or s at 0 ∷ drop k s) (sym (add-one at))
+
+-- what a number that was read is written as
+pub record Read (w : ℕ) (l : List ℕ) (n : ℕ) (m : List ℕ) : Type 0 where
+  pub bytes : l ≡ field w n ++ m
+  pub below : n < 256 ^ w
+
+pub number_read : (w : ℕ) (l : List ℕ) (n : ℕ) (m : List ℕ) → number w l ≡ got n m → Read w l n m
+number_read w l n m e = back (subst (Sound (field w) (λ n. n < 256 ^ w) l) e ((number_exact w).right l))
+  where
+    back : {a : ℕ} {m : List ℕ} → Sound (field w) (λ n. n < 256 ^ w) l (got a m) → Read w l a m
+    back (one-read p q) = record { bytes = q; below = p }
+
+-- eight bytes are two numbers of four
+pub long-reads : (l m n : List ℕ) (low high : ℕ) → number 4 l ≡ got low m → number 4 m ≡ got high n → number 8 l ≡ got (low + 256 ^ 4 * high) n
+long-reads l m n low high a b =
+    let p = number_read 4 l low m a in
+    let q = number_read 4 m high n b in
+    let v = low + 256 ^ 4 * high in
+    let j : field 8 v ≡ field 4 low ++ field 4 high = field_join 4 4 low high p.below in
+    let e : l ≡ field 8 v ++ n = p.bytes ∙ (ap (λ z. field 4 low ++ z) q.bytes ∙ (sym (append_assoc (field 4 low) (field 4 high) n) ∙ ap (λ z. z ++ n) (sym j))) in
+    let t : v < 256 ^ 8 = omega (arith, p.below, q.below) in
+    ap (number 8) e ∙ (number_exact 8).left v t n
 
 -- ── zero bytes ──
 
