@@ -21,7 +21,7 @@ use step_slots::{Slot, put_four, put_long, put_slot};
 
 // What a step leaves: the header of the state after it, and the place behind its event.
 // (Answered, and not set in the `Work` by what writes: the definitions of a step have it as one value, in an `Ok`. Set in the `Work`, each would have the
-// header and the place of before and of after, and say of an `Err` that they are as before. `run` sets the two, in one place.)
+// header and the place of before and of after. What writes keeps the two, as `Keeps` says; `run` sets them, in one place.)
 #[derive(Clone, Copy)]
 pub struct Step {
     pub header: Header,
