@@ -55,47 +55,54 @@ impl<'a> Padded<'a> {
     }
 }
 
-// Whether the mark of a record is 1, which stands n bytes behind its beginning.
-fn is_marked(record: Padded<'_>, n: usize) -> bool {
-    record.later(n).byte() == 1
-}
-
-// The letter of a record. Of Create, IfC and PrintI64 there are two each.
-fn letter(record: Padded<'_>, kind: Result<Kind, UnknownCode>) -> u8 {
-    match kind {
-        Ok(Kind::Definition) => b'd',
-        Ok(Kind::Substitute) => b'u',
-        Ok(Kind::Call) => b'c',
-        Ok(Kind::Let) => b't',
-        Ok(Kind::Switch) => b's',
-        Ok(Kind::Create) if is_marked(record, 10) => b'e',
-        Ok(Kind::Create) => b'n',
-        Ok(Kind::Invoke) => b'v',
-        Ok(Kind::Literal) => b'l',
-        Ok(Kind::Op) => b'o',
-        Ok(Kind::IfC) if is_marked(record, 6) => b'j',
-        Ok(Kind::IfC) => b'i',
-        Ok(Kind::Clause) => b'k',
-        Ok(Kind::PrintI64) if is_marked(record, 1) => b'q',
-        Ok(Kind::PrintI64) => b'p',
-        Ok(Kind::Exit) => b'z',
-        // No record has these, and no layout; an empty one is said with them.
-        Err(UnknownCode(0)) => b'?',
-        Err(_) => 0,
+// A record at its beginning.
+impl Padded<'_> {
+    fn kind(mut self) -> Result<Kind, UnknownCode> {
+        Kind::try_from(self.byte())
     }
-}
 
-// The ID of the first label, tag or type of a record, if it has one.
-fn own(record: Padded<'_>, kind: Result<Kind, UnknownCode>) -> Option<u16> {
-    let place = match kind {
-        Ok(Kind::Definition | Kind::Call | Kind::Clause) => 3,
-        Ok(Kind::Invoke) => 7,
-        Ok(Kind::Let | Kind::Switch | Kind::Create) => 8,
-        Ok(_) | Err(UnknownCode(0)) => return None,
-        // What has no kind is taken to have it behind all of these.
-        Err(_) => 16,
-    };
-    Some(record.later(place).half())
+    // Whether the mark that stands n bytes on is 1.
+    fn is_marked(self, n: usize) -> bool {
+        self.later(n).byte() == 1
+    }
+
+    // Its letter. Of Create, IfC and PrintI64 there are two each.
+    fn letter(self) -> u8 {
+        match self.kind() {
+            Ok(Kind::Definition) => b'd',
+            Ok(Kind::Substitute) => b'u',
+            Ok(Kind::Call) => b'c',
+            Ok(Kind::Let) => b't',
+            Ok(Kind::Switch) => b's',
+            Ok(Kind::Create) if self.is_marked(10) => b'e',
+            Ok(Kind::Create) => b'n',
+            Ok(Kind::Invoke) => b'v',
+            Ok(Kind::Literal) => b'l',
+            Ok(Kind::Op) => b'o',
+            Ok(Kind::IfC) if self.is_marked(6) => b'j',
+            Ok(Kind::IfC) => b'i',
+            Ok(Kind::Clause) => b'k',
+            Ok(Kind::PrintI64) if self.is_marked(1) => b'q',
+            Ok(Kind::PrintI64) => b'p',
+            Ok(Kind::Exit) => b'z',
+            // These have no layout: what is said with them is empty.
+            Err(UnknownCode(0)) => b'?',
+            Err(_) => 0,
+        }
+    }
+
+    // The ID of its first label, tag or type, if it has one.
+    fn own(self) -> Option<u16> {
+        let place = match self.kind() {
+            Ok(Kind::Definition | Kind::Call | Kind::Clause) => 3,
+            Ok(Kind::Invoke) => 7,
+            Ok(Kind::Let | Kind::Switch | Kind::Create) => 8,
+            Ok(_) | Err(UnknownCode(0)) => return None,
+            // What is of no kind is taken to have one behind all those places.
+            Err(_) => 16,
+        };
+        Some(self.later(place).half())
+    }
 }
 
 // A record that is read and said.
@@ -212,10 +219,8 @@ fn say(
     end: usize,
     before: u16,
 ) -> Result<(String, u16), Unsaid> {
-    let mut first = record;
-    let kind = Kind::try_from(first.byte());
-    let other = own(record, kind).unwrap_or(before);
-    let letter = letter(record, kind);
+    let letter = record.letter();
+    let other = record.own().unwrap_or(before);
     let mut saying = Saying {
         record,
         said: String::new(alloc),

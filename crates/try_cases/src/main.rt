@@ -170,12 +170,12 @@ fn annotated(out: &mut impl Write, buffer: &[u8]) -> io::Result<()> {
 }
 
 // What a call answers for an image, and what it left. Nothing where more is asked for than the buffer has.
-fn ask(out: &mut impl Write, alloc: Global, call: Call, image: &Vec<u8>) -> io::Result<()> {
+fn ask(out: &mut impl Write, alloc: Global, call: Call, image: &[u8]) -> io::Result<()> {
     let mut buffer = [MARK; BUFFER];
     let Some(lent) = buffer.get_mut(..call.lent) else {
         return Ok(());
     };
-    let before = image.clone()?;
+    let before = Vec::from_slice(alloc, image)?;
     let answer = call.make(image, lent);
     write!(out, ": {answer}")?;
     match call.function {
@@ -183,7 +183,7 @@ fn ask(out: &mut impl Write, alloc: Global, call: Call, image: &Vec<u8>) -> io::
         Function::Annotate { .. } => annotated(out, lent)?,
         Function::Linearize => {
             left(out, answer, &buffer, call.lent)?;
-            let kept = *image == before;
+            let kept = image == before.as_slice();
             write!(
                 out,
                 "{}",
