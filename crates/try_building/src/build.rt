@@ -312,8 +312,8 @@ fn external(variable: Identifier) -> Binding {
     }
 }
 
-// The image of a line of a text, from the colon at hand on: max_id, and records. They are counted first, since the pairs come before them; what that leaves in
-// the image stays where nothing else comes.
+// The image of a line of a text, from the colon at hand on: max_id, and records. They are counted first, since the pairs come before them; what
+// was written for that stays where nothing comes over it.
 pub fn build(alloc: Global, text: Text<'_>) -> Result<Built, AllocError> {
     let mut text = text;
     text.skip(2);
