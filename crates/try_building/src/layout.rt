@@ -20,6 +20,7 @@ const EQUAL: Part = Part::Byte(Comparison::Equal as u8);
 
 #[derive(Clone, Copy, PartialEq, Eq)]
 pub enum Part {
+    Kind(Kind),
     Byte(u8),
     Variable,
     Count,
@@ -31,46 +32,93 @@ pub enum Part {
     Space,
 }
 
-// The kind of the record of a letter, and what stands behind the kind. (A mark, 0 or 1, is a byte: the builder writes what stands here and
+// What stands in the record of a letter; nothing where no record has it. (A mark, 0 or 1, is a byte: the builder writes what stands here and
 // `Saying` compares it, byte by byte.)
-pub fn layout(letter: u8) -> Option<(Kind, &'static [Part])> {
+pub fn layout(letter: u8) -> &'static [Part] {
     use Part::{Bindings, Byte, Count, Pairs, Space, Variable};
     match letter {
-        b'd' => Some((Kind::Definition, &[LABEL, Bindings])),
-        b'u' => Some((Kind::Substitute, &[Pairs])),
-        b'c' => Some((Kind::Call, &[LABEL, Bindings])),
-        b't' => Some((Kind::Let, &[Variable, Byte(1), SORT, TAG, Bindings])),
-        b's' => Some((Kind::Switch, &[Variable, Byte(1), SORT, Space, Count])),
-        b'n' => Some((
-            Kind::Create,
-            &[Variable, Byte(1), SORT, Byte(0), Space, Count],
-        )),
-        b'e' => Some((
-            Kind::Create,
-            &[Variable, Byte(1), SORT, Byte(1), Bindings, Count],
-        )),
-        b'v' => Some((Kind::Invoke, &[Variable, TAG, Byte(1), SORT, Bindings])),
-        b'l' => Some((
-            Kind::Literal,
-            &[
-                Byte(7),
-                Byte(0),
-                Byte(0),
-                Byte(0),
-                Byte(0),
-                Byte(0),
-                Byte(0),
-                Byte(0),
-                Variable,
-            ],
-        )),
-        b'o' => Some((Kind::Op, &[Variable, SUM, Space, Variable, Space, Variable])),
-        b'i' => Some((Kind::IfC, &[EQUAL, Variable, Byte(0)])),
-        b'j' => Some((Kind::IfC, &[EQUAL, Variable, Byte(1), Space, Variable])),
-        b'k' => Some((Kind::Clause, &[TAG, Bindings])),
-        b'p' => Some((Kind::PrintI64, &[Byte(0), Variable])),
-        b'q' => Some((Kind::PrintI64, &[Byte(1), Variable])),
-        b'z' => Some((Kind::Exit, &[Variable])),
-        _ => None,
+        b'd' => &[Part::Kind(Kind::Definition), LABEL, Bindings],
+        b'u' => &[Part::Kind(Kind::Substitute), Pairs],
+        b'c' => &[Part::Kind(Kind::Call), LABEL, Bindings],
+        b't' => &[
+            Part::Kind(Kind::Let),
+            Variable,
+            Byte(1),
+            SORT,
+            TAG,
+            Bindings,
+        ],
+        b's' => &[
+            Part::Kind(Kind::Switch),
+            Variable,
+            Byte(1),
+            SORT,
+            Space,
+            Count,
+        ],
+        b'n' => &[
+            Part::Kind(Kind::Create),
+            Variable,
+            Byte(1),
+            SORT,
+            Byte(0),
+            Space,
+            Count,
+        ],
+        b'e' => &[
+            Part::Kind(Kind::Create),
+            Variable,
+            Byte(1),
+            SORT,
+            Byte(1),
+            Bindings,
+            Count,
+        ],
+        b'v' => &[
+            Part::Kind(Kind::Invoke),
+            Variable,
+            TAG,
+            Byte(1),
+            SORT,
+            Bindings,
+        ],
+        b'l' => &[
+            Part::Kind(Kind::Literal),
+            Byte(7),
+            Byte(0),
+            Byte(0),
+            Byte(0),
+            Byte(0),
+            Byte(0),
+            Byte(0),
+            Byte(0),
+            Variable,
+        ],
+        b'o' => &[
+            Part::Kind(Kind::Op),
+            Variable,
+            SUM,
+            Space,
+            Variable,
+            Space,
+            Variable,
+        ],
+        b'i' => &[Part::Kind(Kind::IfC), EQUAL, Variable, Byte(0)],
+        b'j' => &[
+            Part::Kind(Kind::IfC),
+            EQUAL,
+            Variable,
+            Byte(1),
+            Space,
+            Variable,
+        ],
+        b'k' => &[Part::Kind(Kind::Clause), TAG, Bindings],
+        b'p' => &[Part::Kind(Kind::PrintI64), Byte(0), Variable],
+        b'q' => &[Part::Kind(Kind::PrintI64), Byte(1), Variable],
+        b'z' => &[Part::Kind(Kind::Exit), Variable],
+        // What an IfC and a clause have behind their kind, and no kind.
+        b'a' => &[EQUAL, Variable, Byte(0)],
+        b'b' => &[TAG, Bindings],
+        _ => &[],
     }
 }

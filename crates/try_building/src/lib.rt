@@ -25,6 +25,7 @@ pub mod image;
 pub mod layout;
 pub mod lists;
 pub mod notation;
+pub mod place;
 pub mod reader;
 pub mod record;
 pub mod refusal;

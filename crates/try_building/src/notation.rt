@@ -1,9 +1,8 @@
 // An image in the notation of its lines. A record that the notation cannot say is there as x and its bytes.
-use crate::codes::Chirality;
-use crate::image::Image;
+use crate::codes::{Chirality, Kind, UnknownCode};
+use crate::image::body;
 use crate::layout::{NAME, Part, TYPE, layout};
-use crate::reader::Reader;
-use crate::record::Record;
+use crate::place::plus;
 use crate::sum::adler32;
 use std::alloc::{AllocError, Global};
 
@@ -28,67 +27,109 @@ fn only(so: bool) -> Result<(), Unsaid> {
     if so { Ok(()) } else { Err(Unsaid::Otherwise) }
 }
 
-// The letter of a record. Of Create, IfC and PrintI64 there are two each.
-fn letter(record: Record<'_>) -> u8 {
-    match record {
-        Record::Definition { .. } => b'd',
-        Record::Substitute { .. } => b'u',
-        Record::Call { .. } => b'c',
-        Record::Let { .. } => b't',
-        Record::Switch { .. } => b's',
-        Record::Create {
-            environment: None,
-            ..
-        } => b'n',
-        Record::Create {
-            environment: Some(_),
-            ..
-        } => b'e',
-        Record::Invoke { .. } => b'v',
-        Record::Literal { .. } => b'l',
-        Record::Op { .. } => b'o',
-        Record::IfC { second: None, .. } => b'i',
-        Record::IfC {
-            second: Some(_),
-            ..
-        } => b'j',
-        Record::Clause { .. } => b'k',
-        Record::PrintI64 { newline: false, .. } => b'p',
-        Record::PrintI64 { newline: true, .. } => b'q',
-        Record::Exit { .. } => b'z',
+// An image that is read from a place on, also where it is not well formed: past its end it has zero bytes. (No `Reader`, which ends there.)
+#[derive(Clone, Copy)]
+struct Padded<'a> {
+    image: &'a [u8],
+    at: usize,
+}
+
+impl<'a> Padded<'a> {
+    fn new(image: &'a [u8], at: usize) -> Padded<'a> {
+        Padded { image, at }
+    }
+
+    fn byte(&mut self) -> u8 {
+        let byte = self.image.get(self.at).copied().unwrap_or(0);
+        self.at = plus(self.at, 1);
+        byte
+    }
+
+    fn half(&mut self) -> u16 {
+        u16::from_le_bytes([self.byte(), self.byte()])
+    }
+
+    // The same, n bytes on.
+    fn later(self, n: usize) -> Padded<'a> {
+        Padded::new(self.image, plus(self.at, n))
+    }
+}
+
+// A record at its beginning.
+impl Padded<'_> {
+    fn kind(mut self) -> Result<Kind, UnknownCode> {
+        Kind::try_from(self.byte())
+    }
+
+    // Whether the mark that stands n bytes on is 1.
+    fn is_marked(self, n: usize) -> bool {
+        self.later(n).byte() == 1
+    }
+
+    // Its letter. Of Create, IfC and PrintI64 there are two each.
+    fn letter(self) -> u8 {
+        match self.kind() {
+            Ok(Kind::Definition) => b'd',
+            Ok(Kind::Substitute) => b'u',
+            Ok(Kind::Call) => b'c',
+            Ok(Kind::Let) => b't',
+            Ok(Kind::Switch) => b's',
+            Ok(Kind::Create) if self.is_marked(10) => b'e',
+            Ok(Kind::Create) => b'n',
+            Ok(Kind::Invoke) => b'v',
+            Ok(Kind::Literal) => b'l',
+            Ok(Kind::Op) => b'o',
+            Ok(Kind::IfC) if self.is_marked(6) => b'j',
+            Ok(Kind::IfC) => b'i',
+            Ok(Kind::Clause) => b'k',
+            Ok(Kind::PrintI64) if self.is_marked(1) => b'q',
+            Ok(Kind::PrintI64) => b'p',
+            Ok(Kind::Exit) => b'z',
+            // These have no layout: what is said with them is empty.
+            Err(UnknownCode(0)) => b'?',
+            Err(_) => 0,
+        }
+    }
+
+    // The ID of its first label, tag or type, if it has one.
+    fn own(self) -> Option<u16> {
+        let place = match self.kind() {
+            Ok(Kind::Definition | Kind::Call | Kind::Clause) => 3,
+            Ok(Kind::Invoke) => 7,
+            Ok(Kind::Let | Kind::Switch | Kind::Create) => 8,
+            Ok(_) | Err(UnknownCode(0)) => return None,
+            // What is of no kind is taken to have one behind all those places.
+            Err(_) => 16,
+        };
+        Some(self.later(place).half())
     }
 }
 
 // A record that is read and said.
 #[derive(Drop)]
 struct Saying<'a> {
-    record: Reader<'a>,
+    record: Padded<'a>,
     said: String,
-    // The ID of labels, tags and types before this record, and that of its own first one.
-    before: u16,
-    own: Option<u16>,
+    // The ID that labels, tags and types have.
+    other: u16,
 }
 
-impl<'a> Saying<'a> {
-    // The ID that labels, tags and types have.
-    fn other(&self) -> u16 {
-        self.own.unwrap_or(self.before)
+impl Saying<'_> {
+    fn byte(&mut self) -> u8 {
+        self.record.byte()
     }
 
-    fn byte(&mut self) -> Result<u8, Unsaid> {
-        self.record.byte().ok_or(Unsaid::Otherwise)
-    }
-
-    fn half(&mut self) -> Result<u16, Unsaid> {
-        self.record.half().ok_or(Unsaid::Otherwise)
+    fn half(&mut self) -> u16 {
+        self.record.half()
     }
 
     fn part(&mut self, part: Part) -> Result<(), Unsaid> {
         match part {
-            Part::Byte(byte) => only(self.byte()? == byte),
+            Part::Kind(kind) => only(self.byte() == kind as u8),
+            Part::Byte(byte) => only(self.byte() == byte),
             Part::Variable => self.variable(),
             Part::Count => {
-                let n = self.byte()?;
+                let n = self.byte();
                 Ok(write!(self.said, "{n}")?)
             }
             Part::Bindings => self.bindings(),
@@ -98,17 +139,16 @@ impl<'a> Saying<'a> {
         }
     }
 
-    // A label, a tag or a type of this name. The first one's ID is that of the others.
+    // A label, a tag or a type of this name.
     fn named(&mut self, name: u16) -> Result<(), Unsaid> {
-        only(self.half()? == name)?;
-        let id = self.half()?;
-        only(id == *self.own.get_or_insert(id))
+        only(self.half() == name)?;
+        only(self.half() == self.other)
     }
 
     // A variable: its ID, and its name where that is another than usual.
     fn variable(&mut self) -> Result<(), Unsaid> {
-        let name = self.half()?;
-        let id = self.half()?;
+        let name = self.half();
+        let id = self.half();
         write!(self.said, "{id}")?;
         if name != NAME {
             write!(self.said, "'{name}")?;
@@ -118,7 +158,7 @@ impl<'a> Saying<'a> {
 
     fn binding(&mut self) -> Result<(), Unsaid> {
         self.variable()?;
-        match Chirality::try_from(self.byte()?) {
+        match Chirality::try_from(self.byte()) {
             Ok(Chirality::Producer) => self.declared("p"),
             Ok(Chirality::Consumer) => self.declared("c"),
             Ok(Chirality::External) => self.integer(),
@@ -129,19 +169,19 @@ impl<'a> Saying<'a> {
     // The type of a producer or a consumer, whose name is said where it is another than usual.
     fn declared(&mut self, letter: &str) -> Result<(), Unsaid> {
         self.said.push_str(letter)?;
-        only(self.byte()? == 1)?;
-        let name = self.half()?;
+        only(self.byte() == 1)?;
+        let name = self.half();
         if name != TYPE {
             write!(self.said, "{name}")?;
         }
-        only(self.half()? == self.other())
+        only(self.half() == self.other)
     }
 
     // The type I64.
     fn integer(&mut self) -> Result<(), Unsaid> {
-        only(self.byte()? == 0)?;
-        only(self.half()? == 0)?;
-        only(self.half()? == 0)
+        only(self.byte() == 0)?;
+        only(self.half() == 0)?;
+        only(self.half() == 0)
     }
 
     fn space(&mut self, i: u8) -> Result<(), Unsaid> {
@@ -153,7 +193,7 @@ impl<'a> Saying<'a> {
 
     fn bindings(&mut self) -> Result<(), Unsaid> {
         self.said.push_str("(")?;
-        for i in 0..self.byte()? {
+        for i in 0..self.byte() {
             self.space(i)?;
             self.binding()?;
         }
@@ -162,7 +202,7 @@ impl<'a> Saying<'a> {
 
     fn pairs(&mut self) -> Result<(), Unsaid> {
         self.said.push_str("(")?;
-        for i in 0..self.byte()? {
+        for i in 0..self.byte() {
             self.space(i)?;
             self.binding()?;
             self.said.push_str("<")?;
@@ -172,22 +212,24 @@ impl<'a> Saying<'a> {
     }
 }
 
-// A record in the notation, and the ID of labels, tags and types in it, which is told where it is another than before.
-fn say(alloc: Global, record: &[u8], before: u16) -> Result<(String, u16), Unsaid> {
-    let letter = letter(Record::of(record).ok_or(Unsaid::Otherwise)?);
-    let (kind, parts) = layout(letter).ok_or(Unsaid::Otherwise)?;
+// A record in the notation, which ends at a place, and the ID of labels, tags and types in it, which is told where it is another than before.
+fn say(
+    alloc: Global,
+    record: Padded<'_>,
+    end: usize,
+    before: u16,
+) -> Result<(String, u16), Unsaid> {
+    let letter = record.letter();
+    let other = record.own().unwrap_or(before);
     let mut saying = Saying {
-        record: Reader::new(record),
+        record,
         said: String::new(alloc),
-        before,
-        own: None,
+        other,
     };
-    only(saying.byte()? == kind as u8)?;
-    for part in parts {
+    for part in layout(letter) {
         saying.part(*part)?;
     }
-    only(saying.record.rest().is_empty())?;
-    let other = saying.other();
+    only(saying.record.at == end)?;
     let mut text = String::new(alloc);
     if other != before {
         write!(text, "#{other} ")?;
@@ -210,18 +252,24 @@ pub fn notation(alloc: Global, bytes: &[u8]) -> Result<String, AllocError> {
     if TOLD < bytes.len() {
         return format!(in alloc; "sum {:08x}", adler32(bytes));
     }
-    let image = Image::new(bytes);
-    let mut text = format!(in alloc; "{}", image.max_id())?;
+    let mut counts = Padded::new(bytes, 4);
+    let max_id = counts.half();
+    let mut text = format!(in alloc; "{max_id}")?;
     let mut other = 0;
-    for k in 0..image.records() {
+    for k in 0..counts.half() {
         text.push_str(" ")?;
-        let record = image.record_bytes(k).unwrap_or(&[]);
-        match say(alloc, record, other) {
+        let mut pair = Padded::new(bytes, body(k));
+        let record = Padded::new(bytes, usize::from(pair.half()));
+        let end = plus(record.at, usize::from(pair.half()));
+        match say(alloc, record, end, other) {
             Ok((said, own)) => {
                 text.push_str(said.as_str())?;
                 other = own;
             }
-            Err(Unsaid::Otherwise) => say_bytes(&mut text, record)?,
+            Err(Unsaid::Otherwise) => {
+                let (front, _) = bytes.split_at_checked(end).unwrap_or((bytes, &[]));
+                say_bytes(&mut text, front.get(record.at..).unwrap_or(&[]))?
+            }
             Err(Unsaid::NoMemory) => return Err(AllocError),
         }
     }

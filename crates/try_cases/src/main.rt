@@ -6,11 +6,18 @@
 #![tactic(auto)]
 
 use std::alloc::Global;
-use std::io::{self, BufWriter, Error, ErrorKind, Write};
+use std::io::{self, ErrorKind, Read, Write};
 use try_building::answer::Answer;
 use try_building::build::build;
 use try_building::notation::notation;
+use try_building::place::plus;
 use try_building::refusal::{NoRefusal, Refusal};
+use try_building::text::Text;
+
+// How many bytes of the input are read, and how many lines of them.
+const READ: u64 = 65536;
+
+const LINES: u16 = 1000;
 
 // The bytes that are lent where the name says nothing.
 const LENT: usize = 65535;
@@ -29,6 +36,21 @@ enum Function {
     Check,
     Linearize,
     Annotate { record: usize },
+    // Linearization, of which the answer alone is told. It is what cases ask for that no line with = stands before.
+    Answer,
+}
+
+// The function by the first letter that a line has behind its =.
+impl From<u8> for Function {
+    fn from(letter: u8) -> Function {
+        match letter {
+            b'r' => Function::Read,
+            b'c' => Function::Check,
+            b'l' => Function::Linearize,
+            b'a' => Function::Annotate { record: 0 },
+            _ => Function::Answer,
+        }
+    }
 }
 
 #[derive(Clone, Copy)]
@@ -37,54 +59,36 @@ struct Call {
     lent: usize,
 }
 
-fn malformed(what: &'static str) -> Error {
-    Error::new(ErrorKind::InvalidData, what)
-}
-
-// The function that a line names behind its =.
-impl<'a> TryFrom<&'a str> for Function {
-    type Error = Error;
-
-    fn try_from(name: &'a str) -> io::Result<Function> {
-        match name {
-            "read" => Ok(Function::Read),
-            "check" => Ok(Function::Check),
-            "linearize" => Ok(Function::Linearize),
-            _ => Err(malformed("no such function")),
-        }
-    }
-}
-
-fn number(text: &str) -> io::Result<usize> {
-    text.parse()
-        .map_err(|_| malformed("a name has no number behind its @"))
-}
-
 impl Call {
     // The call that the name of a case asks for, among the cases of a function.
-    fn of(name: &str, function: Function) -> io::Result<Call> {
-        match name.split_once('@') {
-            None => Ok(Call {
+    fn of(text: Text<'_>, name: &[u8], function: Function) -> Call {
+        match name.iter().position(|b| *b == b'@') {
+            None => Call {
                 function,
                 lent: LENT,
-            }),
-            Some((_, asked)) => Call::with(asked, function),
+            },
+            Some(sign) => {
+                let mut asked = text;
+                asked.skip(plus(sign, 1));
+                Call::with(asked, function)
+            }
         }
     }
 
-    // The call of what stands behind the @.
-    fn with(asked: &str, function: Function) -> io::Result<Call> {
-        match asked.split_once(' ') {
-            None => Ok(Call {
+    // The call of what stands behind the @, where a number that isn't there is 0.
+    fn with(asked: Text<'_>, function: Function) -> Call {
+        let mut asked = asked;
+        let first = asked.decimal().unwrap_or(0);
+        if function == Function::Linearize {
+            return Call {
                 function,
-                lent: number(asked)?,
-            }),
-            Some((record, lent)) => Ok(Call {
-                function: Function::Annotate {
-                    record: number(record)?,
-                },
-                lent: number(lent)?,
-            }),
+                lent: first,
+            };
+        }
+        asked.skip(1);
+        Call {
+            function: Function::Annotate { record: first },
+            lent: asked.decimal().unwrap_or(0),
         }
     }
 
@@ -97,7 +101,9 @@ impl Call {
         let number = match self.function {
             Function::Read => axcut::axcut_read(image, &mut length, &mut max_id),
             Function::Check => axcut::axcut_check(image, &mut length, &mut max_id),
-            Function::Linearize => axcut::axcut_linearize(image, out, &mut length, &mut max_id),
+            Function::Linearize | Function::Answer => {
+                axcut::axcut_linearize(image, out, &mut length, &mut max_id)
+            }
             Function::Annotate { record } => {
                 axcut::axcut_annotate(image, record, out, &mut length, &mut max_id)
             }
@@ -163,29 +169,21 @@ fn annotated(out: &mut impl Write, buffer: &[u8]) -> io::Result<()> {
     Ok(())
 }
 
-// A case: its name, and a line of text. The image is compared after the call.
-fn case(
-    out: &mut impl Write,
-    alloc: Global,
-    function: Function,
-    name: &str,
-    line: &str,
-) -> io::Result<()> {
-    let call = Call::of(name, function)?;
-    let image = build(alloc, line.as_bytes())?;
-    let before = image.clone()?;
+// What a call answers for an image, and what it left. Nothing where more is asked for than the buffer has.
+fn ask(out: &mut impl Write, alloc: Global, call: Call, image: &[u8]) -> io::Result<()> {
     let mut buffer = [MARK; BUFFER];
-    let lent = buffer
-        .get_mut(..call.lent)
-        .ok_or(malformed("too much is lent"))?;
-    let answer = call.make(&image, lent);
-    write!(out, "{name}: {answer}")?;
+    let Some(lent) = buffer.get_mut(..call.lent) else {
+        return Ok(());
+    };
+    let before = Vec::from_slice(alloc, image)?;
+    let answer = call.make(image, lent);
+    write!(out, ": {answer}")?;
     match call.function {
-        Function::Read | Function::Check => {}
+        Function::Read | Function::Check | Function::Answer => {}
         Function::Annotate { .. } => annotated(out, lent)?,
         Function::Linearize => {
             left(out, answer, &buffer, call.lent)?;
-            let kept = image == before;
+            let kept = image == before.as_slice();
             write!(
                 out,
                 "{}",
@@ -201,31 +199,65 @@ fn case(
             }
         }
     }
-    writeln!(out)
+    Ok(())
 }
 
-// All cases. A line that begins with - is a remark.
-fn cases(out: &mut impl Write, alloc: Global, text: &str) -> io::Result<()> {
-    let mut function = Function::Read;
-    for line in text.lines() {
-        if line.starts_with('-') {
-            continue;
+// The case at hand: its name, up to the next colon, and a line of text behind that. The place where the line ends.
+fn case(
+    out: &mut impl Write,
+    alloc: Global,
+    function: Function,
+    text: Text<'_>,
+) -> io::Result<usize> {
+    let name = text.before(b':');
+    let mut line = text;
+    line.skip(name.len());
+    let built = build(alloc, line)?;
+    out.write_all(name)?;
+    if let Some(image) = &built.image {
+        ask(out, alloc, Call::of(text, name, function), image)?;
+    }
+    out.write_all(b"\n")?;
+    Ok(built.end)
+}
+
+// All cases. A line that begins with - is a remark. Each is written when it is whole; where nothing can be written the next one is tried.
+fn cases(out: &mut impl Write, alloc: Global, input: &[u8]) -> io::Result<()> {
+    let mut function = Function::Answer;
+    let mut text = Text::new(input, 0);
+    let mut said = Vec::new(alloc);
+    for _ in 0..LINES {
+        if text.rest().is_empty() {
+            break;
         }
-        if let Some(name) = line.strip_prefix('=') {
-            function = Function::try_from(name)?;
-        } else {
-            let (name, rest) = line
-                .split_once(": ")
-                .ok_or(malformed("a case has no colon"))?;
-            case(out, alloc, function, name, rest)?;
+        match text.byte() {
+            b'-' => text.skip_line(),
+            b'=' => {
+                text.skip(1);
+                function = Function::from(text.byte());
+                text.skip_line();
+            }
+            _ => {
+                said.clear();
+                let end = case(&mut said, alloc, function, text)?;
+                text = Text::new(input, plus(end, 1));
+                let _ = out.write_all(&said);
+            }
         }
     }
     Ok(())
 }
 
+// What is read of the input. A read that fails ends it, as its end does.
+fn input(rt: &HostRuntime) -> io::Result<Vec<u8>> {
+    let mut bytes = Vec::new(rt.alloc());
+    match rt.reader().take(READ).read_to_end(&mut bytes) {
+        Err(error) if error.kind() == ErrorKind::OutOfMemory => Err(error),
+        _ => Ok(bytes),
+    }
+}
+
 fn main(rt: HostRuntime) -> io::Result<()> {
-    let text = io::read_to_string(rt.alloc(), rt.reader())?;
-    let mut out = BufWriter::new(rt.alloc(), rt.stdout())?;
-    cases(&mut out, rt.alloc(), text.as_str())?;
-    out.flush()
+    let bytes = input(&rt)?;
+    cases(&mut rt.stdout(), rt.alloc(), &bytes)
 }
