@@ -1,6 +1,6 @@
 // The kinds of records, and what a kind decides: the fixed part of a record, and the bodies that follow it.
-ghost use Rattle.std.specs.Prelude.{◌≡◌, ◌≤◌};
-ghost use Rattle.image_spec.specs.Kinds.{fixed, bodies};
+ghost use Rattle.std.specs.Prelude.{◌≡◌, ◌≤◌, ◌<◌};
+ghost use Rattle.image_spec.specs.Kinds.{kinds, fixed, bodies};
 ghost use Rattle.image_kinds.specs.Codes.{code_of};
 
 // Document 01's kinds, in the order of their bytes.
@@ -53,5 +53,26 @@ impl Kind {
             | Kind::Print => 1,
             Kind::IfC => 2,
         }
+    }
+}
+
+// The same of a kind's byte, for who has no `Kind`; 0 is no kind, and decides nothing.
+pub fn fixed_of(code: u8, w: usize) -> usize
+    requires { (code < kinds) × (w ≤ 8) }
+    ensures { result ≡ «fixed» w code }
+{
+    match Kind::try_from(code) {
+        Ok(kind) => kind.fixed(w),
+        Err(_) => 0,
+    }
+}
+
+pub fn bodies_of(code: u8) -> usize
+    requires { code < kinds }
+    ensures { result ≡ «bodies» code }
+{
+    match Kind::try_from(code) {
+        Ok(kind) => kind.bodies(),
+        Err(_) => 0,
     }
 }
