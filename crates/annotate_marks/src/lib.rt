@@ -39,7 +39,15 @@ pub fn count_marked(row: &[u8]) -> u32
     requires { length row.now < 2 ^ 32 }
     ensures { result ≡ length (marked_from 0 row.now) }
 {
-    row.iter().filter(|b| **b != 0).count() as u32
+    // (By index, here and below: over an iterator the same loop took half as many instructions again, and a call of an annotation goes over its
+    // 65,536 marks twice.)
+    let mut marked: u32 = 0;
+    for i in 0..row.len() {
+        if row[i] != 0 {
+            marked += 1;
+        }
+    }
+    marked
 }
 
 // Writes the marked IDs in ascending order.
@@ -48,8 +56,8 @@ pub fn put_marked(row: &[u8], writer: &mut Writer<'_>)
     ensures { Wrote writer.old writer.new (each (λ (x : VarId). field writer.old.id x.0) (marked_from 0 row.now)) }
 {
     let width = writer.id;
-    for (i, b) in row.iter().enumerate() {
-        if *b != 0 {
+    for i in 0..row.len() {
+        if row[i] != 0 {
             writer.number(width, i as u32);
         }
     }

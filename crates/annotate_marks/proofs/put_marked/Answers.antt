@@ -3,7 +3,7 @@ use native.Mathlib.Omega.{arith}
 use Rattle.image_spec.proofs.FieldLaws.{field-length}
 use Rattle.annotate_marks.proofs.MarkedLaws.{ends_none, ends-one, ends-past}
 use Rattle.annotate_marks.proofs.put_marked.Goals as goal
-use Rattle.annotate_marks.proofs.put_marked.Goals.{then-b-ne0, else-b-ne0}
+use Rattle.annotate_marks.proofs.put_marked.Goals.{then-row-i-ne0, else-row-i-ne0}
 
 pub number-requires : goal.number-requires
 number-requires c =
@@ -15,13 +15,13 @@ loop-i-preserved c =
     let l = c.loop-i in
     let i = l.invariant in
     let s = c.args.writer.now in
-    elim c.if-b-ne0.branch [
-      | then-b-ne0 w ↦
+    elim c.if-row-i-ne0.branch [
+      | then-row-i-ne0 w ↦
           let p = w.number.ensures in
           let k = field-length s.id l.i in
           rw w.writer-is
-          ((omega (arith, p.puts.ends, k, s.narrow), ends-one i.0.1 (omega arith) w.if-b-ne0.true p.puts), (p.id ∙ i.1.0, p.same ∙ i.1.1))
-      | else-b-ne0 w ↦ rw w.writer-is ((omega arith, ends_none i.0.1 (omega arith) w.if-b-ne0.false), i.1)
+          ((omega (arith, p.puts.ends, k, s.narrow), ends-one i.0.1 (omega arith) w.if-row-i-ne0.true p.puts), (p.id ∙ i.1.0, p.same ∙ i.1.1))
+      | else-row-i-ne0 w ↦ rw w.writer-is ((omega arith, ends_none i.0.1 (omega arith) w.if-row-i-ne0.false), i.1)
     ]
 
 pub returns : goal.returns
