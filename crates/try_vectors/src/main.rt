@@ -18,6 +18,7 @@ use tally::Tally;
 use trouble::Trouble;
 
 // What an image and its calls are read into, one after the other.
+#[derive(Drop)]
 struct Space {
     image: [u8; LARGEST],
     kept: [u8; LARGEST],
@@ -39,8 +40,8 @@ impl Space {
 }
 
 // `input` and `out`, here and below: what is read and where it is written.
-// A call, which is read to `behind`.
-fn call(
+// A call: it is read to `behind`, made again, and compared.
+fn compare(
     input: &mut impl Read,
     out: &mut impl Write,
     image: Image<'_>,
@@ -85,7 +86,7 @@ fn image(
     let mut ended = Ok(());
     for _ in 0..byte(input)? {
         ended?;
-        ended = call(input, out, image, behind, left, tally);
+        ended = compare(input, out, image, behind, left, tally);
     }
     tally.next();
     ended
