@@ -47,12 +47,9 @@ pub const UNASKED: Answer = Answer {
     max_id: NONE as u64,
 };
 
-// Are all of them this byte? (The first is, and each is as the one before it: two slices are compared many bytes at a time.)
+// Are all of them this byte? (No stop at the first other one: so many bytes are compared at a time.)
 fn full_of(bytes: &[u8], byte: u8) -> bool {
-    match bytes.split_first() {
-        Some((first, behind)) => *first == byte && bytes.starts_with(behind),
-        None => true,
-    }
+    bytes.iter().fold(0, |others, b| others | (*b ^ byte)) == 0
 }
 
 // The first place at which a buffer has another byte than expected: the text, and behind it the rest byte.
