@@ -11,7 +11,7 @@ mod trouble;
 
 use call::{Call, Function};
 use input::{byte, word};
-use replay::{GUARDED, Image, LARGEST, replay};
+use replay::{Arrays, GUARDED, Image, LARGEST, replay};
 use std::io::{self, BufReader, LineWriter, Read, Write};
 use steppers::replay_steps;
 use tally::Tally;
@@ -24,8 +24,7 @@ struct Space {
     kept: [u8; LARGEST],
     // What stands behind a call's numbers.
     behind: [u8; LARGEST],
-    // What the calls of steppers on an image are expected to leave in the array that their stores are the beginning of.
-    left: [u8; GUARDED],
+    arrays: Arrays,
 }
 
 impl Space {
@@ -34,7 +33,7 @@ impl Space {
             image: [0; LARGEST],
             kept: [0; LARGEST],
             behind: [0; LARGEST],
-            left: [0; GUARDED],
+            arrays: Arrays::new(),
         }
     }
 }
@@ -46,19 +45,19 @@ fn compare(
     out: &mut impl Write,
     image: Image<'_>,
     behind: &mut [u8],
-    left: &mut [u8; GUARDED],
+    arrays: &mut Arrays,
     tally: &mut Tally,
 ) -> Result<(), Trouble> {
     let call = Call::read(input, behind)?;
     let seen = match call.function {
         Function::Read | Function::Check | Function::Linearize | Function::Annotate => {
-            replay(call, image)
+            replay(call, image, &mut arrays.lent)
         }
         Function::SourceStart
         | Function::SourceStep
         | Function::LinearStart
         | Function::LinearStep
-        | Function::Unknown(_) => replay_steps(call, image, left),
+        | Function::Unknown(_) => replay_steps(call, image, arrays),
     };
     Ok(tally.add(out, call, seen)?)
 }
@@ -75,18 +74,18 @@ fn image(
         image,
         kept,
         behind,
-        left,
+        arrays,
     } = space;
     let image = image.get_mut(..n).ok_or(Trouble::Broken)?;
     let kept = kept.get_mut(..n).ok_or(Trouble::Broken)?;
     input.read_exact(image)?;
     kept.copy_from_slice(image);
-    *left = [0; GUARDED];
+    arrays.left = [0; GUARDED];
     let image = Image { bytes: image, kept };
     let mut ended = Ok(());
     for _ in 0..byte(input)? {
         ended?;
-        ended = compare(input, out, image, behind, left, tally);
+        ended = compare(input, out, image, behind, arrays, tally);
     }
     tally.next();
     ended

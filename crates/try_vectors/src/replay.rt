@@ -8,6 +8,26 @@ pub const LARGEST: usize = 65536;
 // Each lent buffer is the beginning of an array of so many bytes, at least 64 more than the most that is lent, and all of it is compared.
 pub const GUARDED: usize = 65600;
 
+// The arrays. They are there once, and a call fills what it takes of them anew: arrays of a function's own would be set to zero before that.
+#[derive(Drop)]
+pub struct Arrays {
+    // Of the output buffer, of a stepper that of the store.
+    pub lent: [u8; GUARDED],
+    pub events: [u8; GUARDED],
+    // What the calls of steppers on an image are expected to leave in the array that their stores are the beginning of.
+    pub left: [u8; GUARDED],
+}
+
+impl Arrays {
+    pub fn new() -> Arrays {
+        Arrays {
+            lent: [0; GUARDED],
+            events: [0; GUARDED],
+            left: [0; GUARDED],
+        }
+    }
+}
+
 // An image and a copy of it that no call is lent, since no call may change it.
 #[derive(Clone, Copy)]
 pub struct Image<'a> {
@@ -90,9 +110,9 @@ fn ask(call: Call<'_>, image: &[u8], out: &mut [u8]) -> Answer {
 }
 
 // Makes a call, and looks at all that it could have written. A buffer that is larger than the array gets none of it.
-pub fn replay(call: Call<'_>, image: Image<'_>) -> Outcome {
+pub fn replay(call: Call<'_>, image: Image<'_>, array: &mut [u8; GUARDED]) -> Outcome {
     let room = call.room;
-    let mut array = [call.old; GUARDED];
+    *array = [call.old; GUARDED];
     let (answer, buffer) = match array.split_at_mut_checked(room) {
         Some((out, behind)) => {
             let answer = ask(call, image.bytes, out);

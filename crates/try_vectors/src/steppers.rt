@@ -1,6 +1,6 @@
 // Making a call of a stepper again, and what it leaves.
 use crate::call::{Call, Function};
-use crate::replay::{GUARDED, Image, NONE, Outcome, UNASKED, differs};
+use crate::replay::{Arrays, GUARDED, Image, NONE, Outcome, UNASKED, differs};
 use try_building::answer::Answer;
 use try_building::reader::Reader;
 
@@ -42,7 +42,7 @@ impl<'a> Changes<'a> {
 
 // What a call of a stepper has beside the expected events.
 #[derive(Clone, Copy)]
-struct Lent<'a> {
+struct Beside<'a> {
     // The length of the event buffer.
     events: usize,
     // The values of a start; none where they are cut off.
@@ -53,12 +53,12 @@ struct Lent<'a> {
 // Where the values begin, behind the two lengths.
 const VALUES: usize = 4;
 
-impl<'a> Lent<'a> {
-    fn of(more: &'a [u8]) -> Lent<'a> {
+impl<'a> Beside<'a> {
+    fn of(more: &'a [u8]) -> Beside<'a> {
         let mut lengths = Changes::new(more);
         let events = usize::from(lengths.half());
         let end = VALUES + usize::from(lengths.half());
-        Lent {
+        Beside {
             events,
             values: more.get(VALUES..end),
             changes: Changes::new(more.get(end..).unwrap_or(b"")),
@@ -93,31 +93,32 @@ fn ask(call: Call<'_>, image: &[u8], values: &[u8], store: &mut [u8], events: &m
 fn asked(
     call: Call<'_>,
     image: &[u8],
-    lent: Lent<'_>,
+    beside: Beside<'_>,
     store: &mut [u8],
     events: &mut [u8],
 ) -> Option<Answer> {
     let store = store.get_mut(..call.room)?;
-    let events = events.get_mut(..lent.events)?;
-    Some(ask(call, image, lent.values?, store, events))
+    let events = events.get_mut(..beside.events)?;
+    Some(ask(call, image, beside.values?, store, events))
 }
 
 // Makes a call and looks at all that it could have written. `left` has what the call before must have left in its store, and then what
 // this one must leave: so the store goes by what is expected, whatever was answered.
-pub fn replay_steps(call: Call<'_>, image: Image<'_>, left: &mut [u8; GUARDED]) -> Outcome {
-    let mut lent = Lent::of(call.more);
+pub fn replay_steps(call: Call<'_>, image: Image<'_>, arrays: &mut Arrays) -> Outcome {
+    let Arrays { lent, events, left } = arrays;
+    let mut beside = Beside::of(call.more);
     if call.function.starts() {
         *left = [call.old; GUARDED];
     }
-    lent.changes.make(left);
-    let mut store = *left;
-    lent.changes.make(left);
-    let mut events = [call.old; GUARDED];
-    let answer = asked(call, image.bytes, lent, &mut store, &mut events).unwrap_or(UNASKED);
+    beside.changes.make(left);
+    *lent = *left;
+    beside.changes.make(left);
+    *events = [call.old; GUARDED];
+    let answer = asked(call, image.bytes, beside, lent, events).unwrap_or(UNASKED);
     Outcome {
         answer,
-        buffer: differs(&store, left, 0),
-        events: differs(&events, call.text, call.old),
+        buffer: differs(lent, left, 0),
+        events: differs(events, call.text, call.old),
         image: image.is_kept(),
     }
 }
