@@ -5,10 +5,10 @@ use try_building::answer::Answer;
 // No image, and nothing that stands behind a call, has more bytes.
 pub const LARGEST: usize = 65536;
 
-// Each lent buffer is the beginning of an array of so many bytes, at least 64 more than the most that is lent, and all of it is compared.
+// Each lent buffer is the beginning of an array of so many bytes, 64 more than the oracle lends at most, and all of it is compared.
 pub const GUARDED: usize = 65600;
 
-// The arrays. They are there once, and a call fills what it takes of them anew: arrays of a function's own would be set to zero before that.
+// The arrays. They are there once, and a call fills those that it takes anew: a function's own would be set to zero before that.
 #[derive(Drop)]
 pub struct Arrays {
     // Of the output buffer, of a stepper that of the store.
