@@ -1,8 +1,9 @@
-// A call of the input, and the answer that is expected. Numbers are little-endian.
+// A call of the input, and the answer that is expected.
+use crate::input::{byte, double, half, word};
+use crate::trouble::Trouble;
 use std::fmt;
+use std::io::Read;
 use try_building::answer::Answer;
-use try_building::codes::UnknownCode;
-use try_building::reader::Reader;
 use try_building::refusal::Refusal;
 
 #[derive(Clone, Copy, PartialEq, Eq, PartialOrd, Ord)]
@@ -15,6 +16,8 @@ pub enum Function {
     SourceStep,
     LinearStart,
     LinearStep,
+    // A code that is none of the others: it is asked for as LinearStep, and no answer is the expected one.
+    Unknown(u8),
 }
 
 impl Function {
@@ -35,14 +38,12 @@ impl Function {
     }
 }
 
-impl TryFrom<u8> for Function {
-    type Error = UnknownCode;
-
-    fn try_from(code: u8) -> Result<Function, UnknownCode> {
+impl From<u8> for Function {
+    fn from(code: u8) -> Function {
         Function::ALL
             .get(usize::from(code))
             .copied()
-            .ok_or(UnknownCode(code))
+            .unwrap_or(Function::Unknown(code))
     }
 }
 
@@ -56,7 +57,7 @@ impl fmt::Display for Function {
             Function::SourceStart => "axcut_source_start",
             Function::SourceStep => "axcut_source_step",
             Function::LinearStart => "axcut_linear_start",
-            Function::LinearStep => "axcut_linear_step",
+            Function::LinearStep | Function::Unknown(_) => "axcut_linear_step",
         })
     }
 }
@@ -75,20 +76,24 @@ pub struct Call<'a> {
     // What the buffer, of a stepper the event buffer, begins with after the call.
     pub text: &'a [u8],
     // What a stepper has beside: its values, and the changes of its store.
-    pub more: Reader<'a>,
+    pub more: &'a [u8],
 }
 
 impl<'a> Call<'a> {
-    pub fn read(input: &mut Reader<'a>) -> Option<Call<'a>> {
-        let function = Function::try_from(input.byte()?).ok()?;
-        let index = input.double()?;
-        let room = usize::try_from(input.word()?).ok()?;
-        let old = input.byte()?;
-        let number = u32::from(input.byte()?);
-        let length = usize::from(input.half()?);
-        let more = usize::from(input.half()?);
-        let max_id = u64::from(input.word()?);
-        Some(Call {
+    // What stands behind a call's numbers is read to the front of `space`, and broken where that has no room for it.
+    pub fn read(input: &mut impl Read, space: &'a mut [u8]) -> Result<Call<'a>, Trouble> {
+        let function = Function::from(byte(input)?);
+        let index = double(input)?;
+        let room = word(input)? as usize;
+        let old = byte(input)?;
+        let number = u32::from(byte(input)?);
+        let length = usize::from(half(input)?);
+        let more = usize::from(half(input)?);
+        let max_id = u64::from(word(input)?);
+        let behind = space.get_mut(..length + more).ok_or(Trouble::Broken)?;
+        input.read_exact(behind)?;
+        let (text, more) = behind.split_at_checked(length).ok_or(Trouble::Broken)?;
+        Ok(Call {
             function,
             index,
             room,
@@ -98,8 +103,8 @@ impl<'a> Call<'a> {
                 length,
                 max_id,
             },
-            text: input.take(length)?,
-            more: Reader::new(input.take(more)?),
+            text,
+            more,
         })
     }
 
@@ -111,11 +116,12 @@ impl<'a> Call<'a> {
         }
     }
 
-    // Is the expected number one that the library answers?
+    // Is it of a function of the library, and the expected number one that the library answers?
     pub fn is_known(self) -> bool {
-        !matches!(
-            Refusal::try_from(self.expected.number),
-            Ok(Refusal::Unknown(_))
-        )
+        !matches!(self.function, Function::Unknown(_))
+            && !matches!(
+                Refusal::try_from(self.expected.number),
+                Ok(Refusal::Unknown(_))
+            )
     }
 }

@@ -1,32 +1,68 @@
 // Making a call of a stepper again, and what it leaves.
 use crate::call::{Call, Function};
-use crate::replay::{GUARD, LARGEST, Outcome, differs};
-use crate::trouble::Trouble;
-use std::alloc::{AllocError, Global};
+use crate::replay::{Arrays, GUARDED, Image, NONE, Outcome, UNASKED, differs};
 use try_building::answer::Answer;
 use try_building::reader::Reader;
 
-// What the calls of steppers on an image are expected to leave in the array that their stores are the beginning of.
-#[derive(Drop)]
-pub struct Left {
-    array: Vec<u8>,
-}
-
-// What a call of a stepper has beside the expected events: the length of the event buffer, and the values of a start.
+// Changes of a store, read from the front. Behind their end they go on with zero bytes, so changes that are cut off are read too.
 #[derive(Clone, Copy)]
-struct Lent<'a> {
-    events: u16,
-    values: &'a [u8],
+struct Changes<'a> {
+    rest: Reader<'a>,
 }
 
-impl<'a> Lent<'a> {
-    fn read(more: &mut Reader<'a>) -> Option<Lent<'a>> {
-        let events = more.half()?;
-        let n = usize::from(more.half()?);
-        Some(Lent {
+impl<'a> Changes<'a> {
+    fn new(bytes: &'a [u8]) -> Changes<'a> {
+        Changes {
+            rest: Reader::new(bytes),
+        }
+    }
+
+    fn byte(&mut self) -> u8 {
+        self.rest.byte().unwrap_or(0)
+    }
+
+    fn half(&mut self) -> u16 {
+        let low = self.byte();
+        u16::from_le_bytes([low, self.byte()])
+    }
+
+    // Makes the next changes: a count, and for each byte its distance from the place of the one before (the first from 0) and the byte. One
+    // past the array is left out.
+    fn make(&mut self, array: &mut [u8]) {
+        let mut at = 0usize;
+        for _ in 0..self.half() {
+            at = at.saturating_add(usize::from(self.byte()));
+            let byte = self.byte();
+            if let Some(place) = array.get_mut(at) {
+                *place = byte;
+            }
+        }
+    }
+}
+
+// What a call of a stepper has beside the expected events.
+#[derive(Clone, Copy)]
+struct Beside<'a> {
+    // The length of the event buffer.
+    events: usize,
+    // The values of a start; none where they are cut off.
+    values: Option<&'a [u8]>,
+    changes: Changes<'a>,
+}
+
+// Where the values begin, behind the two lengths.
+const VALUES: usize = 4;
+
+impl<'a> Beside<'a> {
+    fn of(more: &'a [u8]) -> Beside<'a> {
+        let mut lengths = Changes::new(more);
+        let events = usize::from(lengths.half());
+        let end = VALUES + usize::from(lengths.half());
+        Beside {
             events,
-            values: more.take(n)?,
-        })
+            values: more.get(VALUES..end),
+            changes: Changes::new(more.get(end..).unwrap_or(b"")),
+        }
     }
 }
 
@@ -34,15 +70,16 @@ impl<'a> Lent<'a> {
 // A start reports no events and no steps. Before a step made and length hold numbers that no answer has.
 fn ask(call: Call<'_>, image: &[u8], values: &[u8], store: &mut [u8], events: &mut [u8]) -> Answer {
     let index = call.index;
-    let mut made: u64 = if call.function.starts() { 0 } else { 99999 };
-    let mut length: usize = if call.function.starts() { 0 } else { 99999 };
+    let before = if call.function.starts() { 0 } else { NONE };
+    let mut made = u64::from(before);
+    let mut length = before as usize;
     let number = match call.function {
         Function::SourceStart => { axcut::axcut_source_start(image, index as usize, values, store) }
         Function::LinearStart => { axcut::axcut_linear_start(image, index as usize, values, store) }
         Function::SourceStep => {
             axcut::axcut_source_step(image, index, store, events, &mut made, &mut length)
         }
-        // LinearStep: no call but one of a stepper comes here.
+        // LinearStep, and a code of no function: no call but one of these comes here.
         _ => axcut::axcut_linear_step(image, index, store, events, &mut made, &mut length),
     };
     Answer {
@@ -52,62 +89,36 @@ fn ask(call: Call<'_>, image: &[u8], values: &[u8], store: &mut [u8], events: &m
     }
 }
 
-impl Left {
-    pub fn new(alloc: Global) -> Result<Left, AllocError> {
-        Ok(Left {
-            array: vec![in alloc; 0; LARGEST + GUARD]?,
-        })
-    }
+// The call with the first bytes of two arrays as its buffers, where it can be made.
+fn asked(
+    call: Call<'_>,
+    image: &[u8],
+    beside: Beside<'_>,
+    store: &mut [u8],
+    events: &mut [u8],
+) -> Option<Answer> {
+    let store = store.get_mut(..call.room)?;
+    let events = events.get_mut(..beside.events)?;
+    Some(ask(call, image, beside.values?, store, events))
+}
 
-    // Changes the array: a count, and for each byte its distance from the place of the one before (the first from 0) and the byte.
-    fn change(&mut self, changes: &mut Reader<'_>) -> Option<()> {
-        let mut at = 0usize;
-        for _ in 0..changes.half()? {
-            at = at.checked_add(usize::from(changes.byte()?))?;
-            *self.array.get_mut(at)? = changes.byte()?;
-        }
-        Some(())
+// Makes a call and looks at all that it could have written. `left` has what the call before must have left in its store, and then what
+// this one must leave: so the store goes by what is expected, whatever was answered.
+pub fn replay_steps(call: Call<'_>, image: Image<'_>, arrays: &mut Arrays) -> Outcome {
+    let Arrays { lent, events, left } = arrays;
+    let mut beside = Beside::of(call.more);
+    if call.function.starts() {
+        *left = [call.old; GUARDED];
     }
-
-    // Makes a call and looks at all that it could have written. The array has what the call before must have left in its store, and then what
-    // this one must leave: so the store goes by what is expected, whatever was answered.
-    pub fn replay(
-        &mut self,
-        alloc: Global,
-        call: Call<'_>,
-        image: &[u8],
-        kept: &[u8],
-    ) -> Result<Outcome, Trouble> {
-        let mut more = call.more;
-        let lent = Lent::read(&mut more).ok_or(Trouble::Broken)?;
-        if call.function.starts() {
-            self.array.fill(call.old);
-        }
-        self.change(&mut more).ok_or(Trouble::Broken)?;
-        let mut array = Vec::from_slice(alloc, &self.array)?;
-        self.change(&mut more).ok_or(Trouble::Broken)?;
-        let room = usize::from(lent.events);
-        let mut events = vec![in alloc; call.old; room + GUARD]?;
-        let store = array
-            .as_mut_slice()
-            .get_mut(..call.room)
-            .ok_or(Trouble::Broken)?;
-        let shown = events
-            .as_mut_slice()
-            .get_mut(..room)
-            .ok_or(Trouble::Broken)?;
-        let answer = ask(call, image, lent.values, store, shown);
-        // (Compared first: `differs` goes byte by byte.)
-        let buffer = if array == self.array {
-            None
-        } else {
-            differs(&array, &self.array, 0)
-        };
-        Ok(Outcome {
-            answer,
-            buffer,
-            events: differs(&events, call.text, call.old),
-            image: image == kept,
-        })
+    beside.changes.make(left);
+    *lent = *left;
+    beside.changes.make(left);
+    *events = [call.old; GUARDED];
+    let answer = asked(call, image.bytes, beside, lent, events).unwrap_or(UNASKED);
+    Outcome {
+        answer,
+        buffer: differs(lent, left, 0),
+        events: differs(events, call.text, call.old),
+        image: image.is_kept(),
     }
 }

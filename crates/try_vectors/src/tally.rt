@@ -1,10 +1,16 @@
 // How many calls agree.
 use crate::call::{Call, Function};
 use crate::replay::Outcome;
-use crate::trouble::Trouble;
-use std::alloc::Global;
+use std::alloc::{AllocError, Global};
 use std::collections::BTreeMap;
 use std::io::{self, Write};
+
+// Counts end here.
+const MOST: u32 = 1_000_000;
+
+fn one_more(n: u32) -> u32 {
+    n.saturating_add(1).min(MOST)
+}
 
 #[derive(Drop)]
 pub struct Tally {
@@ -58,30 +64,32 @@ impl Tally {
 
     // The image at hand is done.
     pub fn next(&mut self) {
-        self.images = self.images.saturating_add(1);
+        self.images = one_more(self.images);
         self.own = 0;
     }
 
-    // With what the call at hand answered. One whose expected number the library does not answer is a mismatch.
+    // With what the call at hand answered. One of no function, or whose expected number the library does not answer, is a mismatch.
     pub fn add(
         &mut self,
         out: &mut impl Write,
         call: Call<'_>,
         seen: Outcome,
-    ) -> Result<(), Trouble> {
+    ) -> Result<(), AllocError> {
         let own = self.own;
-        self.own = own.saturating_add(1);
-        self.calls = self.calls.saturating_add(1);
+        self.own = one_more(own);
+        self.calls = one_more(self.calls);
         if call.is_known() && seen.agrees(call) {
             let count = self
                 .agree
                 .entry((call.function, call.expected.number))?
                 .or_insert(0);
-            *count = count.saturating_add(1);
+            *count = one_more(*count);
             return Ok(());
         }
-        self.mismatches = self.mismatches.saturating_add(1);
-        Ok(mismatch(out, self.images, own, call, seen)?)
+        self.mismatches = one_more(self.mismatches);
+        // (The run goes on where it cannot be written.)
+        let _ = mismatch(out, self.images, own, call, seen);
+        Ok(())
     }
 
     // A line for each function and answer of which there are calls, and the sums.

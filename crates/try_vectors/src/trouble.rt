@@ -1,28 +1,23 @@
 // Why a run ends before the input does.
-use std::alloc::{AllocError, AllocFailed};
+use std::alloc::AllocError;
 use std::io;
 
 #[derive(Clone, Copy)]
 pub enum Trouble {
     // The input is not as it should be: it ends early or goes on, or a size is too large.
     Broken,
-    Output(io::Error),
+    Memory(AllocError),
 }
 
+// An error of the input: one that cannot be read on ends there. (What cannot be written ends no run.)
 impl From<io::Error> for Trouble {
-    fn from(error: io::Error) -> Trouble {
-        Trouble::Output(error)
-    }
-}
-
-impl<T: Drop> From<AllocFailed<T>> for Trouble {
-    fn from(_: AllocFailed<T>) -> Trouble {
-        Trouble::from(AllocError)
+    fn from(_: io::Error) -> Trouble {
+        Trouble::Broken
     }
 }
 
 impl From<AllocError> for Trouble {
     fn from(error: AllocError) -> Trouble {
-        Trouble::Output(io::Error::from(error))
+        Trouble::Memory(error)
     }
 }
