@@ -270,7 +270,7 @@ impl Line {
                 Err(FillError::NotPresent) => break,
             }
         }
-        self.parser.request().map_err(Wrong::from)
+        Ok(self.parser.request()?)
     }
 }
 

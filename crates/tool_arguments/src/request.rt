@@ -47,7 +47,7 @@ pub enum Form {
 }
 
 // What is asked of an image.
-#[derive(Clone, Copy, Debug)]
+#[derive(Clone, Copy)]
 pub enum Task<'a> {
     Read,
     Check,
@@ -72,7 +72,7 @@ pub enum Task<'a> {
 }
 
 // What is done with a store.
-#[derive(Clone, Copy, Debug)]
+#[derive(Clone, Copy)]
 pub enum Step<'a> {
     Start {
         definition: usize,
@@ -87,7 +87,7 @@ pub enum Step<'a> {
     },
 }
 
-#[derive(Clone, Copy, Debug)]
+#[derive(Clone, Copy)]
 pub enum Request<'a> {
     Help,
     Version,

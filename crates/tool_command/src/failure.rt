@@ -37,7 +37,7 @@ pub enum Failure<'a> {
     LongSpellings(Input<'a>),
     LargeStore(&'a [u8]),
     NoMemory,
-    // Of this nothing more is said, though its status is told.
+    // All is said of it, or nothing is to be said.
     Silent,
 }
 
@@ -163,7 +163,7 @@ impl<'a> Failure<'a> {
         self.status()
     }
 
-    // A call that failed, of which all is said here and now: before the file goes that it left, as it may not be gone at once.
+    // A call that failed: all is said of it here, before the file that it left unfinished is removed.
     pub fn told(rt: &HostRuntime, subject: Subject<'a>, error: Error) -> Failure<'a> {
         let _ = Failure::Call(subject, error).say(&mut rt.stderr(), rt.alloc());
         Failure::Silent
