@@ -31,7 +31,7 @@ impl<'a> Spellings<'a> {
         Ok(Spellings { file, text, places })
     }
 
-    // The book of them. (A call of its own behind `read`, at three places: a book borrows from its text, so no function could give both.)
+    // The book of them. (A call of its own behind `read`: a book borrows from these, so no function could give both.)
     pub fn book(&mut self) -> Result<Book<'_>, Failure<'a>> {
         match Book::of(self.text.as_slice(), self.places.as_mut_slice()) {
             Ok(book) => Ok(book),
