@@ -14,7 +14,6 @@ use failure::{Failure, Subject};
 use files::Opened;
 use listing::listing;
 use program::Program;
-use spellings::Spellings;
 use std::io::Write;
 use std::process::ExitCode;
 use step::Stepping;
@@ -102,8 +101,9 @@ fn dump<'a>(
     if view.annotations {
         program.ask_first_seven()?;
     }
-    let mut spellings = Spellings::read(rt, names)?;
-    let book = spellings.book()?;
+    let text = spellings::read(rt, names)?;
+    let mut places = spellings::places(rt, names)?;
+    let book = spellings::book(names, text.as_slice(), places.as_mut_slice())?;
     let Opened { output, known } = files::open(rt, target)?;
     known.close(rt, write_listing(program, view, max_id, output, book))
 }

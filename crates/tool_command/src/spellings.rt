@@ -4,41 +4,37 @@ use crate::files;
 use tool_arguments::request::Input;
 use tool_listing::book::{Book, FaultyLine};
 
-// The file, its text, and the memory for the places of a book.
-#[derive(Drop)]
-pub struct Spellings<'a> {
-    file: Option<Input<'a>>,
-    text: Vec<u8>,
-    places: Vec<u32>,
+// The text of the spellings, empty where no file has them.
+pub fn read<'a>(rt: &HostRuntime, names: Option<Input<'a>>) -> Result<Vec<u8>, Failure<'a>> {
+    let Some(names) = names else {
+        return Ok(Vec::new(rt.alloc()));
+    };
+    let text = files::read(rt, names, Book::MOST)?;
+    if text.len() < Book::MOST {
+        Ok(text)
+    } else {
+        Err(Failure::LongSpellings(names))
+    }
 }
 
-impl<'a> Spellings<'a> {
-    // The text is empty where no file has spellings.
-    pub fn read(rt: &HostRuntime, file: Option<Input<'a>>) -> Result<Spellings<'a>, Failure<'a>> {
-        let mut places = Vec::new(rt.alloc());
-        let Some(names) = file else {
-            return Ok(Spellings {
-                file,
-                text: Vec::new(rt.alloc()),
-                places,
-            });
-        };
-        let text = files::read(rt, names, Book::MOST)?;
-        if Book::MOST <= text.len() {
-            return Err(Failure::LongSpellings(names));
-        }
+// The memory for the places of a book, none where no file has spellings.
+pub fn places<'a>(rt: &HostRuntime, names: Option<Input<'a>>) -> Result<Vec<u32>, Failure<'a>> {
+    let mut places = Vec::new(rt.alloc());
+    if names.is_some() {
         places.resize(Book::NAMES, 0)?;
-        Ok(Spellings { file, text, places })
     }
+    Ok(places)
+}
 
-    // The book of them. (A call of its own behind `read`: a book borrows from these, so no function could give both.)
-    pub fn book(&mut self) -> Result<Book<'_>, Failure<'a>> {
-        match Book::of(self.text.as_slice(), self.places.as_mut_slice()) {
-            Ok(book) => Ok(book),
-            Err(FaultyLine(line)) => Err(Failure::FaultyLine(
-                self.file.unwrap_or(Input::Standard),
-                line,
-            )),
-        }
+// The book of these spellings. (A call of its own behind `read` and `places`, at three places: a book borrows from both, so no function could
+// give all.)
+pub fn book<'a, 't>(
+    names: Option<Input<'a>>,
+    text: &'t [u8],
+    places: &'t mut [u32],
+) -> Result<Book<'t>, Failure<'a>> {
+    match Book::of(text, places) {
+        Ok(book) => Ok(book),
+        Err(FaultyLine(line)) => Err(Failure::FaultyLine(names.unwrap_or(Input::Standard), line)),
     }
 }

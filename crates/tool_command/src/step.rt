@@ -1,8 +1,7 @@
 // `axcut step`: starts, runs and states, with the store in a file.
 use crate::failure::{Failure, Subject};
 use crate::program::Program;
-use crate::spellings::Spellings;
-use crate::{files, stores};
+use crate::{files, spellings, stores};
 use std::io::Write;
 use tool_arguments::machine::Machine;
 use tool_arguments::request::{Input, Step};
@@ -49,12 +48,16 @@ impl<'a, 'p> Stepping<'a, 'p> {
         match step {
             Step::Start { definition, values } => self.start(rt, definition, values),
             Step::Run { steps, names } => {
-                let mut spellings = Spellings::read(rt, names)?;
-                self.run(rt, spellings.book()?, steps as u64)
+                let text = spellings::read(rt, names)?;
+                let mut places = spellings::places(rt, names)?;
+                let book = spellings::book(names, text.as_slice(), places.as_mut_slice())?;
+                self.run(rt, book, steps as u64)
             }
             Step::Show { names } => {
-                let mut spellings = Spellings::read(rt, names)?;
-                self.show(rt, spellings.book()?)
+                let text = spellings::read(rt, names)?;
+                let mut places = spellings::places(rt, names)?;
+                let book = spellings::book(names, text.as_slice(), places.as_mut_slice())?;
+                self.show(rt, book)
             }
         }
     }
