@@ -1,6 +1,5 @@
 // The names of variables. A store has IDs alone; the name of an ID is that of the innermost binder around the statement that has it. For each
 // entry the records before its statement are gone over, so a record is looked at by its kind, and not read whole.
-use std::slice::ChunksExact;
 use try_building::codes::Kind;
 use try_building::image::Image;
 use try_building::lists::Identifier;
@@ -23,7 +22,7 @@ fn parts(image: Image<'_>, k: u16) -> usize {
     match kind(record) {
         None | Some(Kind::Call | Kind::Invoke | Kind::Exit) => 0,
         Some(Kind::Switch) => clauses(record),
-        Some(Kind::Create) => clauses(record) + 1,
+        Some(Kind::Create) => clauses(record).saturating_add(1),
         Some(Kind::IfC) => 2,
         // The others have a body.
         Some(_) => 1,
@@ -40,23 +39,27 @@ fn is_around(image: Image<'_>, k: u16, later: u16) -> bool {
         .is_some_and(|open| 0 < open)
 }
 
-// What a record binds: parts of it that begin with a variable each. A Substitute binds the targets of its pairs.
-fn binders(record: &[u8]) -> Option<ChunksExact<'_, u8>> {
+// The first variable with an ID of those that parts of this size begin with.
+fn among(parts: &[u8], size: usize, id: u16) -> Option<Identifier> {
+    if size == 0 {
+        return None;
+    }
+    parts.chunks_exact(size).find_map(|part| Identifier::read(&mut Reader::new(part)).filter(
+        |it| it.id == id,
+    ))
+}
+
+// The binder of a record that has an ID. A Substitute binds the targets of its pairs.
+fn binder(record: &[u8], id: u16) -> Option<Identifier> {
     match kind(record)? {
-        Kind::Definition | Kind::Clause => Some(record.get(6..)?.chunks_exact(10)),
-        Kind::Substitute => Some(record.get(2..)?.chunks_exact(14)),
-        Kind::Let | Kind::Create => Some(record.get(1..5)?.chunks_exact(4)),
-        Kind::Literal => Some(record.get(9..13)?.chunks_exact(4)),
-        Kind::Op => Some(record.get(10..14)?.chunks_exact(4)),
+        Kind::Definition | Kind::Clause => among(record.get(6..)?, 10, id),
+        Kind::Substitute => among(record.get(2..)?, 14, id),
+        Kind::Let | Kind::Create => among(record.get(1..5)?, 4, id),
+        Kind::Literal => among(record.get(9..13)?, 4, id),
+        Kind::Op => among(record.get(10..14)?, 4, id),
         // The others bind nothing.
         _ => None,
     }
-}
-
-// The binder of a record that has an ID.
-fn binder(record: &[u8], id: u16) -> Option<Identifier> {
-    binders(record)?.find_map(|part| Identifier::read(&mut Reader::new(part)).filter(|it| it.id
-        == id))
 }
 
 // The innermost binder around a record that has an ID.
