@@ -85,8 +85,8 @@ impl Dues {
         }
     }
 
-    // What finds no room is left out: it is not waited for, and the record that question 5 is told of may then be a later one than the first
-    // that is wrong. (Only 128 Creates, each in the first of several clauses of the one before, have 256 due and come to more.)
+    // What finds no room is left out: it is not waited for, so question 5 may then be told of a later record than the first that is wrong, or
+    // of none. (Only 128 Creates, each in the first of several clauses of the one before, have 256 due and come to more.)
     pub fn push(&mut self, due: Due) {
         if let Some(place) = self.list.get_mut(self.length) {
             *place = due;
