@@ -1,5 +1,5 @@
 // The commands.
-use crate::fault::{Fault, Wrong};
+use crate::fault::Fault;
 
 #[derive(Clone, Copy, Debug, PartialEq, Eq)]
 pub enum Command {
@@ -21,10 +21,10 @@ pub enum Action {
     Show,
 }
 
-impl<'a> TryFrom<&'a [u8]> for Command {
-    type Error = Wrong<'a>;
+impl TryFrom<&[u8]> for Command {
+    type Error = Fault;
 
-    fn try_from(word: &'a [u8]) -> Result<Command, Wrong<'a>> {
+    fn try_from(word: &[u8]) -> Result<Command, Fault> {
         match word {
             b"read" => Ok(Command::Read),
             b"check" => Ok(Command::Check),
@@ -34,20 +34,20 @@ impl<'a> TryFrom<&'a [u8]> for Command {
             b"step" => Ok(Command::Step(None)),
             b"--help" | b"-h" | b"help" => Ok(Command::Help),
             b"--version" => Ok(Command::Version),
-            _ => Err(Wrong::with(Fault::NotACommand, word)),
+            _ => Err(Fault::NotACommand),
         }
     }
 }
 
-impl<'a> TryFrom<&'a [u8]> for Action {
-    type Error = Wrong<'a>;
+impl TryFrom<&[u8]> for Action {
+    type Error = Fault;
 
-    fn try_from(word: &'a [u8]) -> Result<Action, Wrong<'a>> {
+    fn try_from(word: &[u8]) -> Result<Action, Fault> {
         match word {
             b"start" => Ok(Action::Start),
             b"run" => Ok(Action::Run),
             b"show" => Ok(Action::Show),
-            _ => Err(Wrong::with(Fault::NotAnAction, word)),
+            _ => Err(Fault::NotAnAction),
         }
     }
 }

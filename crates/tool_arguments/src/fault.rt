@@ -1,5 +1,4 @@
 // What is wrong with a command line.
-use std::alloc::{AllocError, AllocFailed};
 use std::fmt;
 
 #[derive(Clone, Copy, Debug, PartialEq, Eq)]
@@ -19,7 +18,6 @@ pub enum Fault {
     NoStore,
     NotAStore,
     NotAValue,
-    NoMemory,
 }
 
 impl fmt::Display for Fault {
@@ -40,7 +38,6 @@ impl fmt::Display for Fault {
             Fault::NoStore => "step: which image, and which store?",
             Fault::NotAStore => "step: a store is a file",
             Fault::NotAValue => "step: not a value",
-            Fault::NoMemory => "no memory is left",
         })
     }
 }
@@ -64,17 +61,5 @@ impl<'a> Wrong<'a> {
 impl<'a> From<Fault> for Wrong<'a> {
     fn from(fault: Fault) -> Wrong<'a> {
         Wrong { fault, word: None }
-    }
-}
-
-impl<'a> From<AllocError> for Wrong<'a> {
-    fn from(_error: AllocError) -> Wrong<'a> {
-        Wrong::from(Fault::NoMemory)
-    }
-}
-
-impl<'a, T: Drop> From<AllocFailed<T>> for Wrong<'a> {
-    fn from(_error: AllocFailed<T>) -> Wrong<'a> {
-        Wrong::from(Fault::NoMemory)
     }
 }

@@ -47,7 +47,7 @@ pub enum Form {
 }
 
 // What is asked of an image.
-#[derive(Drop)]
+#[derive(Clone, Copy)]
 pub enum Task<'a> {
     Read,
     Check,
@@ -72,11 +72,11 @@ pub enum Task<'a> {
 }
 
 // What is done with a store.
-#[derive(Drop)]
+#[derive(Clone, Copy)]
 pub enum Step<'a> {
     Start {
         definition: usize,
-        values: Vec<Value>,
+        values: &'a [Value],
     },
     Run {
         steps: usize,
@@ -87,7 +87,7 @@ pub enum Step<'a> {
     },
 }
 
-#[derive(Drop)]
+#[derive(Clone, Copy)]
 pub enum Request<'a> {
     Help,
     Version,

@@ -1,6 +1,6 @@
 // The values that a start gives to parameters: a word for each, a signed integer, or outside: and a number up to 255.
 
-use crate::fault::{Fault, Wrong};
+use crate::fault::Fault;
 use try_building::sort::Sort;
 
 // The most digits of a number, and the greatest one.
@@ -56,14 +56,45 @@ fn integer(word: &[u8]) -> Option<Value> {
     Some(Value::Integer(n))
 }
 
-impl<'a> TryFrom<&'a [u8]> for Value {
-    type Error = Wrong<'a>;
+impl TryFrom<&[u8]> for Value {
+    type Error = Fault;
 
-    fn try_from(word: &'a [u8]) -> Result<Value, Wrong<'a>> {
+    fn try_from(word: &[u8]) -> Result<Value, Fault> {
         let value = match word.strip_prefix(b"outside:") {
             Some(name) => outside(name),
             None => integer(word),
         };
-        value.ok_or(Wrong::with(Fault::NotAValue, word))
+        value.ok_or(Fault::NotAValue)
+    }
+}
+
+// The values of a start, as far as they are kept.
+#[derive(Clone, Copy)]
+pub struct Values {
+    list: [Value; Values::MOST],
+    length: usize,
+}
+
+impl Values {
+    // A definition has at most 128 parameters.
+    pub const MOST: usize = 256;
+
+    pub fn none() -> Values {
+        Values {
+            list: [Value::Outside(0); Values::MOST],
+            length: 0,
+        }
+    }
+
+    // One that finds no room is left out: so many are refused as it is.
+    pub fn push(&mut self, value: Value) {
+        if let Some(place) = self.list.get_mut(self.length) {
+            *place = value;
+            self.length = self.length.saturating_add(1);
+        }
+    }
+
+    pub fn as_slice(&self) -> &[Value] {
+        self.list.get(..self.length).unwrap_or(&[])
     }
 }

@@ -37,6 +37,8 @@ pub enum Failure<'a> {
     LongSpellings(Input<'a>),
     LargeStore(&'a [u8]),
     NoMemory,
+    // All is said of it, or nothing is to be said.
+    Silent,
 }
 
 impl<'a> From<Wrong<'a>> for Failure<'a> {
@@ -151,6 +153,7 @@ impl<'a> Failure<'a> {
                 write!(to, ": a store of more than 983,040 bytes")
             }
             Failure::NoMemory => write!(to, "no memory is left"),
+            Failure::Silent => Ok(()),
         }
     }
 
@@ -160,7 +163,16 @@ impl<'a> Failure<'a> {
         self.status()
     }
 
+    // A call that failed: all is said of it here, before the file that it left unfinished is removed.
+    pub fn told(rt: &HostRuntime, subject: Subject<'a>, error: Error) -> Failure<'a> {
+        let _ = Failure::Call(subject, error).say(&mut rt.stderr(), rt.alloc());
+        Failure::Silent
+    }
+
     fn say<W: Write>(self, to: &mut W, alloc: Global) -> std::io::Result<()> {
+        if matches!(self, Failure::Silent) {
+            return Ok(());
+        }
         if matches!(self, Failure::Wrong(wrong) if wrong.fault == Fault::NoCommand) {
             return write!(to, "{USAGE}");
         }

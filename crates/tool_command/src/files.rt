@@ -61,13 +61,14 @@ pub enum Known<'a> {
 }
 
 impl<'a> Known<'a> {
-    // Ends an output. Where it was not written whole, a file that was made for it goes.
+    // Ends an output. Where it was not written whole, that is said, and then a file that was made for it goes.
     pub fn close(self, rt: &HostRuntime, written: io::Result<()>) -> Result<(), Failure<'a>> {
         let Err(e) = written else { return Ok(()) };
+        let failure = Failure::told(rt, Subject::Output, e);
         if let Known::Made(path) = self {
             let _ = remove(rt, path);
         }
-        Err(Failure::Call(Subject::Output, e))
+        Err(failure)
     }
 }
 

@@ -31,7 +31,7 @@ fn annotation(
 pub fn listing(page: &mut Page<'_>, program: &Program<'_>, view: View, max_id: u32) -> Result<()> {
     writeln!(page, "max_id {max_id}")?;
     let image = Image::new(program.bytes());
-    let mut walk = Walk::new(program.alloc());
+    let mut walk = Walk::new();
     for k in 0..image.records() {
         if let Some(record) = image.record(k) {
             walk.begin_line(page, view, k, record)?;

@@ -18,9 +18,8 @@ use std::io::Write;
 use std::process::ExitCode;
 use step::Stepping;
 use texts::{USAGE, VERSION};
-use tool_arguments::parser::parse;
+use tool_arguments::parser::Line;
 use tool_arguments::request::{Form, Input, Request, Target, Task};
-use tool_arguments::word::{Word, words};
 use tool_listing::book::Book;
 use tool_listing::line::View;
 use tool_listing::output::Output;
@@ -45,14 +44,12 @@ fn linearize<'a>(
 
 // Writes an annotation as text.
 fn write_annotation(
-    rt: &HostRuntime,
     program: &Program<'_>,
     record: usize,
     output: Output,
-    book: &Book<'_>,
     found: &[u8],
 ) -> std::io::Result<()> {
-    let mut page = Page::new(rt.alloc(), output, book)?;
+    let mut page = Page::new(output, Book::empty());
     let record = u16::try_from(record)
         .ok()
         .and_then(|k| Image::new(program.bytes()).record(k));
@@ -76,25 +73,20 @@ fn annotate<'a>(
     match form {
         Form::Bytes => opened.write(rt, found),
         Form::Text => {
-            let book = Book::empty(rt.alloc());
             let Opened { output, known } = opened;
-            known.close(
-                rt,
-                write_annotation(rt, program, record, output, &book, found),
-            )
+            known.close(rt, write_annotation(program, record, output, found))
         }
     }
 }
 
 fn write_listing(
-    rt: &HostRuntime,
     program: &Program<'_>,
     view: View,
     max_id: u32,
     output: Output,
-    book: &Book<'_>,
+    book: Book<'_>,
 ) -> std::io::Result<()> {
-    let mut page = Page::new(rt.alloc(), output, book)?;
+    let mut page = Page::new(output, book);
     listing(&mut page, program, view, max_id)
 }
 
@@ -110,9 +102,10 @@ fn dump<'a>(
         program.ask_first_seven()?;
     }
     let text = spellings::read(rt, names)?;
-    let book = spellings::book(rt, names, text.as_slice())?;
+    let mut places = spellings::places(rt, names)?;
+    let book = spellings::book(names, text.as_slice(), places.as_mut_slice())?;
     let Opened { output, known } = files::open(rt, target)?;
-    known.close(rt, write_listing(rt, program, view, max_id, output, &book))
+    known.close(rt, write_listing(program, view, max_id, output, book))
 }
 
 fn carry_out<'a>(
@@ -142,8 +135,8 @@ fn carry_out<'a>(
     }
 }
 
-fn run<'a>(rt: &HostRuntime, words: &'a [Word]) -> Result<(), Failure<'a>> {
-    match parse(words, rt.alloc())? {
+fn run<'a>(rt: &HostRuntime, line: &'a mut Line) -> Result<(), Failure<'a>> {
+    match line.parse(rt)? {
         Request::Help => {
             let _ = print!(rt; "{USAGE}");
             Ok(())
@@ -157,12 +150,8 @@ fn run<'a>(rt: &HostRuntime, words: &'a [Word]) -> Result<(), Failure<'a>> {
 }
 
 fn main(rt: HostRuntime) -> ExitCode {
-    let said = match words(&rt) {
-        Ok(words) => run(&rt, words.as_slice()).map_err(|failure| failure.tell(&rt)),
-        Err(error) => Err(Failure::from(error).tell(&rt)),
-    };
-    match said {
+    match run(&rt, &mut Line::new()) {
         Ok(()) => ExitCode::SUCCESS,
-        Err(status) => status,
+        Err(failure) => failure.tell(&rt),
     }
 }

@@ -1,7 +1,6 @@
 // The program image that the command is about, and what the library answers of it.
 use crate::failure::Failure;
 use crate::files;
-use std::alloc::Global;
 use tool_arguments::request::Input;
 use tool_finding::finding::find;
 use try_building::refusal::Refusal;
@@ -25,19 +24,12 @@ impl<'a> Program<'a> {
         self.bytes.as_slice()
     }
 
-    pub fn alloc(&self) -> Global {
-        *self.bytes.allocator()
-    }
-
     // A refusal of it, with its place; that of question 13 is the record that was asked for, where one was.
     pub fn refused(&self, refusal: Refusal, record: Option<usize>) -> Failure<'a> {
-        match find(self.bytes(), refusal, record, self.alloc()) {
-            Ok(place) => Failure::Refused {
-                file: self.file,
-                refusal,
-                place,
-            },
-            Err(error) => Failure::from(error),
+        Failure::Refused {
+            file: self.file,
+            refusal,
+            place: find(self.bytes(), refusal, record),
         }
     }
 

@@ -2,7 +2,7 @@
 use crate::failure::Failure;
 use crate::files;
 use tool_arguments::request::Input;
-use tool_listing::book::{Book, BookError};
+use tool_listing::book::{Book, FaultyLine};
 
 // The text of the spellings, empty where no file has them.
 pub fn read<'a>(rt: &HostRuntime, names: Option<Input<'a>>) -> Result<Vec<u8>, Failure<'a>> {
@@ -17,18 +17,24 @@ pub fn read<'a>(rt: &HostRuntime, names: Option<Input<'a>>) -> Result<Vec<u8>, F
     }
 }
 
-// The book of these spellings. (A call of its own behind `read`, at three places: a book borrows from its text, so no function could give both.)
+// The memory for the places of a book, none where no file has spellings.
+pub fn places<'a>(rt: &HostRuntime, names: Option<Input<'a>>) -> Result<Vec<u32>, Failure<'a>> {
+    let mut places = Vec::new(rt.alloc());
+    if names.is_some() {
+        places.resize(Book::NAMES, 0)?;
+    }
+    Ok(places)
+}
+
+// The book of these spellings. (A call of its own behind `read` and `places`, at three places: a book borrows from both, so no function could
+// give all.)
 pub fn book<'a, 't>(
-    rt: &HostRuntime,
     names: Option<Input<'a>>,
     text: &'t [u8],
+    places: &'t mut [u32],
 ) -> Result<Book<'t>, Failure<'a>> {
-    match Book::of(rt.alloc(), text) {
+    match Book::of(text, places) {
         Ok(book) => Ok(book),
-        Err(BookError::Line(line)) => Err(Failure::FaultyLine(
-            names.unwrap_or(Input::Standard),
-            line,
-        )),
-        Err(BookError::NoMemory) => Err(Failure::NoMemory),
+        Err(FaultyLine(line)) => Err(Failure::FaultyLine(names.unwrap_or(Input::Standard), line)),
     }
 }

@@ -15,6 +15,18 @@ use tool_steps::store::{BYTES, Store};
 use tool_steps::{machine, state};
 use try_building::refusal::Refusal;
 
+// Values as slots, in this buffer.
+fn slots<'b>(values: &[Value], buffer: &'b mut [u8]) -> &'b [u8] {
+    let mut end: usize = 0;
+    for value in values {
+        if let Some(slot) = buffer.get_mut(end..end.saturating_add(Value::SLOT)) {
+            slot.copy_from_slice(&value.slot());
+            end = end.saturating_add(Value::SLOT);
+        }
+    }
+    buffer.get(..end).unwrap_or(&[])
+}
+
 // A store in its file, and the machine whose states it has.
 #[derive(Clone, Copy)]
 pub struct Stepping<'a, 'p> {
@@ -34,16 +46,18 @@ impl<'a, 'p> Stepping<'a, 'p> {
 
     pub fn carry_out(self, rt: &HostRuntime, step: Step<'a>) -> Result<(), Failure<'a>> {
         match step {
-            Step::Start { definition, values } => self.start(rt, definition, values.as_slice()),
+            Step::Start { definition, values } => self.start(rt, definition, values),
             Step::Run { steps, names } => {
                 let text = spellings::read(rt, names)?;
-                let book = spellings::book(rt, names, text.as_slice())?;
-                self.run(rt, &book, steps as u64)
+                let mut places = spellings::places(rt, names)?;
+                let book = spellings::book(names, text.as_slice(), places.as_mut_slice())?;
+                self.run(rt, book, steps as u64)
             }
             Step::Show { names } => {
                 let text = spellings::read(rt, names)?;
-                let book = spellings::book(rt, names, text.as_slice())?;
-                self.show(rt, &book)
+                let mut places = spellings::places(rt, names)?;
+                let book = spellings::book(names, text.as_slice(), places.as_mut_slice())?;
+                self.show(rt, book)
             }
         }
     }
@@ -56,16 +70,13 @@ impl<'a, 'p> Stepping<'a, 'p> {
         definition: usize,
         values: &[Value],
     ) -> Result<(), Failure<'a>> {
-        let mut slots = Vec::new(rt.alloc());
-        for value in values {
-            slots.extend_from_slice(&value.slot())?;
-        }
+        let mut given = io::buffer();
         let mut store = io::buffer();
         machine::start(
             self.machine,
             self.program.bytes(),
             definition,
-            slots.as_slice(),
+            slots(values, &mut given),
             &mut store,
         )
         .map_err(|refusal| self.program.refused(refusal, None))?;
@@ -104,14 +115,14 @@ impl<'a, 'p> Stepping<'a, 'p> {
         Ok(store)
     }
 
-    fn show(self, rt: &HostRuntime, book: &Book<'_>) -> Result<(), Failure<'a>> {
+    fn show(self, rt: &HostRuntime, book: Book<'_>) -> Result<(), Failure<'a>> {
         let store = self.take(rt)?;
         self.write_state(rt, book, store.as_slice())
             .map_err(|e| Failure::Call(Subject::Output, e))
     }
 
     // Makes so many steps. The store is written once its events are, and only if a step was made; what the next step is refused for comes last.
-    fn run(self, rt: &HostRuntime, book: &Book<'_>, steps: u64) -> Result<(), Failure<'a>> {
+    fn run(self, rt: &HostRuntime, book: Book<'_>, steps: u64) -> Result<(), Failure<'a>> {
         let mut store = self.take(rt)?;
         store.resize(BYTES, 0)?;
         let ran = self
@@ -129,11 +140,11 @@ impl<'a, 'p> Stepping<'a, 'p> {
     fn write_run(
         self,
         rt: &HostRuntime,
-        book: &Book<'_>,
+        book: Book<'_>,
         steps: u64,
         store: &mut [u8],
     ) -> std::io::Result<Ran> {
-        let mut page = Page::new(rt.alloc(), Output::Standard(rt.stdout()), book)?;
+        let mut page = Page::new(Output::Standard(rt.stdout()), book);
         let ran = run(&mut page, self.machine, self.program.bytes(), steps, store)?;
         page.flush()?;
         Ok(ran)
@@ -146,8 +157,8 @@ impl<'a, 'p> Stepping<'a, 'p> {
         println!(rt; "{made} {unit}, {standing}")
     }
 
-    fn write_state(self, rt: &HostRuntime, book: &Book<'_>, store: &[u8]) -> std::io::Result<()> {
-        let mut page = Page::new(rt.alloc(), Output::Standard(rt.stdout()), book)?;
+    fn write_state(self, rt: &HostRuntime, book: Book<'_>, store: &[u8]) -> std::io::Result<()> {
+        let mut page = Page::new(Output::Standard(rt.stdout()), book);
         if let Some(store) = Store::of(store) {
             state::show(&mut page, self.program.bytes(), store)?;
         }

@@ -67,3 +67,36 @@ impl Due {
         }
     }
 }
+
+// All that is still to come, the next one last.
+#[derive(Clone, Copy)]
+pub struct Dues {
+    list: [Due; Dues::MAX],
+    length: usize,
+}
+
+impl Dues {
+    pub const MAX: usize = 256;
+
+    pub fn none() -> Dues {
+        Dues {
+            list: [Due::Definition; Dues::MAX],
+            length: 0,
+        }
+    }
+
+    // What finds no room is left out: it is not waited for, so question 5 may then be told of a later record than the first that is wrong, or
+    // of none. (Only 128 Creates, each in the first of several clauses of the one before, have 256 due and come to more.)
+    pub fn push(&mut self, due: Due) {
+        if let Some(place) = self.list.get_mut(self.length) {
+            *place = due;
+            self.length = self.length.saturating_add(1);
+        }
+    }
+
+    // The next one, which is taken off.
+    pub fn pop(&mut self) -> Option<Due> {
+        self.length = self.length.checked_sub(1)?;
+        self.list.get(self.length).copied()
+    }
+}

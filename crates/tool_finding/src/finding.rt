@@ -1,7 +1,6 @@
 // The record and the variable that a refusal is about. The library answers a number alone, so the image is gone over once more.
 use crate::place::Place;
 use crate::{scan, walk};
-use std::alloc::{AllocError, Global};
 use try_building::image::Image;
 use try_building::refusal::Refusal;
 
@@ -11,21 +10,17 @@ const RECORDS: u16 = 4000;
 const SOURCE_RECORDS: u16 = 2000;
 
 // The place of the no to a question; the record that was asked for, where one was, is that of question 13.
-pub fn find(
-    image: &[u8],
-    question: Refusal,
-    asked: Option<usize>,
-    alloc: Global,
-) -> Result<Option<Place>, AllocError> {
+pub fn find(image: &[u8], question: Refusal, asked: Option<usize>) -> Option<Place> {
     let image = Image::new(image);
     match question {
-        Refusal::Place => Ok(asked.map(Place::from)),
-        Refusal::Directory if image.records() <= RECORDS => Ok(scan::astray(image)),
-        Refusal::RecordForm => scan::malformed(image, alloc),
-        Refusal::Linearized => Ok(scan::linearized(image)),
-        Refusal::Limits if SOURCE_RECORDS < image.records() => Ok(None),
-        Refusal::Shape | Refusal::Limits | Refusal::Binders | Refusal::Scope | Refusal::MaxId =>
-            walk::first(image, question, alloc),
+        Refusal::Place => asked.map(Place::from),
+        Refusal::Directory if image.records() <= RECORDS => scan::astray(image),
+        Refusal::RecordForm => scan::malformed(image),
+        Refusal::Linearized => scan::linearized(image),
+        Refusal::Limits if SOURCE_RECORDS < image.records() => None,
+        Refusal::Shape | Refusal::Limits | Refusal::Binders | Refusal::Scope | Refusal::MaxId => {
+            walk::first(image, question)
+        }
         Refusal::Size
         | Refusal::LayoutNumber
         | Refusal::Directory
@@ -34,6 +29,6 @@ pub fn find(
         | Refusal::Start
         | Refusal::StepRoom
         | Refusal::State
-        | Refusal::Unknown(_) => Ok(None),
+        | Refusal::Unknown(_) => None,
     }
 }

@@ -5,4 +5,5 @@ pub mod due;
 pub mod finding;
 pub mod place;
 pub mod scan;
+pub mod scope;
 pub mod walk;

@@ -1,6 +1,5 @@
 // Questions 3, 4 and 6: the first record that is the no by itself.
 use crate::place::Place;
-use std::alloc::{AllocError, Global};
 use try_building::image::{HEADER, Image, PAIR, Pair, body, header};
 use try_building::record::Record;
 use try_building::refusal::Refusal;
@@ -22,36 +21,44 @@ pub fn astray(image: Image<'_>) -> Option<Place> {
     records.checked_sub(1).map(|k| Place::from(usize::from(k)))
 }
 
-// An image of this record alone.
-fn alone(record: &[u8], alloc: Global) -> Result<Vec<u8>, AllocError> {
+// Where the record of an image of one begins.
+const FIRST: usize = HEADER + PAIR;
+
+// An image of this record alone, at the start of this buffer, which has room for any image.
+fn alone<'a>(record: &[u8], buffer: &'a mut [u8]) -> Option<&'a [u8]> {
     let pair = Pair {
-        offset: (HEADER + PAIR) as u16,
-        length: u16::try_from(record.len()).unwrap_or(u16::MAX),
+        offset: FIRST as u16,
+        length: u16::try_from(record.len()).ok()?,
     };
-    let mut image = header(1, 0, 1).to_vec(alloc)?;
-    image.extend_from_slice(&pair.bytes())?;
-    image.extend_from_slice(record)?;
-    Ok(image)
+    let (front, rest) = buffer.split_at_mut_checked(FIRST)?;
+    let (head, tail) = front.split_at_mut_checked(HEADER)?;
+    let (body, _) = rest.split_at_mut_checked(record.len())?;
+    head.copy_from_slice(&header(1, 0, 1));
+    tail.copy_from_slice(&pair.bytes());
+    body.copy_from_slice(record);
+    buffer.get(..FIRST + record.len())
 }
 
-fn is_malformed(record: &[u8], alloc: Global) -> Result<bool, AllocError> {
-    let image = alone(record, alloc)?;
+fn is_malformed(record: &[u8], buffer: &mut [u8]) -> bool {
     let mut length = 0;
     let mut max_id = 0;
-    let number = axcut::axcut_read(image.as_slice(), &mut length, &mut max_id);
-    Ok(Refusal::check(number) == Err(Refusal::RecordForm))
+    alone(record, buffer).is_some_and(|image| {
+        let number = axcut::axcut_read(image, &mut length, &mut max_id);
+        Refusal::check(number) == Err(Refusal::RecordForm)
+    })
 }
 
-// Question 4: the first record that is refused with 4 alone in an image. (A `for` that returns: so does `?`, where memory is out.)
-pub fn malformed(image: Image<'_>, alloc: Global) -> Result<Option<Place>, AllocError> {
+// Question 4: the first record that is refused with 4 alone in an image. (A `for` that returns: each turn writes to the buffer.)
+pub fn malformed(image: Image<'_>) -> Option<Place> {
+    let mut buffer = [0u8; 65536];
     for k in 0..image.records() {
         if let Some(record) = image.record_bytes(k) {
-            if is_malformed(record, alloc)? {
-                return Ok(Some(Place::from(usize::from(k))));
+            if is_malformed(record, &mut buffer) {
+                return Some(Place::from(usize::from(k)));
             }
         }
     }
-    Ok(None)
+    None
 }
 
 fn is_linearized(record: Record<'_>) -> bool {

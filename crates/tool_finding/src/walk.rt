@@ -1,7 +1,7 @@
 // Questions 5 and 7 to 10: the records in their order, each with what is in scope there, up to the first that is the no.
-use crate::due::Due;
+use crate::due::{Due, Dues};
 use crate::place::Place;
-use std::alloc::{AllocError, Global};
+use crate::scope::Scope;
 use try_building::image::Image;
 use try_building::lists::{Bindings, Identifier};
 use try_building::record::Record;
@@ -12,12 +12,10 @@ const DEEPEST: usize = 128;
 
 const DEEP: usize = 64;
 
-// The greatest count, and the most bindings in scope, for question 7.
+// The greatest count for question 7.
 const COUNT: usize = 32;
 
-const BINDINGS: usize = 64;
-
-#[derive(Drop)]
+#[derive(Clone, Copy)]
 struct Walk {
     // (The question is kept, and looked at in three functions: a closure in its place would be three.)
     question: Refusal,
@@ -27,10 +25,8 @@ struct Walk {
     definitions: u16,
     before: u16,
     max_id: u16,
-    // The IDs in scope, in the order of binding.
-    scope: Vec<u16>,
-    // What is still to come, the next one last.
-    dues: Vec<Due>,
+    scope: Scope,
+    dues: Dues,
 }
 
 impl Walk {
@@ -43,8 +39,8 @@ impl Walk {
     fn variable(&self, variable: Identifier) -> Option<Place> {
         let id = variable.id;
         let is_no = match self.question {
-            Refusal::Binders => self.scope.contains(&id),
-            Refusal::Scope => !self.scope.contains(&id),
+            Refusal::Binders => self.scope.contains(id),
+            Refusal::Scope => !self.scope.contains(id),
             Refusal::MaxId => self.max_id < id,
             // No other question is about a variable.
             _ => false,
@@ -75,7 +71,7 @@ impl Walk {
             || COUNT < bound
             || COUNT < record.arguments().len()
             || COUNT < usize::from(record.clauses())
-            || BINDINGS < self.scope.len().saturating_add(binders)
+            || Scope::MAX < self.scope.len().saturating_add(binders)
     }
 
     // The first variable that is used and is the no.
@@ -102,20 +98,20 @@ impl Walk {
     }
 
     // Binds parameters, one after the other, up to the first that is the no.
-    fn bind(&mut self, parameters: Bindings<'_>) -> Result<Option<Place>, AllocError> {
+    fn bind(&mut self, parameters: Bindings<'_>) -> Option<Place> {
         for binding in parameters {
             if self.question != Refusal::Scope {
                 if let Some(place) = self.variable(binding.variable) {
-                    return Ok(Some(place));
+                    return Some(place);
                 }
             }
-            self.scope.push(binding.variable.id)?;
+            self.scope.push(binding.variable.id);
         }
-        Ok(None)
+        None
     }
 
     // What is due behind a record, which was due.
-    fn open(&mut self, due: Due, record: Record<'_>) -> Result<(), AllocError> {
+    fn open(&mut self, due: Due, record: Record<'_>) {
         let depth = due.depth();
         let scope = self.scope.len();
         let left = record.clauses();
@@ -125,60 +121,55 @@ impl Walk {
                 depth,
                 scope,
                 binds,
-            })?;
+            });
         }
         if 0 < left {
-            self.dues.push(Due::Clauses { depth, scope, left })?;
+            self.dues.push(Due::Clauses { depth, scope, left });
         }
-        Ok(())
     }
 
     // The next record, and its no.
-    fn step(&mut self, record: Record<'_>) -> Result<Option<Place>, AllocError> {
+    fn step(&mut self, record: Record<'_>) -> Option<Place> {
         let due = self.dues.pop().unwrap_or(Due::Definition);
         if let Some(rest) = due.rest() {
-            self.dues.push(rest)?;
+            self.dues.push(rest);
         }
         self.scope.truncate(due.scope());
         if let Some(id) = due.binds() {
-            self.scope.push(id)?;
+            self.scope.push(id);
         }
         if let Some(place) = self.ask(due, record) {
-            return Ok(Some(place));
+            return Some(place);
         }
-        if let Some(place) = self.bind(record.parameters())? {
-            return Ok(Some(place));
+        if let Some(place) = self.bind(record.parameters()) {
+            return Some(place);
         }
         if matches!(record, Record::Definition { .. }) {
             self.before = self.before.saturating_add(1);
         }
-        self.open(due, record)?;
-        Ok(None)
+        self.open(due, record);
+        None
     }
 }
 
-pub fn first(
-    image: Image<'_>,
-    question: Refusal,
-    alloc: Global,
-) -> Result<Option<Place>, AllocError> {
+pub fn first(image: Image<'_>, question: Refusal) -> Option<Place> {
     let mut walk = Walk {
         question,
         record: 0,
         definitions: image.definitions(),
         before: 0,
         max_id: image.max_id(),
-        scope: Vec::new(alloc),
-        dues: Vec::new(alloc),
+        scope: Scope::empty(),
+        dues: Dues::none(),
     };
     for k in 0..image.records() {
         walk.record = usize::from(k);
         if let Some(record) = image.record(k) {
-            let place = walk.step(record)?;
+            let place = walk.step(record);
             if place.is_some() {
-                return Ok(place);
+                return place;
             }
         }
     }
-    Ok(None)
+    None
 }

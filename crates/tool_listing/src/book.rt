@@ -1,75 +1,77 @@
 // A book of spellings, from a text whose lines have a name number of at most 20 digits, a space and a spelling. An empty line, or one that
 // begins with #, is a remark.
-use std::alloc::{AllocFailed, Global};
-use std::collections::HashMap;
 
 // The most digits of a name number.
 const DIGITS: usize = 20;
 
-#[derive(Drop)]
+// A view of the text, with the place of each name's spelling in it; 0 where a name has none, since a line begins with a number.
+#[derive(Clone, Copy, Debug)]
 pub struct Book<'a> {
-    spellings: HashMap<u16, &'a [u8]>,
+    text: &'a [u8],
+    places: &'a [u32],
 }
 
-// Why a text is no book.
-#[derive(Clone, Copy, PartialEq, Eq)]
-pub enum BookError {
-    // The first line that is wrong, from 1.
-    Line(usize),
-    NoMemory,
-}
-
-impl<T: Drop> From<AllocFailed<T>> for BookError {
-    fn from(_: AllocFailed<T>) -> BookError {
-        BookError::NoMemory
-    }
-}
+// The first line of a text that is wrong, from 1.
+#[derive(Clone, Copy, Debug, PartialEq, Eq)]
+pub struct FaultyLine(pub usize);
 
 fn is_remark(line: &[u8]) -> bool {
     matches!(line.first(), None | Some(b'\r' | b'#'))
 }
 
-// The name number of a line and its spelling, which ends before a carriage return.
-fn entry(line: &[u8]) -> Option<(u16, &[u8])> {
+// The name number of a line, and how many bytes stand before its spelling.
+fn entry(line: &[u8]) -> Option<(u16, usize)> {
     let space = line.iter().position(|b| *b == b' ')?;
     let (digits, rest) = line.split_at_checked(space)?;
-    let (_, spelling) = rest.split_first()?;
-    if DIGITS < digits.len() || spelling.is_empty() || !digits.iter().all(u8::is_ascii_digit) {
+    if DIGITS < digits.len() || rest.len() < 2 || !digits.iter().all(u8::is_ascii_digit) {
         return None;
     }
     let name = str::from_utf8(digits).ok()?.parse().ok()?;
-    let end = spelling
-        .iter()
-        .position(|b| *b == b'\r')
-        .unwrap_or(spelling.len());
-    let (spelling, _) = spelling.split_at_checked(end)?;
-    Some((name, spelling))
+    Some((name, digits.len() + 1))
 }
 
 impl<'a> Book<'a> {
     // A text has fewer bytes.
     pub const MOST: usize = 262144;
 
+    // How many name numbers there are: the places that a book with spellings is lent.
+    pub const NAMES: usize = 65536;
+
     // The book without spellings.
-    pub fn empty(alloc: Global) -> Book<'a> {
+    pub fn empty() -> Book<'a> {
         Book {
-            spellings: HashMap::new(alloc),
+            text: &[],
+            places: &[],
         }
     }
 
-    // The book of a text. (No TryFrom: it takes the allocator beside the text.)
-    pub fn of(alloc: Global, text: &'a [u8]) -> Result<Book<'a>, BookError> {
-        let mut book = Book::empty(alloc);
+    // The book of a text, whose places are put down here. Of two lines with one number the later one counts.
+    pub fn of(text: &'a [u8], places: &'a mut [u32]) -> Result<Book<'a>, FaultyLine> {
+        places.fill(0);
+        let mut at: usize = 0;
         for (i, line) in text.split(|b| *b == b'\n').enumerate() {
             if !is_remark(line) {
-                let (name, spelling) = entry(line).ok_or(BookError::Line(i + 1))?;
-                book.spellings.insert(name, spelling)?;
+                let (name, before) = entry(line).ok_or(FaultyLine(i + 1))?;
+                if let Some(place) = places.get_mut(usize::from(name)) {
+                    *place = u32::try_from(at.saturating_add(before)).unwrap_or(0);
+                }
             }
+            at = at.saturating_add(line.len()).saturating_add(1);
         }
-        Ok(book)
+        Ok(Book { text, places })
     }
 
-    pub fn spelling(&self, name: u16) -> Option<&'a [u8]> {
-        self.spellings.get(&name).copied()
+    // The spelling of a name, which goes to the end of its line.
+    pub fn spelling(self, name: u16) -> Option<&'a [u8]> {
+        let place = *self.places.get(usize::from(name))? as usize;
+        if place == 0 {
+            return None;
+        }
+        let rest = self.text.get(place..)?;
+        let end = rest
+            .iter()
+            .position(|b| matches!(b, b'\n' | b'\r'))
+            .unwrap_or(rest.len());
+        rest.get(..end)
     }
 }

@@ -1,6 +1,7 @@
 // Identifiers, types, bindings and lists of them.
 use crate::page::Page;
-use std::io::{self, Write};
+use std::io;
+use try_building::codes::Chirality;
 use try_building::lists::{Binding, Bindings, Identifier, Substitutions, Ty};
 
 // How a binding is written: the variable alone, or with its chirality and its type.
@@ -10,11 +11,20 @@ pub enum Typing {
     Typed,
 }
 
+// What stands between a variable and its type.
+fn chirality(chirality: Chirality) -> &'static str {
+    match chirality {
+        Chirality::Producer => ": prd ",
+        Chirality::Consumer => ": cns ",
+        Chirality::External => ": ext ",
+    }
+}
+
 impl Page<'_> {
     // A variable: its name and its ID.
     pub fn variable(&mut self, variable: Identifier) -> io::Result<()> {
         self.name(variable.name)?;
-        write!(self, "_{}", variable.id)
+        self.numbered(b'_', variable.id)
     }
 
     // A label, a tag or the name of a type: its name, and its ID where that is not 0.
@@ -38,7 +48,7 @@ impl Page<'_> {
         match typing {
             Typing::Bare => Ok(()),
             Typing::Typed => {
-                write!(self, ": {} ", binding.chirality)?;
+                self.say(chirality(binding.chirality))?;
                 self.ty(binding.ty)
             }
         }

@@ -1,7 +1,6 @@
 // A listing from record to record: each one's line, and the braces that are due behind it. What stands between is the caller's.
 use crate::line::View;
 use crate::page::Page;
-use std::alloc::Global;
 use std::io::{self, Write};
 use try_building::record::Record;
 
@@ -68,16 +67,34 @@ fn is_ended(record: Record<'_>) -> bool {
 }
 
 // The blocks that are open, the innermost last.
-#[derive(Drop)]
+#[derive(Clone, Copy)]
 pub struct Walk {
-    open: Vec<Block>,
+    open: [Block; Walk::MAX],
+    depth: usize,
 }
 
 impl Walk {
-    pub fn new(alloc: Global) -> Walk {
+    // An image of 128 statements deep has at most two blocks for each, and a definition.
+    const MAX: usize = 512;
+
+    pub fn new() -> Walk {
         Walk {
-            open: Vec::new(alloc),
+            open: [Block::Definition; Walk::MAX],
+            depth: 0,
         }
+    }
+
+    // A block that finds no room is left out.
+    fn push(&mut self, block: Block) {
+        if let Some(place) = self.open.get_mut(self.depth) {
+            *place = block;
+            self.depth = self.depth.saturating_add(1);
+        }
+    }
+
+    fn pop(&mut self) -> Option<Block> {
+        self.depth = self.depth.checked_sub(1)?;
+        self.open.get(self.depth).copied()
     }
 
     // A record's line, with its index: an empty line stands before a definition, and spaces before any other record.
@@ -90,7 +107,7 @@ impl Walk {
     ) -> io::Result<()> {
         match record {
             Record::Definition { .. } => page.say("\n")?,
-            _ => page.indent(self.open.len())?,
+            _ => page.indent(self.depth)?,
         }
         page.line(record, view.uses)?;
         if view.records {
@@ -103,7 +120,7 @@ impl Walk {
     pub fn end_line(&mut self, page: &mut Page<'_>, record: Record<'_>) -> io::Result<()> {
         page.say("\n")?;
         if let Some(block) = Block::of(record) {
-            self.open.push(block)?;
+            self.push(block);
         }
         if is_ended(record) {
             self.settle(page)?;
@@ -114,11 +131,12 @@ impl Walk {
     // Closes each block that the statement at hand ends. Turns are counted, since of a `while let` it would have to be proved that it
     // ends, though a block is put back.
     fn settle(&mut self, page: &mut Page<'_>) -> io::Result<()> {
-        for _ in 0..self.open.len() {
-            let Some(block) = self.open.pop() else { break };
-            page.indent(self.open.len())?;
-            writeln!(page, "{}", block.brace())?;
-            if !self.ends_outer(block)? {
+        for _ in 0..self.depth {
+            let Some(block) = self.pop() else { break };
+            page.indent(self.depth)?;
+            page.say(block.brace())?;
+            page.say("\n")?;
+            if !self.ends_outer(block) {
                 break;
             }
         }
@@ -127,23 +145,25 @@ impl Walk {
 
     // Has the statement around a block ended with it? Behind a then-branch the else-branch comes, behind a Create its next.
     // (A yes or no: what is pushed stays, whatever is answered.)
-    fn ends_outer(&mut self, block: Block) -> io::Result<bool> {
+    fn ends_outer(&mut self, block: Block) -> bool {
         match block {
             Block::Then => {
-                self.open.push(Block::Else)?;
-                Ok(false)
+                self.push(Block::Else);
+                false
             }
-            Block::Create(_) => Ok(false),
-            Block::Clause => Ok(self.clause_done()),
-            Block::Definition | Block::Switch(_) | Block::Else => Ok(true),
+            Block::Create(_) => false,
+            Block::Clause => self.clause_done(),
+            Block::Definition | Block::Switch(_) | Block::Else => true,
         }
     }
 
     // A clause has ended: its Switch or Create has one less to come, and with the last one it has ended.
     fn clause_done(&mut self) -> bool {
-        self.open.last_mut().is_none_or(|block| {
-            *block = block.clause_done();
-            block.is_done()
-        })
+        let Some(block) = self.pop() else {
+            return true;
+        };
+        let left = block.clause_done();
+        self.push(left);
+        left.is_done()
     }
 }
