@@ -39,7 +39,7 @@ pub fn count_marked(row: &[u8]) -> u32
     requires { length row.now < 2 ^ 32 }
     ensures { result ≡ length (marked_from 0 row.now) }
 {
-    // (By index, here and below: over an iterator the same loop took half as many instructions again, and a call of an annotation goes over its
+    // (By index, here and below: over an iterator the same loop took half as many instructions again, and each set of an annotation goes over its
     // 65,536 marks twice.)
     let mut marked: u32 = 0;
     for i in 0..row.len() {

@@ -1,4 +1,4 @@
--- The counts of question 7, of the record at a place. Assumes nothing.
+-- How many IDs a record uses that has passed the counts of question 7. Assumes nothing.
 use Prim.Native.Nat.{◌≤◌}
 use mathlib.Core.Path.{◌≡◌}
 use mathlib.Core.Bool.{true}

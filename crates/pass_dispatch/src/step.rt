@@ -64,7 +64,7 @@ pub fn proceed(
 }
 
 // The step of a statement that leaves the context as it is, and has no clauses: Call, Invoke, IfC or Exit. It looks at neither mask, so it is the
-// step for every two.
+// step for any two masks.
 pub fn settle(source: &SourceRecord<'_>, here: &Working, output: &mut Output<'_, '_>)
     requires { Settles (code_of source.now.node.kind) × (Workable here.now.context here.now.in_scope 0 × RoomAt (so_far output.old)) }
     ensures { (clauses next : ℕ) → LeavesFor output.old output.new (record_in source.now.node) clauses next here.now }
