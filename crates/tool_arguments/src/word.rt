@@ -9,7 +9,7 @@ pub struct Word {
 }
 
 impl Word {
-    const MOST: usize = 4096;
+    pub const MOST: usize = 4096;
 
     pub fn empty() -> Word {
         Word {

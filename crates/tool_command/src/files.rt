@@ -94,7 +94,7 @@ impl<'a> Opened<'a> {
     }
 
     // May an image go to it? To a terminal only as standard output that was asked for.
-    pub fn takes_images(&self) -> bool {
+    fn takes_images(&self) -> bool {
         matches!(self.known, Known::Asked) || !self.output.is_terminal()
     }
 

@@ -1,5 +1,6 @@
 // Questions 3, 4 and 6: the first record that is the no by itself.
 use crate::place::Place;
+use try_building::build::LARGEST;
 use try_building::image::{HEADER, Image, PAIR, Pair, body, header};
 use try_building::record::Record;
 use try_building::refusal::Refusal;
@@ -50,7 +51,7 @@ fn is_malformed(record: &[u8], buffer: &mut [u8]) -> bool {
 
 // Question 4: the first record that is refused with 4 alone in an image. (A `for` that returns: each turn writes to the buffer.)
 pub fn malformed(image: Image<'_>) -> Option<Place> {
-    let mut buffer = [0u8; 65536];
+    let mut buffer = [0u8; LARGEST];
     for k in 0..image.records() {
         if let Some(record) = image.record_bytes(k) {
             if is_malformed(record, &mut buffer) {

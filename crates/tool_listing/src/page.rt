@@ -53,6 +53,7 @@ impl<'a> Page<'a> {
                 return self.write_all(&text[4 - k..]);
             }
         }
+        // (No `u16` has more digits, so no turn ends here.)
         self.write_all(&text)
     }
 

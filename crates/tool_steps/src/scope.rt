@@ -49,7 +49,8 @@ fn among(parts: &[u8], size: usize, id: u16) -> Option<Identifier> {
     ))
 }
 
-// The binder of a record that has an ID. A Substitute binds the targets of its pairs.
+// The binder of a record that has an ID. A Substitute binds the targets of its pairs. (Places and sizes are those of docs/FORMAT.md: this and
+// `parts` say again what `Record` says, since reading each record whole was measured, and takes two to three times as long.)
 fn binder(record: &[u8], id: u16) -> Option<Identifier> {
     match kind(record)? {
         Kind::Definition | Kind::Clause => among(record.get(6..)?, 10, id),

@@ -1,4 +1,4 @@
-// An image from a line of a text. What is no notation is gone past, and what has no room is left out, so that every line makes an image.
+// An image from a line of a text. What is no notation is gone past, and what has no room is left out, so that no line fails.
 use crate::codes::Chirality;
 use crate::image::{HEADER, body, header};
 use crate::layout::{NAME, Part, TYPE, layout};
@@ -7,7 +7,7 @@ use crate::place::{FAR, low, plus};
 use crate::text::{Number, Text};
 use std::alloc::{AllocError, Global};
 
-// No image has more bytes.
+// No image has more bytes, and nothing that stands behind a call of `try_vectors`.
 pub const LARGEST: usize = 65536;
 
 // The most steps of a line.

@@ -1,4 +1,4 @@
-// Kinds of records, chiralities, operators and comparisons, the bytes that stand for them, and the text of the last three. The library's own
+// Kinds of records, chiralities, operators and comparisons, the bytes that stand for them, and the text of the last two. The library's own
 // types of these are below its interface, which has bytes and numbers alone, and a program stands on that interface.
 use std::fmt;
 
@@ -114,16 +114,6 @@ impl TryFrom<u8> for Comparison {
             5 => Ok(Comparison::GreaterOrEqual),
             _ => Err(UnknownCode(code)),
         }
-    }
-}
-
-impl fmt::Display for Chirality {
-    fn fmt<W: fmt::Write>(&self, f: &mut fmt::Formatter<W>) -> fmt::Result {
-        f.write_str(match self {
-            Chirality::Producer => "prd",
-            Chirality::Consumer => "cns",
-            Chirality::External => "ext",
-        })
     }
 }
 

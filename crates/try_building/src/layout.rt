@@ -32,14 +32,10 @@ pub enum Part {
     Space,
 }
 
-// What stands in the record of a letter; nothing where no record has it. (A mark, 0 or 1, is a byte: the builder writes what stands here and
-// `Saying` compares it, byte by byte.)
-pub fn layout(letter: u8) -> &'static [Part] {
-    use Part::{Bindings, Byte, Count, Pairs, Space, Variable};
+// A Let and an Invoke.
+fn cell_layout(letter: u8) -> &'static [Part] {
+    use Part::{Bindings, Byte, Variable};
     match letter {
-        b'd' => &[Part::Kind(Kind::Definition), LABEL, Bindings],
-        b'u' => &[Part::Kind(Kind::Substitute), Pairs],
-        b'c' => &[Part::Kind(Kind::Call), LABEL, Bindings],
         b't' => &[
             Part::Kind(Kind::Let),
             Variable,
@@ -48,6 +44,22 @@ pub fn layout(letter: u8) -> &'static [Part] {
             TAG,
             Bindings,
         ],
+        b'v' => &[
+            Part::Kind(Kind::Invoke),
+            Variable,
+            TAG,
+            Byte(1),
+            SORT,
+            Bindings,
+        ],
+        _ => &[],
+    }
+}
+
+// A Switch, and a Create without an environment and with one.
+fn clauses_layout(letter: u8) -> &'static [Part] {
+    use Part::{Bindings, Byte, Count, Space, Variable};
+    match letter {
         b's' => &[
             Part::Kind(Kind::Switch),
             Variable,
@@ -74,14 +86,14 @@ pub fn layout(letter: u8) -> &'static [Part] {
             Bindings,
             Count,
         ],
-        b'v' => &[
-            Part::Kind(Kind::Invoke),
-            Variable,
-            TAG,
-            Byte(1),
-            SORT,
-            Bindings,
-        ],
+        _ => &[],
+    }
+}
+
+// A Literal, an Op, and an IfC of two.
+fn integers_layout(letter: u8) -> &'static [Part] {
+    use Part::{Byte, Space, Variable};
+    match letter {
         b'l' => &[
             Part::Kind(Kind::Literal),
             Byte(7),
@@ -103,7 +115,6 @@ pub fn layout(letter: u8) -> &'static [Part] {
             Space,
             Variable,
         ],
-        b'i' => &[Part::Kind(Kind::IfC), EQUAL, Variable, Byte(0)],
         b'j' => &[
             Part::Kind(Kind::IfC),
             EQUAL,
@@ -112,6 +123,22 @@ pub fn layout(letter: u8) -> &'static [Part] {
             Space,
             Variable,
         ],
+        _ => &[],
+    }
+}
+
+// What stands in the record of a letter; nothing where no record has it. (A mark, 0 or 1, is a byte: the builder writes what stands here and
+// `Saying` compares it, byte by byte.)
+pub fn layout(letter: u8) -> &'static [Part] {
+    use Part::{Bindings, Byte, Pairs, Variable};
+    match letter {
+        b'd' => &[Part::Kind(Kind::Definition), LABEL, Bindings],
+        b'u' => &[Part::Kind(Kind::Substitute), Pairs],
+        b'c' => &[Part::Kind(Kind::Call), LABEL, Bindings],
+        b't' | b'v' => cell_layout(letter),
+        b's' | b'n' | b'e' => clauses_layout(letter),
+        b'l' | b'o' | b'j' => integers_layout(letter),
+        b'i' => &[Part::Kind(Kind::IfC), EQUAL, Variable, Byte(0)],
         b'k' => &[Part::Kind(Kind::Clause), TAG, Bindings],
         b'p' => &[Part::Kind(Kind::PrintI64), Byte(0), Variable],
         b'q' => &[Part::Kind(Kind::PrintI64), Byte(1), Variable],

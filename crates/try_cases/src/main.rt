@@ -36,7 +36,7 @@ enum Function {
     Check,
     Linearize,
     Annotate { record: usize },
-    // Linearization, of which the answer alone is told. It is what cases ask for that no line with = stands before.
+    // Linearization, of which the answer alone is told. It is what cases ask for that no line with = stands before, or one with another letter.
     Answer,
 }
 
@@ -221,7 +221,7 @@ fn case(
     Ok(built.end)
 }
 
-// All cases. A line that begins with - is a remark. Each is written when it is whole; where nothing can be written the next one is tried.
+// All cases. A line that begins with - is a remark. A case is written when it is whole, and where that fails the next one is tried.
 fn cases(out: &mut impl Write, alloc: Global, input: &[u8]) -> io::Result<()> {
     let mut function = Function::Answer;
     let mut text = Text::new(input, 0);
@@ -248,7 +248,7 @@ fn cases(out: &mut impl Write, alloc: Global, input: &[u8]) -> io::Result<()> {
     Ok(())
 }
 
-// What is read of the input. A read that fails ends it, as its end does.
+// What is read of the input. A read that fails ends it, as its end does; only want of memory is an error.
 fn input(rt: &HostRuntime) -> io::Result<Vec<u8>> {
     let mut bytes = Vec::new(rt.alloc());
     match rt.reader().take(READ).read_to_end(&mut bytes) {

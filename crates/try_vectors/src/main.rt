@@ -11,11 +11,12 @@ mod trouble;
 
 use call::{Call, Function};
 use input::{byte, word};
-use replay::{Arrays, GUARDED, Image, LARGEST, replay};
+use replay::{Arrays, GUARDED, Image, replay};
 use std::io::{self, BufReader, LineWriter, Read, Write};
 use steppers::replay_steps;
 use tally::Tally;
 use trouble::Trouble;
+use try_building::build::LARGEST;
 
 // What an image and its calls are read into, one after the other.
 #[derive(Drop)]

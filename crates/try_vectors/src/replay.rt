@@ -2,9 +2,6 @@
 use crate::call::{Call, Function};
 use try_building::answer::Answer;
 
-// No image, and nothing that stands behind a call, has more bytes.
-pub const LARGEST: usize = 65536;
-
 // Each lent buffer is the beginning of an array of so many bytes, 64 more than the oracle lends at most, and all of it is compared.
 pub const GUARDED: usize = 65600;
 
