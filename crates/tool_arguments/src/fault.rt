@@ -1,4 +1,8 @@
 // What is wrong with a command line.
+ghost use Rattle.std.specs.Prelude.{◌≡◌, None};
+ghost use Rattle.tool_arguments.specs.declared.fault.Fault.TheVariants.{NoMemory};
+
+use std::alloc::{AllocError, AllocFailed};
 use std::fmt;
 
 #[derive(Clone, Copy, Debug, PartialEq, Eq)]
@@ -18,6 +22,7 @@ pub enum Fault {
     NoStore,
     NotAStore,
     NotAValue,
+    NoMemory,
 }
 
 impl fmt::Display for Fault {
@@ -38,6 +43,7 @@ impl fmt::Display for Fault {
             Fault::NoStore => "step: which image, and which store?",
             Fault::NotAStore => "step: a store is a file",
             Fault::NotAValue => "step: not a value",
+            Fault::NoMemory => "no memory is left",
         })
     }
 }
@@ -59,7 +65,25 @@ impl<'a> Wrong<'a> {
 }
 
 impl<'a> From<Fault> for Wrong<'a> {
+    ghost from_gives = { λ fault wrong. wrong ≡ record { fault = fault; word = None } };
+
     fn from(fault: Fault) -> Wrong<'a> {
         Wrong { fault, word: None }
+    }
+}
+
+impl<'a> From<AllocError> for Wrong<'a> {
+    ghost from_gives = { λ _ wrong. wrong ≡ record { fault = NoMemory; word = None } };
+
+    fn from(_error: AllocError) -> Wrong<'a> {
+        Wrong::from(Fault::NoMemory)
+    }
+}
+
+impl<'a, T: Drop> From<AllocFailed<T>> for Wrong<'a> {
+    ghost from_gives = { λ _ wrong. wrong ≡ record { fault = NoMemory; word = None } };
+
+    fn from(_error: AllocFailed<T>) -> Wrong<'a> {
+        Wrong::from(Fault::NoMemory)
     }
 }

@@ -3,6 +3,7 @@
 
 pub mod command;
 pub mod fault;
+pub mod line;
 pub mod machine;
 pub mod parser;
 pub mod request;

@@ -1,13 +1,16 @@
-// The command line, word by word.
+// The command line from all its words at once. (The command itself reads a `Line`, word by word.)
 use crate::command::{Action, Command};
 use crate::fault::{Fault, Wrong};
+pub use crate::line::Line;
 use crate::machine::Machine;
 use crate::request::{Form, Input, Request, Step, Target, Task};
-use crate::values::{Value, Values, number};
+use crate::values::{Value, number};
 use crate::word::Word;
-use std::env::{Env, FillError};
+use std::alloc::Global;
 use tool_listing::line::View;
 use tool_listing::names::Typing;
+
+type Result<'a, T> = std::result::Result<T, Wrong<'a>>;
 
 // What the next word is.
 #[derive(Clone, Copy, Debug, PartialEq, Eq)]
@@ -20,40 +23,35 @@ enum Next {
     Value,
 }
 
-// What was asked for so far. Of the words only those are kept that a request speaks of.
-#[derive(Clone, Copy)]
-struct Parser {
+// What was asked for so far.
+#[derive(Drop)]
+struct Parser<'a> {
     command: Command,
     next: Next,
-    image: Option<Word>,
-    output: Option<Word>,
-    names: Option<Word>,
-    store: Option<Word>,
+    image: Option<&'a [u8]>,
+    output: Option<&'a [u8]>,
+    names: Option<&'a [u8]>,
+    store: Option<&'a [u8]>,
     // The record that annotate is asked for, the definition that a start is of, or how many steps a run makes. (One field: a command asks for
     // one of the three at most.)
     number: Option<usize>,
-    values: Values,
+    values: Vec<Value>,
     view: View,
     form: Form,
     machine: Machine,
 }
 
-// The file that a word names.
-fn file(word: &Option<Word>) -> Option<&[u8]> {
-    word.as_ref().map(|word| word.as_slice())
-}
-
-impl Parser {
-    fn new() -> Parser {
+impl<'a> Parser<'a> {
+    fn of(command: Command, alloc: Global) -> Parser<'a> {
         Parser {
-            command: Command::Help,
+            command,
             next: Next::Anything,
             image: None,
             output: None,
             names: None,
             store: None,
             number: None,
-            values: Values::none(),
+            values: Vec::new(alloc),
             view: View {
                 uses: Typing::Bare,
                 records: false,
@@ -70,50 +68,51 @@ impl Parser {
     }
 
     // The number that a word is; this fault where it is none.
-    fn count(&mut self, word: &Word, fault: Fault) -> Result<(), Fault> {
-        self.number = Some(number(word.as_slice()).ok_or(fault)?);
+    fn count(&mut self, word: &'a [u8], fault: Fault) -> Result<'a, ()> {
+        self.number = Some(number(word).ok_or(Wrong::with(fault, word))?);
         Ok(())
     }
 
     // Behind the first value there are only values.
-    fn value(&mut self, word: &Word) -> Result<(), Fault> {
-        self.values.push(Value::try_from(word.as_slice())?);
+    fn value(&mut self, word: &'a [u8]) -> Result<'a, ()> {
+        let value = Value::try_from(word).map_err(|fault| Wrong::with(fault, word))?;
+        self.values.push(value)?;
         self.next = Next::Value;
         Ok(())
     }
 
     // An argument of step behind the image.
-    fn step_plain(&mut self, word: &Word) -> Result<(), Fault> {
+    fn step_plain(&mut self, word: &'a [u8]) -> Result<'a, ()> {
         if self.store.is_none() {
-            if matches!(word.as_slice(), b"-") {
-                return Err(Fault::NotAStore);
+            if matches!(word, b"-") {
+                return Err(Wrong::with(Fault::NotAStore, word));
             }
-            self.store = Some(*word);
+            self.store = Some(word);
             return Ok(());
         }
         if self.command == Command::Step(Some(Action::Start)) {
             return self.value(word);
         }
-        Err(Fault::TooMany)
+        Err(Wrong::with(Fault::TooMany, word))
     }
 
     // An argument that is no option.
-    fn plain(&mut self, word: &Word) -> Result<(), Fault> {
+    fn plain(&mut self, word: &'a [u8]) -> Result<'a, ()> {
         if self.lacks_record() {
             return self.count(word, Fault::NotARecord);
         }
         if self.image.is_none() {
-            self.image = Some(*word);
+            self.image = Some(word);
             return Ok(());
         }
         if matches!(self.command, Command::Step(Some(_))) {
             return self.step_plain(word);
         }
-        Err(Fault::TooMany)
+        Err(Wrong::with(Fault::TooMany, word))
     }
 
-    fn option(&mut self, word: &Word) -> Result<(), Fault> {
-        match (self.command, word.as_slice()) {
+    fn option(&mut self, word: &'a [u8]) -> Result<'a, ()> {
+        match (self.command, word) {
             (_, b"--") => self.next = Next::NoOption,
             (_, b"--help") => self.command = Command::Help,
             (Command::Linearize | Command::Annotate | Command::Dump, b"-o") => {
@@ -125,36 +124,37 @@ impl Parser {
             (Command::Dump, b"--annotations") => self.view.annotations = true,
             (Command::Dump, b"--names") => self.next = Next::Names,
             (Command::Step(Some(action)), _) => return self.step_option(action, word),
-            _ => return Err(Fault::NotAnOption),
+            _ => return Err(Wrong::with(Fault::NotAnOption, word)),
         }
         Ok(())
     }
 
-    fn step_option(&mut self, action: Action, word: &Word) -> Result<(), Fault> {
-        match (action, word.as_slice()) {
+    fn step_option(&mut self, action: Action, word: &'a [u8]) -> Result<'a, ()> {
+        match (action, word) {
             (_, b"--linear") => self.machine = Machine::Linear,
             (Action::Start, b"--definition") => self.next = Next::Number,
             (Action::Run, b"--steps") => self.next = Next::Number,
             (Action::Run | Action::Show, b"--names") => self.next = Next::Names,
-            _ => return Err(Fault::NotAnOption),
+            _ => return Err(Wrong::with(Fault::NotAnOption, word)),
         }
         Ok(())
     }
 
     // An option, the word behind step, or another argument.
-    fn anything(&mut self, word: &Word) -> Result<(), Fault> {
-        if is_option(word.as_slice()) {
+    fn anything(&mut self, word: &'a [u8]) -> Result<'a, ()> {
+        if is_option(word) {
             return self.option(word);
         }
         if self.command == Command::Step(None) {
-            self.command = Command::Step(Some(Action::try_from(word.as_slice())?));
+            let action = Action::try_from(word).map_err(|fault| Wrong::with(fault, word))?;
+            self.command = Command::Step(Some(action));
             return Ok(());
         }
         self.plain(word)
     }
 
     // With the next word.
-    fn take(&mut self, word: &Word) -> Result<(), Fault> {
+    fn take(&mut self, word: &'a [u8]) -> Result<'a, ()> {
         let next = self.next;
         if matches!(next, Next::Output | Next::Names | Next::Number) {
             self.next = Next::Anything;
@@ -162,8 +162,8 @@ impl Parser {
         match next {
             Next::Anything => return self.anything(word),
             Next::NoOption => return self.plain(word),
-            Next::Output => self.output = Some(*word),
-            Next::Names => self.names = Some(*word),
+            Next::Output => self.output = Some(word),
+            Next::Names => self.names = Some(word),
             Next::Number => return self.count(word, Fault::NotANumber),
             Next::Value => return self.value(word),
         }
@@ -171,22 +171,22 @@ impl Parser {
     }
 
     // Is an argument of an option missing at the end?
-    fn check(&self) -> Result<(), Fault> {
+    fn check(&self) -> Result<'a, ()> {
         match self.next {
-            Next::Output | Next::Names => Err(Fault::NoFile),
-            Next::Number => Err(Fault::NoNumber),
+            Next::Output | Next::Names => Err(Wrong::from(Fault::NoFile)),
+            Next::Number => Err(Wrong::from(Fault::NoNumber)),
             Next::Anything | Next::NoOption | Next::Value => Ok(()),
         }
     }
 
-    fn step(&self, action: Action) -> Result<Task<'_>, Fault> {
+    fn step(self, action: Action) -> Result<'a, Task<'a>> {
         let machine = self.machine;
-        let store = file(&self.store).ok_or(Fault::NoStore)?;
-        let names = file(&self.names).map(Input::from);
+        let store = self.store.ok_or(Wrong::from(Fault::NoStore))?;
+        let names = self.names.map(Input::from);
         let step = match action {
             Action::Start => Step::Start {
                 definition: self.number.unwrap_or(0),
-                values: self.values.as_slice(),
+                values: self.values,
             },
             Action::Run => Step::Run {
                 steps: self.number.unwrap_or(1),
@@ -202,10 +202,10 @@ impl Parser {
     }
 
     // What all words together ask for.
-    fn request(&self) -> Result<Request<'_>, Fault> {
+    fn request(self) -> Result<'a, Request<'a>> {
         self.check()?;
-        let image = file(&self.image).map_or(Input::Standard, Input::from);
-        let target = Target::from(file(&self.output));
+        let image = self.image.map_or(Input::Standard, Input::from);
+        let target = Target::from(self.output);
         let task = match self.command {
             Command::Help => return Ok(Request::Help),
             Command::Version => return Ok(Request::Version),
@@ -213,65 +213,39 @@ impl Parser {
             Command::Check => Task::Check,
             Command::Linearize => Task::Linearize { target },
             Command::Annotate => Task::Annotate {
-                record: self.number.ok_or(Fault::NoRecord)?,
+                record: self.number.ok_or(Wrong::from(Fault::NoRecord))?,
                 form: self.form,
                 target,
             },
             Command::Dump => Task::Dump {
                 view: self.view,
-                names: file(&self.names).map(Input::from),
+                names: self.names.map(Input::from),
                 target,
             },
-            Command::Step(None) => return Err(Fault::NoAction),
+            Command::Step(None) => return Err(Wrong::from(Fault::NoAction)),
             Command::Step(Some(action)) => self.step(action)?,
         };
         Ok(Request::Of(image, task))
     }
 }
 
-// A command line while it is read: the word at hand, and what was asked for so far.
-#[derive(Clone, Copy)]
-pub struct Line {
-    word: Word,
-    parser: Parser,
+// The first word; one that is too long counts as empty.
+fn command<'a>(word: &'a Word) -> Result<'a, Command> {
+    let word = word.as_deref().unwrap_or(b"");
+    Command::try_from(word).map_err(|fault| Wrong::with(fault, word))
 }
 
-impl Line {
-    pub fn new() -> Line {
-        Line {
-            word: Word::empty(),
-            parser: Parser::new(),
+// What the words behind the program's own name ask for.
+pub fn parse<'a>(words: &'a [Word], alloc: Global) -> Result<'a, Request<'a>> {
+    let (first, rest) = words.split_first().ok_or(Wrong::from(Fault::NoCommand))?;
+    let mut parser = Parser::of(command(first)?, alloc);
+    for word in rest {
+        match word {
+            Some(word) => parser.take(word.as_slice())?,
+            None => return Err(Wrong::from(Fault::TooLong)),
         }
     }
-
-    // What is wrong with the word at hand.
-    fn wrong(&self, fault: Fault) -> Wrong<'_> {
-        Wrong::with(fault, self.word.as_slice())
-    }
-
-    // What the words behind the program's own name ask for; a first one that is too long counts as empty. (They are counted, since of a `loop`
-    // it would have to be proved that it ends.)
-    pub fn parse(&mut self, env: &impl Env) -> Result<Request<'_>, Wrong<'_>> {
-        if matches!(self.word.read(env, 1), Err(FillError::NotPresent)) {
-            return Err(Wrong::from(Fault::NoCommand));
-        }
-        match Command::try_from(self.word.as_slice()) {
-            Ok(command) => self.parser.command = command,
-            Err(fault) => return Err(self.wrong(fault)),
-        }
-        for i in 2..usize::MAX {
-            match self.word.read(env, i) {
-                Ok(()) => {
-                    if let Err(fault) = self.parser.take(&self.word) {
-                        return Err(self.wrong(fault));
-                    }
-                }
-                Err(FillError::TooLong) => return Err(Wrong::from(Fault::TooLong)),
-                Err(FillError::NotPresent) => break,
-            }
-        }
-        Ok(self.parser.request()?)
-    }
+    parser.request()
 }
 
 // A - alone is no option: it stands for standard input or output. With a digit behind it, it is a number.

@@ -47,7 +47,7 @@ pub enum Form {
 }
 
 // What is asked of an image.
-#[derive(Clone, Copy)]
+#[derive(Drop)]
 pub enum Task<'a> {
     Read,
     Check,
@@ -72,8 +72,57 @@ pub enum Task<'a> {
 }
 
 // What is done with a store.
-#[derive(Clone, Copy)]
+#[derive(Drop)]
 pub enum Step<'a> {
+    Start {
+        definition: usize,
+        values: Vec<Value>,
+    },
+    Run {
+        steps: usize,
+        names: Option<Input<'a>>,
+    },
+    Show {
+        names: Option<Input<'a>>,
+    },
+}
+
+#[derive(Drop)]
+pub enum Request<'a> {
+    Help,
+    Version,
+    // The image comes first.
+    Of(Input<'a>, Task<'a>),
+}
+
+// The same of values that are lent: what is asked of an image ..
+#[derive(Clone, Copy)]
+pub enum TaskRef<'a> {
+    Read,
+    Check,
+    Linearize {
+        target: Target<'a>,
+    },
+    Annotate {
+        record: usize,
+        form: Form,
+        target: Target<'a>,
+    },
+    Dump {
+        view: View,
+        names: Option<Input<'a>>,
+        target: Target<'a>,
+    },
+    Step {
+        machine: Machine,
+        store: &'a [u8],
+        step: StepRef<'a>,
+    },
+}
+
+// .. and of a store ..
+#[derive(Clone, Copy)]
+pub enum StepRef<'a> {
     Start {
         definition: usize,
         values: &'a [Value],
@@ -87,10 +136,11 @@ pub enum Step<'a> {
     },
 }
 
+// .. and by a command line.
 #[derive(Clone, Copy)]
-pub enum Request<'a> {
+pub enum RequestRef<'a> {
     Help,
     Version,
     // The image comes first.
-    Of(Input<'a>, Task<'a>),
+    Of(Input<'a>, TaskRef<'a>),
 }

@@ -18,8 +18,8 @@ use std::io::Write;
 use std::process::ExitCode;
 use step::Stepping;
 use texts::{USAGE, VERSION};
-use tool_arguments::parser::Line;
-use tool_arguments::request::{Form, Input, Request, Target, Task};
+use tool_arguments::line::Line;
+use tool_arguments::request::{Form, Input, RequestRef, Target, TaskRef};
 use tool_listing::book::Book;
 use tool_listing::line::View;
 use tool_listing::output::Output;
@@ -84,7 +84,7 @@ fn write_listing(
     view: View,
     max_id: u32,
     output: Output,
-    book: Book<'_>,
+    book: Book<'_, '_>,
 ) -> std::io::Result<()> {
     let mut page = Page::new(output, book);
     listing(&mut page, program, view, max_id)
@@ -111,23 +111,23 @@ fn dump<'a>(
 fn carry_out<'a>(
     rt: &HostRuntime,
     program: &Program<'a>,
-    task: Task<'a>,
+    task: TaskRef<'a>,
 ) -> Result<(), Failure<'a>> {
     match task {
-        Task::Read => accept(rt, program.read()?),
-        Task::Check => accept(rt, program.check()?),
-        Task::Linearize { target } => linearize(rt, program, target),
-        Task::Annotate {
+        TaskRef::Read => accept(rt, program.read()?),
+        TaskRef::Check => accept(rt, program.check()?),
+        TaskRef::Linearize { target } => linearize(rt, program, target),
+        TaskRef::Annotate {
             record,
             form,
             target,
         } => annotate(rt, program, record, form, target),
-        Task::Dump {
+        TaskRef::Dump {
             view,
             names,
             target,
         } => dump(rt, program, view, names, target),
-        Task::Step {
+        TaskRef::Step {
             machine,
             store,
             step,
@@ -137,15 +137,15 @@ fn carry_out<'a>(
 
 fn run<'a>(rt: &HostRuntime, line: &'a mut Line) -> Result<(), Failure<'a>> {
     match line.parse(rt)? {
-        Request::Help => {
+        RequestRef::Help => {
             let _ = print!(rt; "{USAGE}");
             Ok(())
         }
-        Request::Version => {
+        RequestRef::Version => {
             let _ = print!(rt; "{VERSION}");
             Ok(())
         }
-        Request::Of(file, task) => carry_out(rt, &Program::take(rt, file)?, task),
+        RequestRef::Of(file, task) => carry_out(rt, &Program::take(rt, file)?, task),
     }
 }
 

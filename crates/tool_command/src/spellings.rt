@@ -32,7 +32,7 @@ pub fn book<'a, 't>(
     names: Option<Input<'a>>,
     text: &'t [u8],
     places: &'t mut [u32],
-) -> Result<Book<'t>, Failure<'a>> {
+) -> Result<Book<'t, 't>, Failure<'a>> {
     match Book::of(text, places) {
         Ok(book) => Ok(book),
         Err(FaultyLine(line)) => Err(Failure::FaultyLine(names.unwrap_or(Input::Standard), line)),

@@ -4,7 +4,7 @@ use crate::program::Program;
 use crate::{files, spellings, stores};
 use std::io::Write;
 use tool_arguments::machine::Machine;
-use tool_arguments::request::{Input, Step};
+use tool_arguments::request::{Input, StepRef};
 use tool_arguments::values::Value;
 use tool_listing::book::Book;
 use tool_listing::output::Output;
@@ -44,16 +44,16 @@ impl<'a, 'p> Stepping<'a, 'p> {
         }
     }
 
-    pub fn carry_out(self, rt: &HostRuntime, step: Step<'a>) -> Result<(), Failure<'a>> {
+    pub fn carry_out(self, rt: &HostRuntime, step: StepRef<'a>) -> Result<(), Failure<'a>> {
         match step {
-            Step::Start { definition, values } => self.start(rt, definition, values),
-            Step::Run { steps, names } => {
+            StepRef::Start { definition, values } => self.start(rt, definition, values),
+            StepRef::Run { steps, names } => {
                 let text = spellings::read(rt, names)?;
                 let mut places = spellings::places(rt, names)?;
                 let book = spellings::book(names, text.as_slice(), places.as_mut_slice())?;
                 self.run(rt, book, steps as u64)
             }
-            Step::Show { names } => {
+            StepRef::Show { names } => {
                 let text = spellings::read(rt, names)?;
                 let mut places = spellings::places(rt, names)?;
                 let book = spellings::book(names, text.as_slice(), places.as_mut_slice())?;
@@ -115,14 +115,14 @@ impl<'a, 'p> Stepping<'a, 'p> {
         Ok(store)
     }
 
-    fn show(self, rt: &HostRuntime, book: Book<'_>) -> Result<(), Failure<'a>> {
+    fn show(self, rt: &HostRuntime, book: Book<'_, '_>) -> Result<(), Failure<'a>> {
         let store = self.take(rt)?;
         self.write_state(rt, book, store.as_slice())
             .map_err(|e| Failure::Call(Subject::Output, e))
     }
 
     // Makes so many steps. The store is written once its events are, and only if a step was made; what the next step is refused for comes last.
-    fn run(self, rt: &HostRuntime, book: Book<'_>, steps: u64) -> Result<(), Failure<'a>> {
+    fn run(self, rt: &HostRuntime, book: Book<'_, '_>, steps: u64) -> Result<(), Failure<'a>> {
         let mut store = self.take(rt)?;
         store.resize(BYTES, 0)?;
         let ran = self
@@ -140,7 +140,7 @@ impl<'a, 'p> Stepping<'a, 'p> {
     fn write_run(
         self,
         rt: &HostRuntime,
-        book: Book<'_>,
+        book: Book<'_, '_>,
         steps: u64,
         store: &mut [u8],
     ) -> std::io::Result<Ran> {
@@ -157,7 +157,12 @@ impl<'a, 'p> Stepping<'a, 'p> {
         println!(rt; "{made} {unit}, {standing}")
     }
 
-    fn write_state(self, rt: &HostRuntime, book: Book<'_>, store: &[u8]) -> std::io::Result<()> {
+    fn write_state(
+        self,
+        rt: &HostRuntime,
+        book: Book<'_, '_>,
+        store: &[u8],
+    ) -> std::io::Result<()> {
         let mut page = Page::new(Output::Standard(rt.stdout()), book);
         if let Some(store) = Store::of(store) {
             state::show(&mut page, self.program.bytes(), store)?;

@@ -4,7 +4,7 @@ use crate::files::{create, name, remove};
 use std::fs::{File, OpenOptions};
 use std::io::{ErrorKind, Seek, SeekFrom, Write};
 use std::{fs, io};
-use tool_arguments::word::Word;
+use tool_arguments::word::WordBuffer;
 
 // Can what is there be replaced? Only a file that may be written: no device, no directory.
 fn is_file(mut file: File) -> io::Result<()> {
@@ -66,7 +66,7 @@ fn new_name<'n>(path: &[u8], buffer: &'n mut [u8]) -> Option<&'n [u8]> {
 // Writes the bytes of a store to its file. Where that fails, what was there is as it was. Of a name for which the one of the new file would
 // have more bytes than a word of the command line nothing is said, and nothing is opened.
 pub fn save<'a>(rt: &HostRuntime, path: &'a [u8], bytes: &[u8]) -> Result<(), Failure<'a>> {
-    let mut buffer = [0u8; Word::MOST];
+    let mut buffer = [0u8; WordBuffer::MOST];
     let new = new_name(path, &mut buffer).ok_or(Failure::Silent)?;
     may_replace(rt, path).map_err(|e| Failure::Call(Subject::File(path), e))?;
     let file = create(rt, new).map_err(|e| Failure::Call(Subject::New(path), e))?;

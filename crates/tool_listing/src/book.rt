@@ -6,9 +6,9 @@ const DIGITS: usize = 20;
 
 // A view of the text, with the place of each name's spelling in it; 0 where a name has none, since a line begins with a number.
 #[derive(Clone, Copy, Debug)]
-pub struct Book<'a> {
-    text: &'a [u8],
-    places: &'a [u32],
+pub struct Book<'t, 'p> {
+    text: &'t [u8],
+    places: &'p [u32],
 }
 
 // The first line of a text that is wrong, from 1.
@@ -30,7 +30,7 @@ fn entry(line: &[u8]) -> Option<(u16, usize)> {
     Some((name, digits.len() + 1))
 }
 
-impl<'a> Book<'a> {
+impl<'t, 'p> Book<'t, 'p> {
     // A text has fewer bytes.
     pub const MOST: usize = 262144;
 
@@ -38,7 +38,7 @@ impl<'a> Book<'a> {
     pub const NAMES: usize = 65536;
 
     // The book without spellings.
-    pub fn empty() -> Book<'a> {
+    pub fn empty() -> Book<'t, 'p> {
         Book {
             text: &[],
             places: &[],
@@ -46,7 +46,7 @@ impl<'a> Book<'a> {
     }
 
     // The book of a text, whose places are put down here. Of two lines with one number the later one counts.
-    pub fn of(text: &'a [u8], places: &'a mut [u32]) -> Result<Book<'a>, FaultyLine> {
+    pub fn of(text: &'t [u8], places: &'p mut [u32]) -> Result<Book<'t, 'p>, FaultyLine> {
         places.fill(0);
         let mut at: usize = 0;
         for (i, line) in text.split(|b| *b == b'\n').enumerate() {
@@ -61,8 +61,8 @@ impl<'a> Book<'a> {
         Ok(Book { text, places })
     }
 
-    // The spelling of a name, which goes to the end of its line.
-    pub fn spelling(self, name: u16) -> Option<&'a [u8]> {
+    // The spelling of a name, which goes to the end of its line. It is a part of the text, and may be kept longer than the places.
+    pub fn spelling(self, name: u16) -> Option<&'t [u8]> {
         let place = *self.places.get(usize::from(name))? as usize;
         if place == 0 {
             return None;

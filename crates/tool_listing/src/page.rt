@@ -11,7 +11,7 @@ static SPACES: [u8; 1024] = [b' '; 1024];
 #[derive(Drop)]
 pub struct Page<'a> {
     output: Output,
-    book: Book<'a>,
+    book: Book<'a, 'a>,
     room: [u8; Page::ROOM],
     // How much of the room is taken.
     taken: usize,
@@ -21,7 +21,7 @@ impl<'a> Page<'a> {
     // How much text is gathered before it is written.
     const ROOM: usize = 65536;
 
-    pub fn new(output: Output, book: Book<'a>) -> Page<'a> {
+    pub fn new(output: Output, book: Book<'a, 'a>) -> Page<'a> {
         Page {
             output,
             book,

@@ -1,115 +1,204 @@
-// An image from a line of a text. What is no notation is gone past, and what has no room is left out, so that no line fails.
-use crate::codes::Chirality;
-use crate::image::{HEADER, body, header};
-use crate::layout::{NAME, Part, TYPE, layout};
+// An image from a line of text, or what is wrong with the line. (`assemble` builds one from every line.)
+ghost use Rattle.std.specs.Prelude.{◌≡◌};
+ghost use Rattle.std.specs.IoError.{error_kind};
+ghost use Rattle.try_building.specs.declared.build.BuildError.TheVariants.{NoMemory};
+ghost use Rattle.try_building.specs.Signs.{build_error_kind};
+
+pub use crate::assemble::{Built, LARGEST};
+use crate::image::{Pair, body, header};
+use crate::layout::{NAME, Part, layout};
 use crate::lists::{Binding, Identifier, Ty};
-use crate::place::{FAR, low, plus};
-use crate::text::{Number, Text};
-use std::alloc::{AllocError, Global};
+use crate::text::{Text, external};
+use std::alloc::{AllocError, AllocFailed, Global};
+use std::io::{self, ErrorKind};
 
-// No image has more bytes, and nothing that stands behind a call of `try_vectors`.
-pub const LARGEST: usize = 65536;
+// Why a line is no image.
+#[derive(Clone, Copy, Debug, PartialEq, Eq)]
+pub enum BuildError {
+    Notation,
+    TooLarge,
+    NoMemory,
+}
 
-// The most steps of a line.
-const STEPS: u16 = 20000;
+impl From<AllocError> for BuildError {
+    ghost from_gives = { λ _ error. error ≡ NoMemory };
 
-// The most items in a row.
-const ITEMS: u8 = 64;
+    fn from(_: AllocError) -> BuildError {
+        BuildError::NoMemory
+    }
+}
 
-// What a line makes.
-#[derive(Drop)]
-pub struct Built {
-    // None where it would have more bytes than any image.
-    pub image: Option<Vec<u8>>,
-    // The place where the line ends.
-    pub end: usize,
+impl<T: Drop> From<AllocFailed<T>> for BuildError {
+    ghost from_gives = { λ _ error. error ≡ NoMemory };
+
+    fn from(_: AllocFailed<T>) -> BuildError {
+        BuildError::NoMemory
+    }
+}
+
+impl From<BuildError> for io::Error {
+    ghost from_gives = { λ from error. error_kind error ≡ build_error_kind from };
+
+    fn from(error: BuildError) -> io::Error {
+        match error {
+            BuildError::Notation => {
+                io::Error::new(ErrorKind::InvalidData, "a line is not in the notation")
+            }
+            BuildError::TooLarge => io::Error::new(ErrorKind::InvalidData, "a number is too large"),
+            BuildError::NoMemory => io::Error::from(ErrorKind::OutOfMemory),
+        }
+    }
+}
+
+// What is changed once the image is whole.
+#[derive(Clone, Copy)]
+enum Edit {
+    Byte { at: u16, value: u8 },
+    Cut(u16),
+}
+
+impl Edit {
+    fn apply(self, image: &mut Vec<u8>) {
+        match self {
+            Edit::Byte { at, value } => {
+                if let Some(byte) = image.get_mut(usize::from(at)) {
+                    *byte = value;
+                }
+            }
+            Edit::Cut(n) => image.truncate(usize::from(n)),
+        }
+    }
+}
+
+// The place of a record among the bytes of all of them.
+#[derive(Clone, Copy)]
+struct Span {
+    from: usize,
+    length: usize,
 }
 
 #[derive(Drop)]
 struct Builder<'a> {
+    alloc: Global,
     text: Text<'a>,
-    // As many bytes as an image has at most.
-    image: Vec<u8>,
-    // The place in the image.
-    at: usize,
-    records: u16,
+    records: Vec<u8>,
+    spans: Vec<Span>,
     definitions: u16,
+    edits: Vec<Edit>,
     // The ID of every label, tag and type.
     other: u16,
 }
 
 impl<'a> Builder<'a> {
-    fn new(text: Text<'a>, image: Vec<u8>, at: usize) -> Builder<'a> {
+    fn new(alloc: Global, text: Text<'a>) -> Builder<'a> {
         Builder {
+            alloc,
             text,
-            image,
-            at,
-            records: 0,
+            records: Vec::new(alloc),
+            spans: Vec::new(alloc),
             definitions: 0,
+            edits: Vec::new(alloc),
             other: 0,
         }
     }
 
-    // All that the line has.
-    fn line(&mut self) {
-        for _ in 0..STEPS {
-            if self.text.is_ended() {
-                break;
+    // All that the line has. Each turn reads a byte or more; turns are counted, here and below, since of a `while let` it would have to be
+    // proved that it ends.
+    fn line(&mut self) -> Result<(), BuildError> {
+        for _ in 0..self.text.len() {
+            match self.text.next() {
+                Some(b'[') => self.group()?,
+                Some(sign) => self.item(sign)?,
+                None => break,
             }
-            self.step();
         }
+        Ok(())
     }
 
-    fn step(&mut self) {
-        let sign = self.text.byte();
-        self.text.skip(1);
+    // [..]5 is there five times.
+    fn group(&mut self) -> Result<(), BuildError> {
+        let inside = self.text.until(b']')?;
+        let n = self.text.number()?;
+        let behind = self.text;
+        for turn in 0..n {
+            self.text = Text::new(inside, turn);
+            self.items()?;
+        }
+        self.text = behind;
+        Ok(())
+    }
+
+    // All that stands in a group. (No call of `line`: a group has no groups in it, and of functions that call one another it would have to
+    // be proved that they end.)
+    fn items(&mut self) -> Result<(), BuildError> {
+        for _ in 0..self.text.len() {
+            match self.text.next() {
+                Some(sign) => self.item(sign)?,
+                None => break,
+            }
+        }
+        Ok(())
+    }
+
+    fn item(&mut self, sign: u8) -> Result<(), BuildError> {
         match sign {
-            b'a'..=b'x' | b'z' => self.record(sign),
-            b'y' => self.raw(),
-            // [..]5 is there five times.
-            b'[' => self.text.open(),
-            b']' => self.text.close(),
+            b' ' => Ok(()),
             // #9 gives labels, tags and types the ID 9.
-            b'#' => self.other = self.text.number().id(),
+            b'#' => {
+                self.other = self.text.number()?;
+                Ok(())
+            }
             b'!' => self.changed(),
-            // %7 ends the image after 7 bytes, where nothing stands behind it.
-            b'%' => self.at = self.text.number().value,
-            _ => {}
+            // %7 ends the image after 7 bytes.
+            b'%' => {
+                let n = self.text.number()?;
+                Ok(self.edits.push(Edit::Cut(n))?)
+            }
+            b'y' => self.raw(),
+            _ => self.record(sign),
         }
     }
 
     // !2 7 makes byte 2 of the image a 7.
-    fn changed(&mut self) {
-        let place = self.text.number().value;
-        let [value, _] = self.text.number().id().to_le_bytes();
-        self.set(place, value);
+    fn changed(&mut self) -> Result<(), BuildError> {
+        let at = self.text.number()?;
+        let value = self.text.byte()?;
+        Ok(self.edits.push(Edit::Byte { at, value })?)
     }
 
-    // The record of a letter, with its pair.
-    fn record(&mut self, letter: u8) {
-        let from = self.at;
+    // The record of a letter.
+    fn record(&mut self, letter: u8) -> Result<(), BuildError> {
+        let from = self.records.len();
         if letter == b'x' {
-            self.raw();
+            self.raw()?;
         } else {
-            for part in layout(letter) {
-                self.part(*part);
+            let parts = layout(letter);
+            // (Two layouts begin with no kind, and are of no record.)
+            if !matches!(parts.first(), Some(Part::Kind(_))) {
+                return Err(BuildError::Notation);
+            }
+            for part in parts {
+                self.part(*part)?;
             }
         }
-        self.set_pair(from);
-        self.records = self.records.saturating_add(1);
         if letter == b'd' {
             self.definitions = self.definitions.saturating_add(1);
         }
+        let length = self.records.len().saturating_sub(from);
+        Ok(self.spans.push(Span { from, length })?)
     }
 
-    fn part(&mut self, part: Part) {
+    fn part(&mut self, part: Part) -> Result<(), BuildError> {
         match part {
             Part::Kind(kind) => self.put(kind as u8),
             Part::Byte(byte) => self.put(byte),
-            Part::Variable => self.variable(),
+            Part::Variable => {
+                let variable = self.text.variable()?;
+                self.put_identifier(variable)
+            }
             Part::Count => {
-                let [n, _] = self.text.number().id().to_le_bytes();
-                self.put(n);
+                let n = self.text.byte()?;
+                self.put(n)
             }
             Part::Bindings => self.bindings(),
             Part::Pairs => self.pairs(),
@@ -117,218 +206,131 @@ impl<'a> Builder<'a> {
                 name,
                 id: self.other,
             }),
-            Part::Space => {}
+            Part::Space => Ok(()),
         }
-    }
-
-    fn variable(&mut self) {
-        let variable = self.text.number().identifier();
-        self.put_identifier(variable);
     }
 
     // Bytes as they stand, each as two hexadecimal digits.
-    fn raw(&mut self) {
-        for _ in 0..ITEMS {
+    fn raw(&mut self) -> Result<(), BuildError> {
+        for _ in 0..self.text.len() {
             match self.text.hex_byte() {
-                Some(byte) => self.put(byte),
+                Some(byte) => self.put(byte)?,
                 None => break,
             }
         }
-    }
-
-    // A list begins: the place of its count, for which there is room now.
-    fn open_list(&mut self) -> usize {
-        self.text.skip(1);
-        let count = self.at;
-        self.at = plus(count, 1);
-        count
-    }
-
-    // The list of n items ends, whose count is at a place.
-    fn close_list(&mut self, count: usize, n: usize) {
-        let [n, _] = low(n).to_le_bytes();
-        self.set(count, n);
-        self.text.skip(1);
+        Ok(())
     }
 
     // A count and the bindings of a list.
-    fn bindings(&mut self) {
-        let count = self.open_list();
-        let mut n = 0;
-        for _ in 0..ITEMS {
-            if !self.text.is_at_digit() {
-                break;
+    fn bindings(&mut self) -> Result<(), BuildError> {
+        let mut list = Vec::new(self.alloc);
+        for item in self.text.inside()?.split(|b| *b == b' ') {
+            if !item.is_empty() {
+                self.add_bindings(&mut list, self.text.beside(item))?;
             }
-            n = plus(n, self.item());
         }
-        self.close_list(count, n);
+        self.put_count(list.len())?;
+        for binding in list.iter() {
+            self.put_binding(*binding)?;
+        }
+        Ok(())
     }
 
-    // A binding, a run of them as 3-7, or one again and again as 3*5; and how many there are.
-    fn item(&mut self) -> usize {
-        let first = self.text.number();
-        if self.text.eat(b'-') {
-            let last = self.text.number();
-            let more = last.value.checked_sub(first.value);
-            let n = more.map_or(0, |more| plus(more, 1));
-            self.run(first.value, 1, last.name, n);
-            n
-        } else if self.text.eat(b'*') {
-            let n = self.text.number();
-            self.run(first.value, 0, n.name, n.value);
-            n.value
+    // A binding, a run of them as 3-7, or one again and again as 3*5.
+    fn add_bindings(&self, list: &mut Vec<Binding>, item: Text<'a>) -> Result<(), BuildError> {
+        let mut item = item;
+        let first = item.binding(self.other)?;
+        if item.eat(b'-') {
+            let ids = first.variable.id..=item.id()?;
+            list.extend(ids.map(|id| external(Identifier { name: NAME, id })))?;
+        } else if item.eat(b'*') {
+            let n = list.len() + usize::from(item.id()?);
+            list.resize(n, first)?;
         } else {
-            self.binding(first);
-            1
+            list.push(first)?;
         }
+        Ok(())
     }
 
-    // n bindings of I64, from an ID on in steps.
-    fn run(&mut self, first: usize, step: usize, name: u16, n: usize) {
-        let mut id = first;
-        for _ in 0..n {
-            // From here on nothing changes.
-            if self.at == FAR {
-                break;
+    // A count and the pairs of a list. (No one function for this and `bindings`: a run and a repetition are of bindings alone.)
+    fn pairs(&mut self) -> Result<(), BuildError> {
+        let mut list = Vec::new(self.alloc);
+        for item in self.text.inside()?.split(|b| *b == b' ') {
+            if !item.is_empty() {
+                list.push(self.text.beside(item).pair(self.other)?)?;
             }
-            let variable = Identifier { name, id: low(id) };
-            self.put_binding(external(variable));
-            id = plus(id, step);
         }
-    }
-
-    // A binding of a variable: of I64, or with a p or a c, and the type's name behind it, of a declared type.
-    fn binding(&mut self, variable: Number) {
-        let binding = if self.text.eat(b'p') {
-            self.declared(variable, Chirality::Producer)
-        } else if self.text.eat(b'c') {
-            self.declared(variable, Chirality::Consumer)
-        } else {
-            external(variable.identifier())
-        };
-        self.put_binding(binding);
-    }
-
-    fn declared(&mut self, variable: Number, chirality: Chirality) -> Binding {
-        let name = self.text.decimal().map_or(TYPE, low);
-        self.text.eat(b' ');
-        Binding {
-            variable: variable.identifier(),
-            chirality,
-            ty: Ty::Declared(Identifier {
-                name,
-                id: self.other,
-            }),
+        self.put_count(list.len())?;
+        for pair in list.iter() {
+            self.put_binding(pair.target)?;
+            self.put_identifier(pair.source)?;
         }
-    }
-
-    // A count and the pairs of a list, as 1<2. (No one function for this and `bindings`: a run and a repetition are of bindings alone.)
-    fn pairs(&mut self) {
-        let count = self.open_list();
-        let mut n = 0;
-        for _ in 0..ITEMS {
-            if !self.text.is_at_digit() {
-                break;
-            }
-            let target = self.text.number();
-            self.binding(target);
-            self.text.skip(1);
-            self.variable();
-            n = plus(n, 1);
-        }
-        self.close_list(count, n);
+        Ok(())
     }
 }
 
 impl Builder<'_> {
-    // A byte that has no room is left out, here and below.
-    fn set(&mut self, at: usize, byte: u8) {
-        if let Some(place) = self.image.get_mut(at) {
-            *place = byte;
-        }
+    fn put(&mut self, byte: u8) -> Result<(), BuildError> {
+        Ok(self.records.push(byte)?)
     }
 
-    fn set_half(&mut self, at: usize, v: u16) {
-        let [lower, upper] = v.to_le_bytes();
-        self.set(at, lower);
-        self.set(plus(at, 1), upper);
+    fn put_half(&mut self, v: u16) -> Result<(), BuildError> {
+        Ok(self.records.extend_from_slice(&v.to_le_bytes())?)
     }
 
-    // The pair of the record at hand, which begins at a place and ends here, if it doesn't end before.
-    fn set_pair(&mut self, from: usize) {
-        let pair = body(self.records);
-        self.set_half(pair, low(from));
-        if let Some(length) = self.at.checked_sub(from) {
-            self.set_half(plus(pair, 2), low(length));
-        }
+    fn put_identifier(&mut self, identifier: Identifier) -> Result<(), BuildError> {
+        self.put_half(identifier.name)?;
+        self.put_half(identifier.id)
     }
 
-    fn put(&mut self, byte: u8) {
-        self.set(self.at, byte);
-        self.at = plus(self.at, 1);
-    }
-
-    fn put_half(&mut self, v: u16) {
-        self.set_half(self.at, v);
-        self.at = plus(self.at, 2);
-    }
-
-    fn put_identifier(&mut self, identifier: Identifier) {
-        self.put_half(identifier.name);
-        self.put_half(identifier.id);
-    }
-
-    fn put_binding(&mut self, binding: Binding) {
-        self.put_identifier(binding.variable);
-        self.put(binding.chirality as u8);
+    fn put_binding(&mut self, binding: Binding) -> Result<(), BuildError> {
+        self.put_identifier(binding.variable)?;
+        self.put(binding.chirality as u8)?;
         match binding.ty {
             Ty::I64 => {
-                self.put(0);
-                self.put_identifier(Identifier { name: 0, id: 0 });
+                self.put(0)?;
+                self.put_identifier(Identifier { name: 0, id: 0 })
             }
             Ty::Declared(name) => {
-                self.put(1);
-                self.put_identifier(name);
+                self.put(1)?;
+                self.put_identifier(name)
             }
         }
     }
 
-    fn set_header(&mut self, max_id: u16) {
-        for (at, byte) in header(self.definitions, max_id, self.records)
-            .iter()
-            .enumerate()
-        {
-            self.set(at, *byte);
+    fn put_count(&mut self, n: usize) -> Result<(), BuildError> {
+        self.put(u8::try_from(n).map_err(|_| BuildError::TooLarge)?)
+    }
+
+    // The pair of a record, in an image of n.
+    fn pair(n: u16, span: Span) -> Result<Pair, BuildError> {
+        let offset = body(n).saturating_add(span.from);
+        Ok(Pair {
+            offset: u16::try_from(offset).map_err(|_| BuildError::TooLarge)?,
+            length: u16::try_from(span.length).map_err(|_| BuildError::TooLarge)?,
+        })
+    }
+
+    // The whole image.
+    fn finish(&self, max_id: u16) -> Result<Vec<u8>, BuildError> {
+        let n = u16::try_from(self.spans.len()).map_err(|_| BuildError::TooLarge)?;
+        let mut image = Vec::from_slice(self.alloc, &header(self.definitions, max_id, n))?;
+        for span in self.spans.iter() {
+            image.extend_from_slice(&Builder::pair(n, *span)?.bytes())?;
         }
+        image.extend_from_slice(&self.records)?;
+        for edit in self.edits.iter() {
+            edit.apply(&mut image);
+        }
+        Ok(image)
     }
 }
 
-// A binding of I64.
-fn external(variable: Identifier) -> Binding {
-    Binding {
-        variable,
-        chirality: Chirality::External,
-        ty: Ty::I64,
-    }
-}
-
-// The image of a line of a text, from the colon at hand on: max_id, and records. They are counted first, since the pairs come before them; what
-// was written for that stays where nothing comes over it.
-pub fn build(alloc: Global, text: Text<'_>) -> Result<Built, AllocError> {
-    let mut text = text;
-    text.skip(2);
-    let max_id = text.number().id();
-    let mut counting = Builder::new(text, vec![in alloc; 0; LARGEST]?, HEADER);
-    counting.line();
-    counting.set_header(max_id);
-    let at = body(counting.records);
-    let mut builder = Builder::new(text, counting.image, at);
-    builder.line();
-    let mut image = builder.image;
-    let length = builder.at;
-    image.truncate(length);
-    Ok(Built {
-        image: if length <= LARGEST { Some(image) } else { None },
-        end: builder.text.place(),
-    })
+// The image of a line: max_id, and records.
+pub fn build(alloc: Global, line: &[u8]) -> Result<Vec<u8>, BuildError> {
+    let mut text = Text::new(line, 0);
+    let max_id = text.number()?;
+    let mut builder = Builder::new(alloc, text);
+    builder.line()?;
+    builder.finish(max_id)
 }

@@ -1,5 +1,8 @@
-// Kinds of records, chiralities, operators and comparisons, the bytes that stand for them, and the text of the last two. The library's own
+// Kinds of records, chiralities, operators and comparisons, the bytes that stand for them, and the text of the last three. The library's own
 // types of these are below its interface, which has bytes and numbers alone, and a program stands on that interface.
+ghost use Rattle.std.specs.Prelude.{Some};
+ghost use Rattle.try_building.specs.Signs.{chirality_sign};
+
 use std::fmt;
 
 // What a record is; what a machine's event tells of has the same bytes.
@@ -114,6 +117,18 @@ impl TryFrom<u8> for Comparison {
             5 => Ok(Comparison::GreaterOrEqual),
             _ => Err(UnknownCode(code)),
         }
+    }
+}
+
+impl fmt::Display for Chirality {
+    ghost output = { λ chirality. Some (chirality_sign chirality) };
+
+    fn fmt<W: fmt::Write>(&self, f: &mut fmt::Formatter<W>) -> fmt::Result {
+        f.write_str(match self {
+            Chirality::Producer => "prd",
+            Chirality::Consumer => "cns",
+            Chirality::External => "ext",
+        })
     }
 }
 

@@ -1,4 +1,6 @@
 // What stands in a record, by its letter.
+ghost use Rattle.try_building.specs.Parts.{KindLeads};
+
 use crate::codes::{Comparison, Kind, Operator};
 
 // The name of a variable that is written with none, and of a declared type in a list.
@@ -33,7 +35,9 @@ pub enum Part {
 }
 
 // A Let and an Invoke.
-fn cell_layout(letter: u8) -> &'static [Part] {
+fn cell_layout(letter: u8) -> &'static [Part]
+    ensures { KindLeads result.now }
+{
     use Part::{Bindings, Byte, Variable};
     match letter {
         b't' => &[
@@ -57,7 +61,9 @@ fn cell_layout(letter: u8) -> &'static [Part] {
 }
 
 // A Switch, and a Create without an environment and with one.
-fn clauses_layout(letter: u8) -> &'static [Part] {
+fn clauses_layout(letter: u8) -> &'static [Part]
+    ensures { KindLeads result.now }
+{
     use Part::{Bindings, Byte, Count, Space, Variable};
     match letter {
         b's' => &[
@@ -91,7 +97,9 @@ fn clauses_layout(letter: u8) -> &'static [Part] {
 }
 
 // A Literal, an Op, and an IfC of two.
-fn integers_layout(letter: u8) -> &'static [Part] {
+fn integers_layout(letter: u8) -> &'static [Part]
+    ensures { KindLeads result.now }
+{
     use Part::{Byte, Space, Variable};
     match letter {
         b'l' => &[
@@ -129,7 +137,9 @@ fn integers_layout(letter: u8) -> &'static [Part] {
 
 // What stands in the record of a letter; nothing where no record has it. (A mark, 0 or 1, is a byte: the builder writes what stands here and
 // `Saying` compares it, byte by byte.)
-pub fn layout(letter: u8) -> &'static [Part] {
+pub fn layout(letter: u8) -> &'static [Part]
+    ensures { KindLeads result.now }
+{
     use Part::{Bindings, Byte, Pairs, Variable};
     match letter {
         b'd' => &[Part::Kind(Kind::Definition), LABEL, Bindings],

@@ -19,12 +19,14 @@
 #![tactic(auto)]
 
 pub mod answer;
+pub mod assemble;
 pub mod build;
 pub mod codes;
 pub mod image;
 pub mod layout;
 pub mod lists;
 pub mod notation;
+pub mod padded_text;
 pub mod place;
 pub mod reader;
 pub mod record;

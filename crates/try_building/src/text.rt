@@ -1,174 +1,185 @@
-// A text that is read at a place. Past its end it has zero bytes, so that reading never fails.
-use crate::layout::NAME;
-use crate::lists::Identifier;
-use crate::place::{low, plus};
+// A line of text, read from the front; what is not in the notation is an error. (A `PaddedText` is read without one.)
+ghost use Rattle.std.specs.Prelude.{◌≡◌};
+ghost use Rattle.try_building.specs.declared.codes.Chirality.TheVariants.{External};
+ghost use Rattle.try_building.specs.declared.lists.Ty.TheVariants.{I64};
 
-// The most digits of a number.
-const DIGITS: usize = 20;
-
-// A number takes another digit where it is below this.
-const LAST: usize = 1844674407370955161;
-
-// A number, and the name that stands behind it.
-#[derive(Clone, Copy)]
-pub struct Number {
-    pub value: usize,
-    pub name: u16,
-}
-
-impl Number {
-    pub fn id(self) -> u16 {
-        low(self.value)
-    }
-
-    pub fn identifier(self) -> Identifier {
-        Identifier {
-            name: self.name,
-            id: self.id(),
-        }
-    }
-}
-
-// The value of a hexadecimal digit. Capitals are none.
-fn hex(b: u8) -> Option<u8> {
-    match b {
-        b'0'..=b'9' => Some(b - b'0'),
-        b'a'..=b'f' => Some(b - b'a' + 10),
-        _ => None,
-    }
-}
+use crate::build::BuildError;
+use crate::codes::Chirality;
+use crate::layout::{NAME, TYPE};
+use crate::lists::{Binding, Identifier, Substitution, Ty};
 
 #[derive(Clone, Copy)]
 pub struct Text<'a> {
-    bytes: &'a [u8],
-    place: usize,
-    // Where the group begins, and which turn of it this is.
-    group: usize,
-    turn: usize,
+    rest: &'a [u8],
+    // Which turn of a group this is.
+    turn: u16,
 }
 
 impl<'a> Text<'a> {
-    pub fn new(bytes: &'a [u8], place: usize) -> Text<'a> {
-        Text {
-            bytes,
-            place,
-            group: 0,
-            turn: 0,
-        }
+    pub fn new(text: &'a [u8], turn: u16) -> Text<'a> {
+        Text { rest: text, turn }
     }
 
-    pub fn place(&self) -> usize {
-        self.place
+    // Another text in the same turn.
+    pub fn beside(self, text: &'a [u8]) -> Text<'a> {
+        Text::new(text, self.turn)
     }
 
-    // What is not read yet.
-    pub fn rest(&self) -> &'a [u8] {
-        self.bytes.get(self.place..).unwrap_or(&[])
+    // How many bytes are not read yet.
+    pub fn len(self) -> usize {
+        self.rest.len()
     }
 
-    // What stands before the next such byte, or before the end.
-    pub fn before(&self, b: u8) -> &'a [u8] {
-        let rest = self.rest();
-        let end = rest.iter().position(|other| *other == b);
-        rest.get(..end.unwrap_or(rest.len())).unwrap_or(rest)
+    pub fn next(&mut self) -> Option<u8> {
+        self.rest.split_off_first().copied()
     }
 
-    fn byte_at(&self, place: usize) -> u8 {
-        self.bytes.get(place).copied().unwrap_or(0)
-    }
-
-    // The byte at hand.
-    pub fn byte(&self) -> u8 {
-        self.byte_at(self.place)
-    }
-
-    // Whether a line ends here, or the text.
-    pub fn is_ended(&self) -> bool {
-        matches!(self.byte(), 0 | b'\n')
-    }
-
-    // Whether a hexadecimal digit is at hand.
-    pub fn is_at_digit(&self) -> bool {
-        hex(self.byte()).is_some()
-    }
-
-    pub fn skip(&mut self, n: usize) {
-        self.place = plus(self.place, n);
-    }
-
-    // Goes past the line.
-    pub fn skip_line(&mut self) {
-        self.skip(plus(self.before(b'\n').len(), 1));
-    }
-
-    // Reads this byte, where it is the one at hand. (A yes or no: the byte is gone past where it is there.)
+    // Reads this byte, where it is the next one. (A yes or no: the byte is gone past where it is there.)
     pub fn eat(&mut self, b: u8) -> bool {
-        let is_there = self.byte() == b;
-        if is_there {
-            self.skip(1);
+        match self.rest.strip_prefix(&[b]) {
+            Some(rest) => {
+                self.rest = rest;
+                true
+            }
+            None => false,
         }
-        is_there
+    }
+
+    // Reads up to the first such byte, and past it.
+    pub fn until(&mut self, b: u8) -> Result<&'a [u8], BuildError> {
+        let end = self.rest.iter().position(|other| *other == b);
+        let (front, rest) = self
+            .rest
+            .split_at_checked(end.ok_or(BuildError::Notation)?)
+            .ok_or(BuildError::Notation)?;
+        self.rest = rest;
+        self.next();
+        Ok(front)
+    }
+
+    // What stands in parentheses.
+    pub fn inside(&mut self) -> Result<&'a [u8], BuildError> {
+        if self.eat(b'(') {
+            self.until(b')')
+        } else {
+            Err(BuildError::Notation)
+        }
     }
 
     // The byte of the two hexadecimal digits at hand, where there are such.
     pub fn hex_byte(&mut self) -> Option<u8> {
-        let upper = hex(self.byte())?;
-        let lower = hex(self.byte_at(plus(self.place, 1)))?;
-        self.skip(2);
-        Some(upper << 4 | lower)
-    }
-
-    // The decimal number at hand, where there is one. Digits that are too many are left.
-    pub fn decimal(&mut self) -> Option<usize> {
-        let from = self.place;
-        let mut value = 0;
-        for _ in 0..DIGITS {
-            let b = self.byte();
-            match b {
-                b'0'..=b'9' if value < LAST => value = value * 10 + usize::from(b - b'0'),
-                _ => break,
-            }
-            self.skip(1);
+        let (digits, rest) = self.rest.split_at_checked(2)?;
+        if !digits.iter().all(|b| b.is_ascii_hexdigit()) {
+            return None;
         }
-        if from < self.place { Some(value) } else { None }
+        self.rest = rest;
+        u8::from_str_radix(str::from_utf8(digits).ok()?, 16).ok()
     }
 
-    // The number at hand, 0 where there is none, with a space behind it. With a + it is the sum with the turn; '3 behind it is its name.
-    pub fn number(&mut self) -> Number {
-        let value = self.decimal().unwrap_or(0);
-        let number = if self.eat(b'+') {
-            Number {
-                value: plus(value, self.turn),
-                name: NAME,
-            }
-        } else if self.eat(b'\'') {
-            Number {
-                value,
-                name: low(self.decimal().unwrap_or(0)),
-            }
-        } else {
-            Number { value, name: NAME }
-        };
+    // Reads up to the first byte that is no digit.
+    fn digits(&mut self) -> Option<&'a str> {
+        let end = self.rest.iter().position(|b| !b.is_ascii_digit());
+        let (digits, rest) = self.rest.split_at_checked(end.unwrap_or(self.len()))?;
+        self.rest = rest;
+        str::from_utf8(digits).ok()
+    }
+
+    // A decimal number, where there is one that fits.
+    fn decimal(&mut self) -> Result<u16, BuildError> {
+        let digits = self.digits().ok_or(BuildError::Notation)?;
+        digits.parse().map_err(|_| BuildError::Notation)
+    }
+
+    // A number; with a + behind it, it is the sum with the turn.
+    pub fn id(&mut self) -> Result<u16, BuildError> {
+        let n = self.decimal()?;
+        if self.eat(b'+') {
+            return n.checked_add(self.turn).ok_or(BuildError::TooLarge);
+        }
+        Ok(n)
+    }
+
+    // The same, with a space behind it.
+    pub fn number(&mut self) -> Result<u16, BuildError> {
+        let n = self.id()?;
         self.eat(b' ');
-        number
+        Ok(n)
     }
 
-    // A group begins here.
-    pub fn open(&mut self) {
-        self.group = self.place;
-        self.turn = 0;
+    // The same, of one byte.
+    pub fn byte(&mut self) -> Result<u8, BuildError> {
+        u8::try_from(self.number()?).map_err(|_| BuildError::TooLarge)
     }
 
-    // The group ends before the number at hand, which says how often it is there. The first turn comes before it, so that it is there once
-    // at least.
-    pub fn close(&mut self) {
-        let turns = self.number().value;
-        let turn = plus(self.turn, 1);
-        if turn < turns {
-            self.place = self.group;
-            self.turn = turn;
+    // An ID; '3 behind it is its name.
+    fn identifier(&mut self) -> Result<Identifier, BuildError> {
+        let id = self.id()?;
+        let name = if self.eat(b'\'') {
+            self.decimal()?
         } else {
-            self.turn = 0;
+            NAME
+        };
+        Ok(Identifier { name, id })
+    }
+
+    // A variable, with a space behind it.
+    pub fn variable(&mut self) -> Result<Identifier, BuildError> {
+        let variable = self.identifier()?;
+        self.eat(b' ');
+        Ok(variable)
+    }
+
+    // A binding: of I64, or with a p or a c and the type's name behind it, of a declared type with this ID.
+    pub fn binding(&mut self, other: u16) -> Result<Binding, BuildError> {
+        let variable = self.identifier()?;
+        if self.eat(b'p') {
+            self.declared(variable, Chirality::Producer, other)
+        } else if self.eat(b'c') {
+            self.declared(variable, Chirality::Consumer, other)
+        } else {
+            Ok(external(variable))
         }
+    }
+
+    fn declared(
+        &mut self,
+        variable: Identifier,
+        chirality: Chirality,
+        id: u16,
+    ) -> Result<Binding, BuildError> {
+        let digits = self.digits().ok_or(BuildError::Notation)?;
+        let name = if digits.is_empty() {
+            TYPE
+        } else {
+            digits.parse().map_err(|_| BuildError::Notation)?
+        };
+        Ok(Binding {
+            variable,
+            chirality,
+            ty: Ty::Declared(Identifier { name, id }),
+        })
+    }
+
+    // A pair as 1<2.
+    pub fn pair(&mut self, other: u16) -> Result<Substitution, BuildError> {
+        let target = self.binding(other)?;
+        if !self.eat(b'<') {
+            return Err(BuildError::Notation);
+        }
+        Ok(Substitution {
+            target,
+            source: self.identifier()?,
+        })
+    }
+}
+
+// A binding of I64.
+pub fn external(variable: Identifier) -> Binding
+    ensures { result ≡ record { variable = variable; chirality = External; ty = I64 } }
+{
+    Binding {
+        variable,
+        chirality: Chirality::External,
+        ty: Ty::I64,
     }
 }

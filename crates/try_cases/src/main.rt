@@ -8,11 +8,11 @@
 use std::alloc::Global;
 use std::io::{self, ErrorKind, Read, Write};
 use try_building::answer::Answer;
-use try_building::build::build;
+use try_building::assemble::assemble;
 use try_building::notation::notation;
+use try_building::padded_text::PaddedText;
 use try_building::place::plus;
 use try_building::refusal::{NoRefusal, Refusal};
-use try_building::text::Text;
 
 // How many bytes of the input are read, and how many lines of them.
 const READ: u64 = 65536;
@@ -61,7 +61,7 @@ struct Call {
 
 impl Call {
     // The call that the name of a case asks for, among the cases of a function.
-    fn of(text: Text<'_>, name: &[u8], function: Function) -> Call {
+    fn of(text: PaddedText<'_>, name: &[u8], function: Function) -> Call {
         match name.iter().position(|b| *b == b'@') {
             None => Call {
                 function,
@@ -76,7 +76,7 @@ impl Call {
     }
 
     // The call of what stands behind the @, where a number that isn't there is 0.
-    fn with(asked: Text<'_>, function: Function) -> Call {
+    fn with(asked: PaddedText<'_>, function: Function) -> Call {
         let mut asked = asked;
         let first = asked.decimal().unwrap_or(0);
         if function == Function::Linearize {
@@ -207,12 +207,12 @@ fn case(
     out: &mut impl Write,
     alloc: Global,
     function: Function,
-    text: Text<'_>,
+    text: PaddedText<'_>,
 ) -> io::Result<usize> {
     let name = text.before(b':');
     let mut line = text;
     line.skip(name.len());
-    let built = build(alloc, line)?;
+    let built = assemble(alloc, line)?;
     out.write_all(name)?;
     if let Some(image) = &built.image {
         ask(out, alloc, Call::of(text, name, function), image)?;
@@ -224,7 +224,7 @@ fn case(
 // All cases. A line that begins with - is a remark. A case is written when it is whole, and where that fails the next one is tried.
 fn cases(out: &mut impl Write, alloc: Global, input: &[u8]) -> io::Result<()> {
     let mut function = Function::Answer;
-    let mut text = Text::new(input, 0);
+    let mut text = PaddedText::new(input, 0);
     let mut said = Vec::new(alloc);
     for _ in 0..LINES {
         if text.rest().is_empty() {
@@ -240,7 +240,7 @@ fn cases(out: &mut impl Write, alloc: Global, input: &[u8]) -> io::Result<()> {
             _ => {
                 said.clear();
                 let end = case(&mut said, alloc, function, text)?;
-                text = Text::new(input, plus(end, 1));
+                text = PaddedText::new(input, plus(end, 1));
                 let _ = out.write_all(&said);
             }
         }

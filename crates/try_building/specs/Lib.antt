@@ -1,0 +1,3 @@
+-- What texts, errors and layouts of this crate say.
+pub mod Signs
+pub mod Parts
